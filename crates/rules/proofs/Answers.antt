@@ -1,0 +1,75 @@
+-- What a verdict says of each check, and what soundness says of each part.
+-- A permitted record passed every check: cited by number, so an added check moves nothing.
+use Prim.Native.Nat.{ℕ, zero, suc, _*_, _≤_, min}
+use native.Mathlib.Nat.{min-eq-left}
+use native.Mathlib.Omega.{arith}
+use mathlib.Core.Path.{_≡_, refl, sym, ap, _∙_}
+use mathlib.Core.Bool.{Bool, true, false, not, _&&_, _||_, cond}
+use mathlib.Core.List.{List, [], _∷_}
+use lib.Dec.{eqb, ltb}
+use lib.ListN.{length, drop}
+use borrow.Author.Tests.{ltb-false, leb-true, not-false}
+use Rattle.rows.specs.Rows.{rowsOf, every, allZero, distinctNumbers}
+use Rattle.rules.specs.declared.Tables.{Tables}
+use Rattle.rules.specs.declared.Table.{Table}
+use Rattle.rules.specs.declared.Table.the-variants.{Creds, Aces}
+use Rattle.rules.specs.declared.Check.{Check}
+use Rattle.rules.specs.declared.Check.the-variants.{Pass, Refuse}
+use Rattle.rules.specs.Tables.{stride, capacity, storable, count, bytes, rows, rowsIn, rowsSound, headSound, sound}
+use Rattle.rules.specs.Checks.{verdict, badLength}
+use Rattle.rules.proofs.Bools.{and-left, and-right, or-left, or-right}
+
+apart : {n : ℕ} → Refuse n ≡ Pass → ⊥
+apart q = let z : _≡_ {A = ℕ} 0 1 = cc in omega arith
+
+-- the check with this number applies
+abbrev pub appliesIn : ℕ → List (ℕ × Bool) → Bool
+appliesIn n [] = false
+appliesIn n (e ∷ es) = cond (eqb (e .0) n) (e .1) (appliesIn n es)
+
+-- where the record passes, the check with a given number does not apply
+pub passed : (es : List (ℕ × Bool)) → verdict es ≡ Pass → (n : ℕ) → appliesIn n es ≡ false
+unfolding verdict
+passed [] p n = refl
+passed ((m, true) ∷ es) p n = absurd (apart p)
+passed ((m, false) ∷ es) p n = go (eqb m n) (passed es p n)
+  where
+    go : (b : Bool) → appliesIn n es ≡ false → cond b false (appliesIn n es) ≡ false
+    go true h = refl
+    go false h = h
+
+pub long-enough : (r : List ℕ) → badLength r ≡ false → 4 ≤ length r
+unfolding badLength
+long-enough r e = ltb-false (length r) 4 (or-left (ltb (length r) 4) (ltb 256 (length r)) e)
+
+-- the parts of soundness
+pub record RowsSound (k : Table) (n : ℕ) (b : List ℕ) : Type 0 where
+  pub few : n ≤ capacity k
+  pub unused : allZero (drop (n * stride k) b) ≡ true
+  pub stores : every (storable k) (rowsIn k n b) ≡ true
+  pub apart : distinctNumbers (rowsIn k n b) ≡ true
+
+pub rows-parts : (k : Table) (n : ℕ) (b : List ℕ) → rowsSound k n b ≡ true → RowsSound k n b
+unfolding rowsSound
+rows-parts k n b h = search (and-left, and-right, leb-true)
+
+pub record Sound (t : Tables) : Type 0 where
+  pub head : headSound t ≡ true
+  pub creds : rowsSound Creds (t .ncreds) (t .creds) ≡ true
+  pub aces : rowsSound Aces (t .naces) (t .aces) ≡ true
+
+pub sound-parts : (t : Tables) → sound t ≡ true → Sound t
+unfolding sound
+sound-parts t h = search (and-left, and-right)
+
+pub table-parts : (k : Table) (t : Tables) → sound t ≡ true → RowsSound k (count k t) (bytes k t)
+table-parts Creds t h = rows-parts Creds (t .ncreds) (t .creds) (sound-parts t h .creds)
+table-parts Aces t h = rows-parts Aces (t .naces) (t .aces) (sound-parts t h .aces)
+
+-- rows that there is room for are all the rows counted
+pub rows-counted : (k : Table) (n : ℕ) (b : List ℕ) → n ≤ capacity k → rowsIn k n b ≡ rowsOf (stride k) n b
+unfolding rowsIn
+rows-counted k n b h = ap (λ (m : ℕ). rowsOf (stride k) m b) (min-eq-left h)
+
+pub rows-are : (k : Table) (t : Tables) → sound t ≡ true → rows k t ≡ rowsOf (stride k) (count k t) (bytes k t)
+rows-are k t h = rows-counted k (count k t) (bytes k t) (table-parts k t h .few)

@@ -1,0 +1,227 @@
+-- Theorems over the paper's own examples: the fourteen rows of 'Why a record is turned away', the worked run, the readings to guard against.
+-- And one run for which the premise of 'The others alone' holds, so that demand 3 is not empty.
+use Prim.Native.Nat.{ℕ, zero, suc, _+_, _*_, _/_, _%_}
+use mathlib.Core.Path.{_≡_, refl}
+use mathlib.Core.Bool.{Bool, true, false, not, _&&_}
+use mathlib.Core.List.{List, [], _∷_, _++_, map}
+use lib.ListN.{replicate}
+use lib.Dec.{eqb}
+use borrow.Author.Tests.{eqb-true, not-true}
+use lib.Count.{ones, onesIn}
+use Rattle.rows.specs.Rows.{Row, rowsOf, joined, packed, allZero, same, hasKey, numberedAs, placeFrom, firstRow, some, every, without, distinctNumbers, stored, unionOf, withRow}
+use Rattle.rules.specs.declared.Tables.{Tables}
+use Rattle.rules.specs.declared.Table.the-variants.{Creds, Aces}
+use Rattle.rules.specs.Bits.{bit, bits}
+use Rattle.rules.specs.Directory.{resourceOf, someSecurity}
+use Rattle.rules.specs.Record.{Sender, unauthenticated, partner, word, sender, payloadOf}
+use Rattle.rules.specs.Bodies.{nil, isNil, ownerBody, stateBody, credStorable, setKnown, subjectStorable, aceStorable}
+use Rattle.rules.specs.Tables.{rowsIn, withRows, rowsSound, headSound, sound, fresh, rowOwner}
+use Rattle.rules.specs.Permission.{has, subjectFits, resourceFits, rowFits, gives, names, isOwner, owns, byOwner, effectiveOf, effective, permission}
+use Rattle.rules.specs.Action.{when, updateDoxm, updatePstat, updateRows, updateAction, deleteRows, deleteAction, readAction, securityAction, action}
+use Rattle.rules.specs.States.{writeAllowed, moveListed, moveAllowed}
+use Rattle.rules.specs.Checks.{badLength, noVerb, zeroBitSet, mismatch, unknownResource, noCredential, notPermitted, offered, notOffered, verdict}
+use Rattle.rules.specs.Outcome.{Reply, outcomeAt, outcome, withOwner, withState, entered, replyTo, tablesAfter}
+use Rattle.rules.specs.Run.{replies, final, Along, kept, keptOf}
+use Rattle.rules.specs.Isolation.{Harmless, Premise, isOthers, namesOwner, rowAlters, mayAlter}
+use Rattle.rules.proofs.Bools.{and-left, and-right}
+use Rattle.rules.proofs.Isolated.{isolation}
+
+-- `unfolding definitions` opens all that its own line names
+definitions : Unit {0}
+unfolding ones onesIn rowsOf joined packed allZero same hasKey numberedAs placeFrom firstRow some every without distinctNumbers stored unionOf withRow bit bits has resourceOf word sender payloadOf nil isNil ownerBody stateBody credStorable setKnown subjectStorable aceStorable rowsIn rowsSound headSound sound fresh rowOwner subjectFits resourceFits rowFits gives names isOwner owns byOwner effectiveOf permission when updateDoxm updatePstat updateRows updateAction deleteRows deleteAction readAction securityAction action writeAllowed moveListed moveAllowed badLength noVerb zeroBitSet mismatch unknownResource noCredential notPermitted offered notOffered verdict entered outcomeAt outcome
+definitions = tt
+
+abbrev answer : Tables → List ℕ → ℕ
+answer t r = replyTo t r .answer
+
+-- sixteen bytes 11
+uuid : List ℕ
+uuid = replicate 16 0x11
+
+credRow : ℕ → Row
+credRow n = 0 ∷ n ∷ (uuid ++ (0 ∷ 0 ∷ 4 ∷ []))
+
+-- n rows, numbered from n down to 1
+credRows : ℕ → List Row
+credRows zero = []
+credRows (suc n) = credRow (suc n) ∷ credRows n
+
+-- 25 credential rows are claimed
+overfull : Tables
+overfull = record { state = 1; owned = 0; ncreds = 25; naces = 0; devowner = replicate 16 0; rowners = replicate 64 0; creds = replicate 504 0; aces = replicate 896 0 }
+
+-- state 2, the owner in row 5
+pub owned5 : Tables
+owned5 = withState (withOwner (withRows Creds fresh (credRow 5 ∷ [])) 1 uuid) 2
+
+-- 24 credential rows
+full24 : Tables
+full24 = withRows Creds fresh (credRows 24)
+
+pub record Example : Type 0 where
+  pub tables : Tables
+  pub bytes : List ℕ
+
+example : Tables → List ℕ → Example
+example t b = record { tables = t; bytes = b }
+
+-- in the order of their numbers
+pub examples : List Example
+examples =
+    example overfull []
+    ∷ example fresh (0x40 ∷ 0x80 ∷ 0x00 ∷ [])
+    ∷ example fresh (0xa2 ∷ 0x00 ∷ 0x00 ∷ 0x00 ∷ [])
+    ∷ example fresh (0x22 ∷ 0x01 ∷ 0x00 ∷ 0x00 ∷ [])
+    ∷ example fresh (0x22 ∷ 0x00 ∷ 0x00 ∷ 0x05 ∷ [])
+    ∷ example fresh (0x21 ∷ 0x40 ∷ 0x00 ∷ 0x00 ∷ [])
+    ∷ example fresh (0x32 ∷ 0x00 ∷ 0x00 ∷ 0x09 ∷ [])
+    ∷ example fresh (0x22 ∷ 0x00 ∷ 0x00 ∷ 0x00 ∷ [])
+    ∷ example fresh (0x00 ∷ 0xc0 ∷ 0x00 ∷ 0x00 ∷ [])
+    ∷ example fresh (0x40 ∷ 0x40 ∷ 0x00 ∷ 0x00 ∷ 0xa0 ∷ [])
+    ∷ example owned5 (0x50 ∷ 0x00 ∷ 0x00 ∷ 0x05 ∷ 0x80 ∷ uuid)
+    ∷ example fresh (0x40 ∷ 0x40 ∷ 0x00 ∷ 0x00 ∷ 0x60 ∷ [])
+    ∷ example fresh (0x60 ∷ 0x80 ∷ 0x00 ∷ 0x00 ∷ 0x00 ∷ 0x05 ∷ [])
+    ∷ example full24 (0x40 ∷ 0x80 ∷ 0x00 ∷ 0x00 ∷ credRow 25)
+    ∷ []
+
+pub fourteen : map (λ e. answer (e .tables) (e .bytes)) examples ≡ 1 ∷ 2 ∷ 3 ∷ 4 ∷ 5 ∷ 6 ∷ 7 ∷ 8 ∷ 9 ∷ 10 ∷ 11 ∷ 12 ∷ 13 ∷ 14 ∷ []
+unfolding definitions uuid credRow credRows overfull owned5 full24 example examples
+fourteen = refl
+
+-- ---- the worked run
+
+-- the records: a credential row 5, an owner, and three moves to state 2
+pub workedRun : List (List ℕ)
+workedRun =
+    (0x40 ∷ 0x80 ∷ 0x00 ∷ 0x00 ∷ credRow 5)
+    ∷ (0x40 ∷ 0x00 ∷ 0x00 ∷ 0x00 ∷ 0x80 ∷ uuid)
+    ∷ (0x40 ∷ 0x40 ∷ 0x00 ∷ 0x00 ∷ 0x40 ∷ [])
+    ∷ (0x50 ∷ 0x40 ∷ 0x00 ∷ 0x05 ∷ 0x40 ∷ [])
+    ∷ (0x50 ∷ 0x40 ∷ 0x00 ∷ 0x05 ∷ 0x40 ∷ [])
+    ∷ []
+
+-- a line of the run: answer, permission, state afterwards
+pub line : Tables → List ℕ → List ℕ
+line t r = replyTo t r .answer ∷ replyTo t r .permission ∷ tablesAfter t r .state ∷ []
+
+pub worked : replies line tablesAfter fresh workedRun ≡ (0 ∷ 31 ∷ 1 ∷ []) ∷ (0 ∷ 31 ∷ 1 ∷ []) ∷ (8 ∷ 0 ∷ 1 ∷ []) ∷ (0 ∷ 31 ∷ 2 ∷ []) ∷ (12 ∷ 0 ∷ 2 ∷ []) ∷ []
+unfolding definitions line workedRun uuid credRow
+worked = refl
+
+-- ---- readings to guard against
+
+-- an access row: number, kind, permission, wildcards, set bytes, subject
+pub aceRow : ℕ → ℕ → ℕ → ℕ → List ℕ → List ℕ → Row
+aceRow n kind permission wild set subject = 0 ∷ n ∷ (kind * 64 + permission * 2 + wild / 4) ∷ (wild % 4 * 64) ∷ (set ++ subject)
+
+-- the set of resource 8 alone, and the empty set
+pub weight : List ℕ
+weight = 0 ∷ 0x80 ∷ replicate 6 0
+
+pub none : List ℕ
+none = replicate 8 0
+
+-- connection 0 or 1 as a subject
+pub connected : ℕ → List ℕ
+connected c = replicate 15 0 ++ (c ∷ [])
+
+-- state 3, the owner in row 5, and these access rows
+pub serving : List Row → Tables
+serving ws = withState (withRows Aces owned5 ws) 3
+
+pub guards :
+    effective (serving (aceRow 1 2 1 0 weight (connected 0) ∷ aceRow 2 2 4 0 weight (connected 0) ∷ [])) unauthenticated 8
+    ∷ effective (serving (aceRow 1 2 31 1 none (connected 0) ∷ [])) unauthenticated 3
+    ∷ effective (serving []) unauthenticated 3
+    ∷ effective (serving (aceRow 1 2 31 1 none (connected 1) ∷ [])) unauthenticated 8
+    ∷ answer (serving []) (0x40 ∷ 0x40 ∷ 0x00 ∷ 0x00 ∷ 0xa0 ∷ [])
+    ∷ answer owned5 (0x50 ∷ 0x40 ∷ 0x00 ∷ 0x05 ∷ 0x40 ∷ [])
+    ∷ []
+    ≡ 5 ∷ 0 ∷ 0 ∷ 0 ∷ 8 ∷ 12 ∷ []
+unfolding definitions owned5 serving aceRow weight none connected uuid credRow
+guards = refl
+
+-- nil fits nobody, not even a credential row that has no bytes, or one whose subject is nil
+pub nil-fits-nobody : names nil [] ∷ names nil (replicate 21 0) ∷ [] ≡ false ∷ false ∷ []
+unfolding definitions
+nil-fits-nobody = refl
+
+-- ---- full tables: 24 credential rows and 32 access rows, each of which gives R on resource 8 to the owner
+
+aceRows : ℕ → List Row
+aceRows zero = []
+aceRows (suc n) = aceRow (suc n) 0 2 0 weight uuid ∷ aceRows n
+
+pub crowded : Tables
+crowded = withState (withOwner (withRows Creds (withRows Aces fresh (aceRows 32)) (credRows 24)) 1 uuid) 3
+
+-- RETRIEVE of resource 8 by the owner's credential 5
+pub crowded-read : replyTo crowded (0x32 ∷ 0x00 ∷ 0x00 ∷ 0x05 ∷ 0x77 ∷ []) ≡ record { answer = 0; permission = 2; payload = 0x77 ∷ [] }
+unfolding definitions crowded aceRows aceRow weight credRows credRow uuid
+crowded-read = refl
+
+-- ---- demand 3 is not empty: partner 7, a haulier who may read resource 8, is chosen, and the unauthenticated senders with it
+
+haulier : List ℕ
+haulier = replicate 16 0x22
+
+pub yard : Tables
+yard = withRows Creds (serving (aceRow 1 0 2 0 weight haulier ∷ aceRow 2 2 2 0 weight (connected 0) ∷ [])) (credRow 5 ∷ (0 ∷ 7 ∷ (haulier ++ (0 ∷ 0 ∷ 4 ∷ []))) ∷ [])
+
+pub chosen7 : Sender → Bool
+chosen7 unauthenticated = true
+chosen7 (partner n) = eqb n 7
+
+-- the chosen try to write, and read resource 8; the owner, partner 5, goes to state 2, stores a credential and goes back to state 3
+pub yardRun : List (List ℕ)
+yardRun =
+    (0x50 ∷ 0xc0 ∷ 0x00 ∷ 0x07 ∷ aceRow 9 0 31 0 weight haulier)
+    ∷ (0x50 ∷ 0x40 ∷ 0x00 ∷ 0x05 ∷ 0x40 ∷ [])
+    ∷ (0x60 ∷ 0x80 ∷ 0x00 ∷ 0x00 ∷ [])
+    ∷ (0x50 ∷ 0x80 ∷ 0x00 ∷ 0x05 ∷ credRow 9)
+    ∷ (0x50 ∷ 0x80 ∷ 0x00 ∷ 0x07 ∷ credRow 9)
+    ∷ (0x50 ∷ 0x40 ∷ 0x00 ∷ 0x05 ∷ 0x60 ∷ [])
+    ∷ (0x32 ∷ 0x00 ∷ 0x00 ∷ 0x07 ∷ 0x01 ∷ [])
+    ∷ []
+
+-- everybody's answers: the chosen get 8 for each write, and their read is served
+pub yard-answers : replies answer tablesAfter yard yardRun ≡ 8 ∷ 0 ∷ 8 ∷ 0 ∷ 8 ∷ 0 ∷ 0 ∷ []
+unfolding definitions owned5 serving aceRow weight none connected uuid credRow haulier yard yardRun
+yard-answers = refl
+
+-- the premise for these two senders, as a test
+calm : Tables → Bool
+calm t = not (eqb (t .owned) 0) && not (namesOwner t unauthenticated) && not (namesOwner t (partner 7)) && not (mayAlter t unauthenticated) && not (mayAlter t (partner 7))
+
+record Calm (t : Tables) : Type 0 where
+  owned : not (eqb (t .owned) 0) ≡ true
+  stranger-owner : not (namesOwner t unauthenticated) ≡ true
+  haulier-owner : not (namesOwner t (partner 7)) ≡ true
+  stranger-alters : not (mayAlter t unauthenticated) ≡ true
+  haulier-alters : not (mayAlter t (partner 7)) ≡ true
+
+calm-parts : (t : Tables) → calm t ≡ true → Calm t
+unfolding calm
+calm-parts t h = search (and-left, and-right)
+
+calm-harmless : (t : Tables) → calm t ≡ true → Harmless chosen7 t
+unfolding chosen7
+calm-harmless t h = let p = calm-parts t h in record { hasOwner = not-true _ (p .owned); notOwner = owner p; notGranted = granted p }
+  where
+    owner : Calm t → (s : Sender) → chosen7 s ≡ true → namesOwner t s ≡ false
+    owner p unauthenticated c = not-true _ (p .stranger-owner)
+    owner p (partner n) c = rw (eqb-true n 7 c) (not-true _ (p .haulier-owner))
+
+    granted : Calm t → (s : Sender) → chosen7 s ≡ true → mayAlter t s ≡ false
+    granted p unauthenticated c = not-true _ (p .stranger-alters)
+    granted p (partner n) c = rw (eqb-true n 7 c) (not-true _ (p .haulier-alters))
+
+yard-premise : Along tablesAfter (Premise chosen7) yard (kept (isOthers chosen7) yardRun)
+unfolding definitions calm namesOwner rowAlters mayAlter someSecurity owned5 serving aceRow weight none connected uuid credRow haulier yard yardRun chosen7
+yard-premise = (λ _. calm-harmless _ refl, (λ _. calm-harmless _ refl, (λ _. calm-harmless _ refl, λ _. calm-harmless _ refl)))
+
+-- so the owner's answers, and the tables at the end, are those of the owner's records alone
+pub yard-isolated :
+    (keptOf (isOthers chosen7) yardRun (replies replyTo tablesAfter yard yardRun) ≡ replies replyTo tablesAfter yard (kept (isOthers chosen7) yardRun))
+    × (final tablesAfter yard yardRun ≡ final tablesAfter yard (kept (isOthers chosen7) yardRun))
+yard-isolated = isolation chosen7 yard yardRun yard-premise

@@ -1,0 +1,15 @@
+-- The laws of the definitions, and the theorems over them: Refusals, SoundKept, Isolated, Built, Examples.
+pub mod Bools
+pub mod BitLaws
+pub mod RecordLaws
+pub mod CheckLaws
+pub mod Answers
+pub mod BodyLaws
+pub mod TableLaws
+pub mod Refusals
+pub mod Simulation
+pub mod PermissionLaws
+pub mod SoundKept
+pub mod Isolated
+pub mod Built
+pub mod Examples

@@ -1,0 +1,109 @@
+-- A permission bit of a union comes from a member.
+-- So a chosen sender's effective permission on a security resource has none of C, U and D.
+use Prim.Native.Nat.{ℕ, zero, suc, _<_, _≤_, _/_, _%_, _^_}
+use native.Mathlib.Nat.{zero-div}
+use native.Mathlib.Omega.{arith}
+use mathlib.Core.Path.{_≡_, refl, ap, _∙_, sym}
+use mathlib.Core.Bool.{Bool, true, false, not, _&&_, _||_, cond, and-false}
+use mathlib.Core.List.{List, [], _∷_}
+use lib.Dec.{eqb}
+use lib.Bits.{bitOr, or-shr, or-mod}
+use lib.ListN.{length}
+use borrow.Author.Tests.{eqb-true, eq-eqb}
+use Rattle.rows.specs.Rows.{Row, some, unionOf}
+use Rattle.rules.specs.declared.Tables.{Tables}
+use Rattle.rules.specs.declared.Table.the-variants.{Creds, Aces}
+use Rattle.rules.specs.Directory.{isSecurity, someBelow, someSecurity, directory}
+use Rattle.rules.specs.Record.{Sender}
+use Rattle.rules.specs.Bodies.{acePermission}
+use Rattle.rules.specs.Tables.{rows}
+use Rattle.rules.specs.Permission.{C, U, D, has, credentialIn, connectionOf, subjectFits, resourceFits, rowFits, gives, isOwner, owns, byOwner, effectiveOf, effective}
+use Rattle.rules.specs.Isolation.{Harmless, alters, namesOwner, rowAlters, mayAlter}
+use Rattle.rules.proofs.Bools.{cond-cases, contradiction, and-left, and-right, and-false-right, or-neither, or-left, or-right, bool-cases}
+use Rattle.rules.proofs.BodyLaws.{security-number}
+
+pub has-zero : (bit : ℕ) → has 0 bit ≡ false
+unfolding has
+has-zero bit = ap (λ (x : ℕ). eqb (x % 2) 1) (zero-div bit)
+
+one-bit : (x y : ℕ) → x < 2 → y < 2 → eqb (bitOr x y) 1 ≡ (eqb x 1 || eqb y 1)
+one-bit zero zero hx hy = refl
+one-bit zero (suc zero) hx hy = refl
+one-bit zero (suc (suc y)) hx hy = absurd (omega arith)
+one-bit (suc zero) zero hx hy = refl
+one-bit (suc zero) (suc zero) hx hy = refl
+one-bit (suc zero) (suc (suc y)) hx hy = absurd (omega arith)
+one-bit (suc (suc x)) y hx hy = absurd (omega arith)
+
+-- a bit of a union is a bit of one of the two
+pub has-or : (x y k : ℕ) → has (bitOr x y) (2 ^ k) ≡ (has x (2 ^ k) || has y (2 ^ k))
+unfolding has
+has-or x y k =
+    ap (λ (z : ℕ). eqb (z % 2) 1) (or-shr x y k)
+    ∙ ap (λ (z : ℕ). eqb z 1) (or-mod (x / 2 ^ k) (y / 2 ^ k) 1)
+    ∙ one-bit (x / 2 ^ k % 2) (y / 2 ^ k % 2) (omega arith) (omega arith)
+
+-- no row that passes a test gives the bit, so the union has not
+union-lacks : (give : Row → ℕ) (p : Row → Bool) (k : ℕ) → ((a : Row) → p a ≡ false → has (give a) (2 ^ k) ≡ false) → (ws : List Row) → some p ws ≡ false → has (unionOf give ws) (2 ^ k) ≡ false
+unfolding some unionOf
+union-lacks give p k f [] h = has-zero (2 ^ k)
+union-lacks give p k f (a ∷ ws) h =
+    has-or (give a) (unionOf give ws) k
+    ∙ or-neither _ _ (f a (or-left (p a) (some p ws) h)) (union-lacks give p k f ws (or-right (p a) (some p ws) h))
+
+-- ---- a test at every security resource
+below-lacks : (m n : ℕ) (q : ℕ → Bool) → n < m → someBelow m q ≡ false → q n ≡ false
+below-lacks zero n q l h = absurd (omega arith)
+below-lacks (suc m) n q l h =
+    bool-cases (eqb n m)
+    (λ e. ap q (eqb-true n m e) ∙ or-left (q m) (someBelow m q) h)
+    (λ e. below-lacks m n q (other e) (or-right (q m) (someBelow m q) h))
+  where
+    other : eqb n m ≡ false → n < m
+    other e = lt-of-ne (λ q. contradiction (eq-eqb n m q) e)
+      where
+        lt-of-ne : (n ≡ m → ⊥) → n < m
+        lt-of-ne ne = omega (arith, ne)
+
+pub security-lacks : (p : ℕ → Bool) (n : ℕ) → isSecurity n ≡ true → someSecurity p ≡ false → p n ≡ false
+unfolding someSecurity
+security-lacks p n h l = and-false-right (isSecurity n) (p n) (below-lacks (length directory) n (λ m. isSecurity m && p m) (omega (arith, security-number n h)) l) h
+
+-- ---- a chosen sender alters no security resource
+and-weaken : (f y z g h : Bool) → (f && (y && z)) ≡ false → (y ≡ false → g ≡ false) → (z ≡ false → h ≡ false) → (f && g && h) ≡ false
+and-weaken false y z g h e u v = refl
+and-weaken true false z g h e u v = rw (u refl)
+and-weaken true true z g h e u v = rw (v e) (and-false g)
+
+-- a row that may not alter a security resource gives nothing to alter resource n by
+gives-lacks : (w : Row) (c n k : ℕ) (a : Row) → isSecurity n ≡ true → ((p : ℕ) → alters p ≡ false → has p (2 ^ k) ≡ false)
+    → (subjectFits w c a && rowAlters a) ≡ false → has (gives w c n a) (2 ^ k) ≡ false
+unfolding gives rowFits rowAlters
+gives-lacks w c n k a sec sub e =
+    cond-cases (λ (p : ℕ). has p (2 ^ k) ≡ false) (subjectFits w c a && resourceFits n a)
+    (λ f. and-false-right _ _ (and-weaken (subjectFits w c a) (someSecurity (λ m. resourceFits m a)) (alters (acePermission a)) (resourceFits n a) (has (acePermission a) (2 ^ k)) e (security-lacks (λ m. resourceFits m a) n sec) (sub (acePermission a))) f)
+    (λ _. has-zero (2 ^ k))
+
+-- what holds of each of the bits C, U, D
+pub alters-lacks : (p : ℕ) → ((k : ℕ) → ((q : ℕ) → alters q ≡ false → has q (2 ^ k) ≡ false) → has p (2 ^ k) ≡ false) → alters p ≡ false
+alters-lacks p h =
+    or-neither _ _
+    (or-neither _ _
+    (h 0 (λ q e. or-left (has q C) _ (or-left (has q C || has q U) _ e)))
+    (h 2 (λ q e. or-right (has q C) _ (or-left (has q C || has q U) _ e))))
+    (h 3 (λ q e. or-right (has q C || has q U) _ e))
+
+module _ (chosen : Sender → Bool) (t : Tables) (s : Sender) (n : ℕ) (safe : Harmless chosen t) (c : chosen s ≡ true) (sec : isSecurity n ≡ true) where
+  owner-none : byOwner t (credentialIn (rows Creds t) s) n ≡ 0
+  unfolding byOwner owns namesOwner
+  owner-none = rw (sec, safe .hasOwner, security-lacks (isOwner t (credentialIn (rows Creds t) s)) n sec (safe .notOwner s c))
+
+  -- a chosen sender alters no security resource
+  pub effective-lacks : alters (effective t s n) ≡ false
+  unfolding effectiveOf mayAlter
+  effective-lacks = alters-lacks (effective t s n) λ k sub.
+      has-or (byOwner t (credentialIn (rows Creds t) s) n) (unionOf (gives (credentialIn (rows Creds t) s) (connectionOf s) n) (rows Aces t)) k
+      ∙ or-neither _ _
+      (ap (λ (x : ℕ). has x (2 ^ k)) owner-none ∙ has-zero (2 ^ k))
+      (union-lacks (gives (credentialIn (rows Creds t) s) (connectionOf s) n) (λ a. subjectFits (credentialIn (rows Creds t) s) (connectionOf s) a && rowAlters a) k
+      (λ a e. gives-lacks (credentialIn (rows Creds t) s) (connectionOf s) n k a sec sub e) (rows Aces t) (safe .notGranted s c))

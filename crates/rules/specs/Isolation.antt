@@ -1,0 +1,45 @@
+-- 'The others alone': the premise on the chosen senders, and whose records the others' are.
+-- The chosen are any set of senders: of partners, and of the unauthenticated.
+use Prim.Native.Nat.{ℕ}
+use mathlib.Core.Path.{_≡_}
+use mathlib.Core.Bool.{Bool, true, false, not, _&&_, _||_}
+use mathlib.Core.List.{List}
+use lib.Dec.{eqb}
+use Rattle.rows.specs.Rows.{Row, some}
+use Rattle.rules.specs.declared.Tables.{Tables}
+use Rattle.rules.specs.declared.Table.the-variants.{Creds, Aces}
+use Rattle.rules.specs.Directory.{someSecurity}
+use Rattle.rules.specs.Record.{Sender, sender}
+use Rattle.rules.specs.Bodies.{acePermission}
+use Rattle.rules.specs.Tables.{rows, sound}
+use Rattle.rules.specs.Permission.{C, U, D, has, credentialIn, connectionOf, subjectFits, resourceFits, isOwner}
+
+-- create, update or delete
+abbrev pub alters : ℕ → Bool
+alters p = has p C || has p U || has p D
+
+-- the sender's credential row names the device owner or a row owner
+unfoldable pub namesOwner : Tables → Sender → Bool
+namesOwner t s = someSecurity (isOwner t (credentialIn (rows Creds t) s))
+
+-- the access row gives create, update or delete on a security resource
+unfoldable pub rowAlters : Row → Bool
+rowAlters a = someSecurity (λ n. resourceFits n a) && alters (acePermission a)
+
+-- an access row that fits the sender does
+unfoldable pub mayAlter : Tables → Sender → Bool
+mayAlter t s = some (λ a. subjectFits (credentialIn (rows Creds t) s) (connectionOf s) a && rowAlters a) (rows Aces t)
+
+-- there is an owner, and no chosen sender names one or may alter a security resource
+pub record Harmless (chosen : Sender → Bool) (t : Tables) : Type 0 where
+  pub hasOwner : eqb (t .owned) 0 ≡ false
+  pub notOwner : (s : Sender) → chosen s ≡ true → namesOwner t s ≡ false
+  pub notGranted : (s : Sender) → chosen s ≡ true → mayAlter t s ≡ false
+
+-- the premise at one point of the book's run; tables that are not sound need none
+abbrev pub Premise : (Sender → Bool) → Tables → Type 0
+Premise chosen t = sound t ≡ true → Harmless chosen t
+
+-- the record is one of the others'
+abbrev pub isOthers : (Sender → Bool) → List ℕ → Bool
+isOthers chosen r = not (chosen (sender r))

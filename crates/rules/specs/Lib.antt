@@ -1,0 +1,14 @@
+-- The rules of document 01, in the paper's order: one module for each of its headings.
+pub mod Bits
+pub mod Lookup
+pub mod Directory
+pub mod Record
+pub mod Bodies
+pub mod Tables
+pub mod Permission
+pub mod Action
+pub mod States
+pub mod Checks
+pub mod Outcome
+pub mod Run
+pub mod Isolation

@@ -1,0 +1,110 @@
+-- 'Permission': the effective permission of a sender on a resource.
+-- A sender's credential row is the one with its number; where there is none, its bytes are none.
+use Prim.Native.Nat.{ℕ, _/_, _%_}
+use mathlib.Core.Bool.{Bool, true, false, not, _&&_, _||_, cond}
+use mathlib.Core.List.{List, [], _∷_}
+use lib.Bits.{bitOr}
+use lib.Dec.{eqb, leb}
+use lib.ListN.{length, getD}
+use Rattle.rows.specs.Rows.{Row, same, hasKey, firstRow, unionOf}
+use Rattle.rules.specs.declared.Tables.{Tables}
+use Rattle.rules.specs.declared.Table.the-variants.{Creds, Aces}
+use Rattle.rules.specs.Lookup.{lookup}
+use Rattle.rules.specs.Directory.{resourceOf, isSecurity, starReaches, plusReaches, minusReaches}
+use Rattle.rules.specs.Record.{Sender, unauthenticated, partner, word, sender, resource}
+use Rattle.rules.specs.Bodies.{nil, isNil, credSubject, credRole, aceKind, acePermission, acePlus, aceMinus, aceStar, inSet, aceSubject, aceRole, aceConnection}
+use Rattle.rules.specs.Tables.{rows, rowOwner}
+
+-- permission bits: C 1, R 2, U 4, D 8, N 16
+abbrev pub C : ℕ
+C = 1
+
+abbrev pub R : ℕ
+R = 2
+
+abbrev pub U : ℕ
+U = 4
+
+abbrev pub D : ℕ
+D = 8
+
+-- all five
+abbrev pub all : ℕ
+all = 31
+
+-- the permission p has this bit
+unfoldable pub has : ℕ → ℕ → Bool
+has p bit = eqb (p / bit % 2) 1
+
+-- the bit that a verb needs; OBSERVE needs R, and no permission has the bit of a number that is no verb
+abbrev pub neededBit : ℕ → ℕ
+neededBit v = lookup v ((0, C) ∷ (1, R) ∷ (2, U) ∷ (3, D) ∷ (4, R) ∷ []) 32
+
+-- ---- the sender
+
+-- the row has the number n
+abbrev pub numbered : ℕ → Row → Bool
+numbered n = hasKey 0 (word n)
+
+-- the sender's credential row among these, or no bytes
+abbrev pub credentialIn : List Row → Sender → Row
+credentialIn ws unauthenticated = []
+credentialIn ws (partner n) = firstRow (numbered n) ws
+
+abbrev pub connectionOf : Sender → ℕ
+connectionOf unauthenticated = 0
+connectionOf (partner n) = 1
+
+-- ---- 1. the access rows whose subject and resource both fit
+
+-- a UUID fits the credential row w with that subject, a role the one with that role, a connection the same bit
+unfoldable pub subjectFits : Row → ℕ → Row → Bool
+subjectFits w connection a =
+    lookup (aceKind a)
+    ((0, not (eqb (length w) 0) && same (aceSubject a) (credSubject w))
+    ∷ (1, not (eqb (length w) 0) && eqb (aceRole a) (credRole w))
+    ∷ (2, eqb (aceConnection a) connection)
+    ∷ [])
+    false
+
+-- the resource n is in the set, or a wildcard reaches it
+unfoldable pub resourceFits : ℕ → Row → Bool
+resourceFits n a =
+    inSet a n
+    || (aceStar a && starReaches (resourceOf n))
+    || (acePlus a && plusReaches (resourceOf n))
+    || (aceMinus a && minusReaches (resourceOf n))
+
+unfoldable pub rowFits : Row → ℕ → ℕ → Row → Bool
+rowFits w connection n a = subjectFits w connection a && resourceFits n a
+
+unfoldable pub gives : Row → ℕ → ℕ → Row → ℕ
+gives w connection n a = cond (rowFits w connection n a) (acePermission a) 0
+
+-- ---- 2. and 3. the owners of a security resource, and anyone while there is no owner
+
+-- the credential row's subject is this owner; nil is nobody
+unfoldable pub names : List ℕ → Row → Bool
+names owner w = not (isNil owner) && same owner (credSubject w)
+
+-- the credential row, if there is one, names the device owner or the resource's row owner
+unfoldable pub isOwner : Tables → Row → ℕ → Bool
+isOwner t w n = not (eqb (length w) 0) && (names (t .devowner) w || names (rowOwner t n) w)
+
+unfoldable pub owns : Tables → Row → ℕ → Bool
+owns t w n = isSecurity n && (eqb (t .owned) 0 || isOwner t w n)
+
+unfoldable pub byOwner : Tables → Row → ℕ → ℕ
+byOwner t w n = cond (owns t w n) all 0
+
+-- ---- the union
+
+unfoldable pub effectiveOf : Tables → Row → ℕ → ℕ → ℕ
+effectiveOf t w connection n = bitOr (byOwner t w n) (unionOf (gives w connection n) (rows Aces t))
+
+abbrev pub effective : Tables → Sender → ℕ → ℕ
+effective t s n = effectiveOf t (credentialIn (rows Creds t) s) (connectionOf s) n
+
+-- of a record: its sender's on its resource
+unfoldable pub permission : Tables → List ℕ → ℕ
+permission t r = effective t (sender r) (resource r)
