@@ -11,13 +11,13 @@ use lib.Count.{ones, onesIn}
 use Rattle.rows.specs.Rows.{Row, rowsOf, joined, packed, allZero, same, hasKey, numberedAs, placeFrom, firstRow, some, every, without, distinctNumbers, stored, unionOf, withRow}
 use Rattle.rules.specs.declared.Tables.{Tables}
 use Rattle.rules.specs.declared.Table.the-variants.{Creds, Aces}
-use Rattle.rules.specs.Bits.{bit, bits}
+use Rattle.rules.specs.Bits.{bit, bits, word}
 use Rattle.rules.specs.Directory.{resourceOf, someSecurity}
-use Rattle.rules.specs.Record.{Sender, unauthenticated, partner, word, sender, payloadOf}
+use Rattle.rules.specs.Record.{Sender, unauthenticated, partner, sender, payloadOf}
 use Rattle.rules.specs.Bodies.{nil, isNil, ownerBody, stateBody, credStorable, setKnown, subjectStorable, aceStorable}
 use Rattle.rules.specs.Tables.{rowsIn, withRows, rowsSound, headSound, sound, fresh, rowOwner}
-use Rattle.rules.specs.Permission.{has, subjectFits, resourceFits, rowFits, gives, names, isOwner, owns, byOwner, effectiveOf, effective, permission}
-use Rattle.rules.specs.Action.{when, updateDoxm, updatePstat, updateRows, updateAction, deleteRows, deleteAction, readAction, securityAction, action}
+use Rattle.rules.specs.Permission.{has, subjectFits, resourceFits, rowFits, gives, names, isOwner, byOwner, byNoOwner, effectiveOf, effective, permission}
+use Rattle.rules.specs.Action.{ifAllowed, updateDoxm, updatePstat, updateRows, updateAction, deleteRows, deleteAction, readAction, securityAction, action}
 use Rattle.rules.specs.States.{writeAllowed, moveListed, moveAllowed}
 use Rattle.rules.specs.Checks.{badLength, noVerb, zeroBitSet, mismatch, unknownResource, noCredential, notPermitted, offered, notOffered, verdict}
 use Rattle.rules.specs.Outcome.{Reply, outcomeAt, outcome, withOwner, withState, entered, replyTo, tablesAfter}
@@ -28,7 +28,7 @@ use Rattle.rules.proofs.Isolated.{isolation}
 
 -- `unfolding definitions` opens all that its own line names
 definitions : Unit {0}
-unfolding ones onesIn rowsOf joined packed allZero same hasKey numberedAs placeFrom firstRow some every without distinctNumbers stored unionOf withRow bit bits has resourceOf word sender payloadOf nil isNil ownerBody stateBody credStorable setKnown subjectStorable aceStorable rowsIn rowsSound headSound sound fresh rowOwner subjectFits resourceFits rowFits gives names isOwner owns byOwner effectiveOf permission when updateDoxm updatePstat updateRows updateAction deleteRows deleteAction readAction securityAction action writeAllowed moveListed moveAllowed badLength noVerb zeroBitSet mismatch unknownResource noCredential notPermitted offered notOffered verdict entered outcomeAt outcome
+unfolding ones onesIn rowsOf joined packed allZero same hasKey numberedAs placeFrom firstRow some every without distinctNumbers stored unionOf withRow bit bits has resourceOf word sender payloadOf nil isNil ownerBody stateBody credStorable setKnown subjectStorable aceStorable rowsIn rowsSound headSound sound fresh rowOwner subjectFits resourceFits rowFits gives names isOwner byOwner byNoOwner effectiveOf permission ifAllowed updateDoxm updatePstat updateRows updateAction deleteRows deleteAction readAction securityAction action writeAllowed moveListed moveAllowed badLength noVerb zeroBitSet mismatch unknownResource noCredential notPermitted offered notOffered verdict entered outcomeAt outcome
 definitions = tt
 
 abbrev answer : Tables → List ℕ → ℕ

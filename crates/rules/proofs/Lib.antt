@@ -2,6 +2,7 @@
 pub mod Bools
 pub mod BitLaws
 pub mod RecordLaws
+pub mod SetLaws
 pub mod CheckLaws
 pub mod Answers
 pub mod BodyLaws

@@ -17,7 +17,7 @@ use Rattle.rules.specs.Directory.{isSecurity, someBelow, someSecurity, d
 use Rattle.rules.specs.Record.{Sender}
 use Rattle.rules.specs.Bodies.{acePermission}
 use Rattle.rules.specs.Tables.{rows}
-use Rattle.rules.specs.Permission.{C, U, D, has, credentialIn, connectionOf, subjectFits, resourceFits, rowFits, gives, isOwner, owns, byOwner, effectiveOf, effective}
+use Rattle.rules.specs.Permission.{C, U, D, has, credentialIn, connectionOf, subjectFits, resourceFits, rowFits, gives, isOwner, byOwner, byNoOwner, effectiveOf, effective}
 use Rattle.rules.specs.Isolation.{Harmless, alters, namesOwner, rowAlters, mayAlter}
 use Rattle.rules.proofs.Bools.{cond-cases, contradiction, and-left, and-right, and-false-right, or-neither, or-left, or-right, bool-cases}
 use Rattle.rules.proofs.BodyLaws.{security-number}
@@ -95,15 +95,24 @@ alters-lacks p h =
 
 module _ (chosen : Sender → Bool) (t : Tables) (s : Sender) (n : ℕ) (safe : Harmless chosen t) (c : chosen s ≡ true) (sec : isSecurity n ≡ true) where
   owner-none : byOwner t (credentialIn (rows Creds t) s) n ≡ 0
-  unfolding byOwner owns namesOwner
-  owner-none = rw (sec, safe .hasOwner, security-lacks (isOwner t (credentialIn (rows Creds t) s)) n sec (safe .notOwner s c))
+  unfolding byOwner namesOwner
+  owner-none = rw (sec, security-lacks (isOwner t (credentialIn (rows Creds t) s)) n sec (safe .notOwner s c))
+
+  unowned-none : byNoOwner t n ≡ 0
+  unfolding byNoOwner
+  unowned-none = rw (sec, safe .hasOwner)
 
   -- a chosen sender alters no security resource
   pub effective-lacks : alters (effective t s n) ≡ false
   unfolding effectiveOf mayAlter
-  effective-lacks = alters-lacks (effective t s n) λ k sub.
-      has-or (byOwner t (credentialIn (rows Creds t) s) n) (unionOf (gives (credentialIn (rows Creds t) s) (connectionOf s) n) (rows Aces t)) k
+  effective-lacks =
+      let w = credentialIn (rows Creds t) s in
+      let granted = unionOf (gives w (connectionOf s) n) (rows Aces t) in
+      alters-lacks (effective t s n) λ k sub.
+      has-or (bitOr granted (byOwner t w n)) (byNoOwner t n) k
       ∙ or-neither _ _
-      (ap (λ (x : ℕ). has x (2 ^ k)) owner-none ∙ has-zero (2 ^ k))
-      (union-lacks (gives (credentialIn (rows Creds t) s) (connectionOf s) n) (λ a. subjectFits (credentialIn (rows Creds t) s) (connectionOf s) a && rowAlters a) k
-      (λ a e. gives-lacks (credentialIn (rows Creds t) s) (connectionOf s) n k a sec sub e) (rows Aces t) (safe .notGranted s c))
+      (has-or granted (byOwner t w n) k
+      ∙ or-neither _ _
+      (union-lacks (gives w (connectionOf s) n) (λ a. subjectFits w (connectionOf s) a && rowAlters a) k (λ a e. gives-lacks w (connectionOf s) n k a sec sub e) (rows Aces t) (safe .notGranted s c))
+      (ap (λ (x : ℕ). has x (2 ^ k)) owner-none ∙ has-zero (2 ^ k)))
+      (ap (λ (x : ℕ). has x (2 ^ k)) unowned-none ∙ has-zero (2 ^ k))

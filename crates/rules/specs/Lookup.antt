@@ -5,7 +5,7 @@ use mathlib.Core.List.{List, [], _∷_}
 use lib.Dec.{eqb}
 
 module _ {A : Type 0} where
-  -- beside the first entry with this number, else the last value
+  -- beside the first entry with this number, else `none`
   abbrev pub lookup : ℕ → List (ℕ × A) → A → A
   lookup n [] none = none
   lookup n (e ∷ es) none = cond (eqb n (e .0)) (e .1) (lookup n es none)

@@ -1,18 +1,19 @@
 -- 'Permission': the effective permission of a sender on a resource.
 -- A sender's credential row is the one with its number; where there is none, its bytes are none.
 use Prim.Native.Nat.{ℕ, _/_, _%_}
-use mathlib.Core.Bool.{Bool, true, false, not, _&&_, _||_, cond}
+use mathlib.Core.Bool.{Bool, false, not, _&&_, _||_, cond}
 use mathlib.Core.List.{List, [], _∷_}
 use lib.Bits.{bitOr}
-use lib.Dec.{eqb, leb}
-use lib.ListN.{length, getD}
+use lib.Dec.{eqb}
+use lib.ListN.{length}
 use Rattle.rows.specs.Rows.{Row, same, hasKey, firstRow, unionOf}
 use Rattle.rules.specs.declared.Tables.{Tables}
 use Rattle.rules.specs.declared.Table.the-variants.{Creds, Aces}
+use Rattle.rules.specs.Bits.{word}
 use Rattle.rules.specs.Lookup.{lookup}
 use Rattle.rules.specs.Directory.{resourceOf, isSecurity, starReaches, plusReaches, minusReaches}
-use Rattle.rules.specs.Record.{Sender, unauthenticated, partner, word, sender, resource}
-use Rattle.rules.specs.Bodies.{nil, isNil, credSubject, credRole, aceKind, acePermission, acePlus, aceMinus, aceStar, inSet, aceSubject, aceRole, aceConnection}
+use Rattle.rules.specs.Record.{Sender, unauthenticated, partner, sender, resource}
+use Rattle.rules.specs.Bodies.{isNil, credSubject, credRole, aceKind, acePermission, acePlus, aceMinus, aceStar, inSet, aceSubject, aceRole, aceConnection}
 use Rattle.rules.specs.Tables.{rows, rowOwner}
 
 -- permission bits: C 1, R 2, U 4, D 8, N 16
@@ -27,6 +28,10 @@ U = 4
 
 abbrev pub D : ℕ
 D = 8
+
+-- stored, and needed by no verb
+abbrev pub N : ℕ
+N = 16
 
 -- all five
 abbrev pub all : ℕ
@@ -55,14 +60,18 @@ abbrev pub connectionOf : Sender → ℕ
 connectionOf unauthenticated = 0
 connectionOf (partner n) = 1
 
+-- there is a row
+abbrev pub isRow : Row → Bool
+isRow w = not (eqb (length w) 0)
+
 -- ---- 1. the access rows whose subject and resource both fit
 
--- a UUID fits the credential row w with that subject, a role the one with that role, a connection the same bit
+-- a UUID fits the credential row w with that subject, a role the one with that role, a connection the same bit; role 0 is none, and no role row has it
 unfoldable pub subjectFits : Row → ℕ → Row → Bool
 subjectFits w connection a =
     lookup (aceKind a)
-    ((0, not (eqb (length w) 0) && same (aceSubject a) (credSubject w))
-    ∷ (1, not (eqb (length w) 0) && eqb (aceRole a) (credRole w))
+    ((0, isRow w && same (aceSubject a) (credSubject w))
+    ∷ (1, isRow w && eqb (aceRole a) (credRole w))
     ∷ (2, eqb (aceConnection a) connection)
     ∷ [])
     false
@@ -81,7 +90,7 @@ rowFits w connection n a = subjectFits w connection a && resourceFits n a
 unfoldable pub gives : Row → ℕ → ℕ → Row → ℕ
 gives w connection n a = cond (rowFits w connection n a) (acePermission a) 0
 
--- ---- 2. and 3. the owners of a security resource, and anyone while there is no owner
+-- ---- 2. the owners of a security resource
 
 -- the credential row's subject is this owner; nil is nobody
 unfoldable pub names : List ℕ → Row → Bool
@@ -89,18 +98,20 @@ names owner w = not (isNil owner) && same owner (credSubject w)
 
 -- the credential row, if there is one, names the device owner or the resource's row owner
 unfoldable pub isOwner : Tables → Row → ℕ → Bool
-isOwner t w n = not (eqb (length w) 0) && (names (t .devowner) w || names (rowOwner t n) w)
-
-unfoldable pub owns : Tables → Row → ℕ → Bool
-owns t w n = isSecurity n && (eqb (t .owned) 0 || isOwner t w n)
+isOwner t w n = isRow w && (names (t .devowner) w || names (rowOwner t n) w)
 
 unfoldable pub byOwner : Tables → Row → ℕ → ℕ
-byOwner t w n = cond (owns t w n) all 0
+byOwner t w n = cond (isSecurity n && isOwner t w n) all 0
+
+-- ---- 3. anyone, on a security resource while there is no owner
+
+unfoldable pub byNoOwner : Tables → ℕ → ℕ
+byNoOwner t n = cond (isSecurity n && eqb (t .owned) 0) all 0
 
 -- ---- the union
 
 unfoldable pub effectiveOf : Tables → Row → ℕ → ℕ → ℕ
-effectiveOf t w connection n = bitOr (byOwner t w n) (unionOf (gives w connection n) (rows Aces t))
+effectiveOf t w connection n = bitOr (bitOr (unionOf (gives w connection n) (rows Aces t)) (byOwner t w n)) (byNoOwner t n)
 
 abbrev pub effective : Tables → Sender → ℕ → ℕ
 effective t s n = effectiveOf t (credentialIn (rows Creds t) s) (connectionOf s) n

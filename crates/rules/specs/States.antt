@@ -13,7 +13,7 @@ use Rattle.rules.specs.Lookup.{lookup}
 -- a row for each state, a column for each kind of write
 abbrev pub writes : List (List Bool)
 writes =
-    -- doxm 17 bytes, row owners, cred and acl2 rows, target state
+    -- doxm 17 bytes, row owners, cred and acl2 rows, target state; RESET is never kept, so its row allows nothing
     (false ∷ false ∷ false ∷ false ∷ [])
     ∷ (true ∷ true ∷ true ∷ true ∷ [])
     ∷ (false ∷ false ∷ true ∷ true ∷ [])
@@ -24,7 +24,7 @@ writes =
 unfoldable pub writeAllowed : ℕ → ℕ → Bool
 writeAllowed state kind = getD (getD writes state []) kind false
 
--- the state allows the action: in SRESET owned must be 1; security resources are read in every state, and applications served in RFNOP only
+-- the state allows the action: in SRESET the body's owned must be 1; security resources are read in every state, and applications served in RFNOP only; a malformed body is refused before
 abbrev pub stateAllows : ℕ → Action → Bool
 stateAllows state Serve = eqb state 3
 stateAllows state Read = true

@@ -1,7 +1,7 @@
 -- 'The tables': the two tables of rows, soundness, and fresh tables.
 -- The fields and their sizes are the struct's; any bytes of that size are tables.
 use Prim.Native.Nat.{ℕ, _*_, min}
-use mathlib.Core.Bool.{Bool, true, false, not, _&&_, _||_, cond}
+use mathlib.Core.Bool.{Bool, _&&_, _||_, cond}
 use mathlib.Core.List.{List}
 use lib.Dec.{eqb, leb}
 use lib.ListN.{length, take, drop, replicate}
@@ -43,8 +43,8 @@ rows k t = rowsIn k (count k t) (bytes k t)
 
 -- the tables with these rows, and zeros after them
 abbrev pub withRows : Table → Tables → List Row → Tables
-withRows Creds t ws = record { state = t .state; owned = t .owned; ncreds = length ws; naces = t .naces; devowner = t .devowner; rowners = t .rowners; creds = packed 504 ws; aces = t .aces }
-withRows Aces t ws = record { state = t .state; owned = t .owned; ncreds = t .ncreds; naces = length ws; devowner = t .devowner; rowners = t .rowners; creds = t .creds; aces = packed 896 ws }
+withRows Creds t ws = record { state = t .state; owned = t .owned; ncreds = length ws; naces = t .naces; devowner = t .devowner; rowners = t .rowners; creds = packed (capacity Creds * stride Creds) ws; aces = t .aces }
+withRows Aces t ws = record { state = t .state; owned = t .owned; ncreds = t .ncreds; naces = length ws; devowner = t .devowner; rowners = t .rowners; creds = t .creds; aces = packed (capacity Aces * stride Aces) ws }
 
 -- the row owner of a security resource
 unfoldable pub rowOwner : Tables → ℕ → List ℕ
@@ -75,3 +75,7 @@ sound t = headSound t && rowsSound Creds (t .ncreds) (t .creds) && rowsSound Ace
 
 unfoldable pub fresh : Tables
 fresh = record { state = 1; owned = 0; ncreds = 0; naces = 0; devowner = nil; rowners = replicate 64 0; creds = replicate 504 0; aces = replicate 896 0 }
+
+-- the clear button takes tables of any content
+unfoldable pub cleared : Tables → Tables
+cleared t = fresh

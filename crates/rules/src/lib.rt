@@ -33,9 +33,6 @@ impl Permission {
     pub const NOTIFY: u8 = 16;
 
     pub const ALL: u8 = 31;
-
-    // A bit that no permission has.
-    pub const NEVER: u8 = 32;
 }
 
 // What a record is judged on. Each field is a byte or an array of bytes, so that any bytes of this size are tables.
@@ -111,7 +108,7 @@ pub enum Action {
     SetState(u8),
     // the body is a row
     Store(Table),
-    // the rows that have the body's bytes from this place on; no bytes: all rows
+    // the rows that have the body's bytes from this place on, 0 for the row's number; no bytes: all rows
     Remove(Table, usize),
     // the body has another length, or a forbidden value
     Malformed,

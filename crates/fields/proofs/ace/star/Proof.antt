@@ -1,0 +1,17 @@
+use borrow.Author.Needs.{needs}
+use Rattle.fields.proofs.ace.star.Statement.{statement}
+use Rattle.fields.proofs.ace.star.Tie as tie
+use Rattle.fields.proofs.ace.star.Reads as reads
+use Rattle.fields.proofs.ace.star.Lts as lts
+use Rattle.fields.proofs.bits.field.Reads as field-reads
+
+-- src/ace.rt:41:5
+field-requires : tie.Need-field-requires
+field-requires c κs = search needs
+
+-- src/ace.rt:38:1
+returns : tie.Need-returns
+returns c = cc
+
+pub star-spec : {M : Type 1} → statement M
+star-spec = tie.close (tie.spec field-requires returns)

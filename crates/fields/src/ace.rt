@@ -1,0 +1,92 @@
+// The fields of an access row, an access control entry.
+// Number, subject kind, permission, wildcards, set of resources, subject.
+use crate::bits::bit_at;
+use crate::bits::field;
+use crate::part;
+ghost use mathlib.Core.Path.{_≡_};
+ghost use Rattle.rules.specs.Bits.{bits};
+ghost use Rattle.rules.specs.Bodies.{aceKind, acePermission, acePlus, aceMinus, aceStar, inSet, setKnown, aceSubject, aceRole, aceConnection};
+
+// 0 UUID, 1 role, 2 connection
+pub fn kind(row: &[u8]) -> u16
+    ensures { λ n. ⌜ n ≡ aceKind (now (row .entry)) ⌝ }
+{
+    field(row, 16, 2)
+}
+
+pub fn permission(row: &[u8]) -> u16
+    ensures { λ n. ⌜ n ≡ acePermission (now (row .entry)) ⌝ }
+{
+    field(row, 18, 5)
+}
+
+// The wildcard "+".
+pub fn plus(row: &[u8]) -> bool
+    ensures { λ b. ⌜ b ≡ acePlus (now (row .entry)) ⌝ }
+{
+    field(row, 23, 1) == 1
+}
+
+// The wildcard "-".
+pub fn minus(row: &[u8]) -> bool
+    ensures { λ b. ⌜ b ≡ aceMinus (now (row .entry)) ⌝ }
+{
+    field(row, 24, 1) == 1
+}
+
+// The wildcard "*".
+pub fn star(row: &[u8]) -> bool
+    ensures { λ b. ⌜ b ≡ aceStar (now (row .entry)) ⌝ }
+{
+    field(row, 25, 1) == 1
+}
+
+pub fn zeros(row: &[u8]) -> u16
+    ensures { λ n. ⌜ n ≡ bits (now (row .entry)) 26 6 ⌝ }
+{
+    field(row, 26, 6)
+}
+
+// Whether a resource is in the set.
+pub fn in_set(row: &[u8], resource: u16) -> bool
+    ensures { λ b. ⌜ b ≡ inSet (now (row .entry)) resource ⌝ }
+{
+    bit_at(row, 32 + resource as usize) == 1
+}
+
+pub fn subject(row: &[u8]) -> &[u8]
+    ensures { λ r. ⌜ now r ≡ aceSubject (now (row .entry)) ⌝ }
+{
+    part(row, 12, 16)
+}
+
+pub fn role(row: &[u8]) -> u16
+    ensures { λ n. ⌜ n ≡ aceRole (now (row .entry)) ⌝ }
+{
+    field(row, 208, 16)
+}
+
+pub fn connection(row: &[u8]) -> u16
+    ensures { λ n. ⌜ n ≡ aceConnection (now (row .entry)) ⌝ }
+{
+    field(row, 223, 1)
+}
+
+// The seven bits before the connection.
+pub fn connection_zeros(row: &[u8]) -> u16
+    ensures { λ n. ⌜ n ≡ bits (now (row .entry)) 216 7 ⌝ }
+{
+    field(row, 216, 7)
+}
+
+// Whether each number in the set of resources is known: the numbers between and after the known ones are not in it.
+pub fn set_known(row: &[u8]) -> bool
+    ensures { λ b. ⌜ b ≡ setKnown (now (row .entry)) 64 ⌝ }
+{
+    // 4 to 7, 15, and 16 to 63
+    (field(row, 36, 4) == 0)
+        & (field(row, 47, 1) == 0)
+        & (field(row, 48, 16) == 0)
+        & (field(row, 64, 16) == 0)
+        & (field(row, 80, 16) == 0)
+}

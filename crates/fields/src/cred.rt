@@ -1,0 +1,32 @@
+// The fields of a credential row.
+// Number, subject UUID, role, type.
+use crate::bits::field;
+use crate::part;
+ghost use mathlib.Core.Path.{_≡_};
+ghost use Rattle.rules.specs.Bodies.{credSubject, credRole, credType};
+ghost use Rattle.rules.specs.Bits.{bits};
+
+pub fn subject(row: &[u8]) -> &[u8]
+    ensures { λ r. ⌜ now r ≡ credSubject (now (row .entry)) ⌝ }
+{
+    part(row, 2, 16)
+}
+
+pub fn role(row: &[u8]) -> u16
+    ensures { λ n. ⌜ n ≡ credRole (now (row .entry)) ⌝ }
+{
+    field(row, 144, 16)
+}
+
+// Decides nothing; at most one bit of the six is set.
+pub fn type_bits(row: &[u8]) -> u16
+    ensures { λ n. ⌜ n ≡ credType (now (row .entry)) ⌝ }
+{
+    field(row, 160, 6)
+}
+
+pub fn zeros(row: &[u8]) -> u16
+    ensures { λ n. ⌜ n ≡ bits (now (row .entry)) 166 2 ⌝ }
+{
+    field(row, 166, 2)
+}

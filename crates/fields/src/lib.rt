@@ -1,0 +1,47 @@
+// Total readers of records and rows: a field past the end is 0, and a part ends where the bytes end.
+// One reader of packed bits serves every named field.
+mod bits;
+pub mod ace;
+pub mod body;
+pub mod cred;
+pub mod record;
+
+use bits::field;
+ghost use mathlib.Core.Path.{_≡_};
+ghost use lib.ListN.{take, drop};
+ghost use Rattle.rules.specs.Bits.{bit, bits};
+
+// The `n` bytes from `at` on, or as many as there are.
+// Rules out: a part that starts one byte later; one that fails where the bytes are too few.
+pub fn part(s: &[u8], at: usize, n: usize) -> &[u8]
+    ensures { λ r. ⌜ now r ≡ take n (drop at (now (s .entry))) ⌝ }
+{
+    let len = s.len();
+    if len <= at {
+        return &s[..0];
+    }
+    if len - at <= n {
+        return &s[at..];
+    }
+    let end = at + n;
+    &s[at..end]
+}
+
+// All bytes after the first `n`.
+// Rules out: the bytes from n + 1 on; a fault where there are fewer than n.
+pub fn after(s: &[u8], n: usize) -> &[u8]
+    ensures { λ r. ⌜ now r ≡ drop n (now (s .entry)) ⌝ }
+{
+    if s.len() < n {
+        return &s[..0];
+    }
+    &s[n..]
+}
+
+// The 16-bit number that the bytes start with.
+// Rules out: the low byte first; a refusal of a lone byte.
+pub fn word(s: &[u8]) -> u16
+    ensures { λ n. ⌜ n ≡ bits (now (s .entry)) 0 16 ⌝ }
+{
+    field(s, 0, 16)
+}
