@@ -8,8 +8,9 @@ pub mod record;
 
 use bits::field;
 ghost use mathlib.Core.Path.{_≡_};
+ghost use Prim.Native.Nat.{min};
 ghost use lib.ListN.{take, drop};
-ghost use Rattle.rules.specs.Bits.{bit, bits};
+ghost use Rattle.rules.specs.Bits.{bits};
 
 // The `n` bytes from `at` on, or as many as there are.
 // Rules out: a part that starts one byte later; one that fails where the bytes are too few.
@@ -25,6 +26,14 @@ pub fn part(s: &[u8], at: usize, n: usize) -> &[u8]
     }
     let end = at + n;
     &s[at..end]
+}
+
+// Of so many rows counted, as many as there is room for.
+// Rules out: all that are counted; one fewer.
+pub fn held(count: u8, most: u8) -> usize
+    ensures { λ n. ⌜ n ≡ min count most ⌝ }
+{
+    if count < most { count as usize } else { most as usize }
 }
 
 // All bytes after the first `n`.

@@ -1,0 +1,14 @@
+use Rattle.rules.specs.Checks.{mismatch}
+use borrow.Author.Needs.{needs}
+use Rattle.form.proofs.check_connection.Statement.{statement}
+use Rattle.form.proofs.check_connection.Tie as tie
+
+returns : tie.Need-returns
+unfolding mismatch
+returns c = cc
+
+pub check-connection-spec : {M : Type 1} → statement M
+check-connection-spec =
+    tie.close
+    (tie.spec
+    (λ c κs. search needs) (λ c κs. search needs) (λ c κs. search needs) returns)
