@@ -1,0 +1,258 @@
+//! Compares the proved library with the model, record by record.
+
+use model::case::{describe, field, first_change, same, shrink, Case};
+use model::generate::{any_bytes, walk};
+use model::histogram::Histogram;
+use model::options::Program;
+use model::random::Random;
+use model::rules::{judge, Outcome};
+use model::tables::{fresh_bytes, Stored};
+
+const PROGRAM: Program = Program {
+    name: "compare",
+    help: "\
+compare [--records N] [--seed S] [--trace]
+compare --replay HEX_TABLES:HEX_RECORD
+
+Judges the same records on the same tables by the library and by the model,
+and compares answer, permission, payload and every byte of the tables; fresh
+tables and the clear button too.
+
+  --records N   so many records (default 300000)
+  --seed S      another choice of records (default 1)
+  --trace       print each case before it is judged
+  --replay CASE judge this one case and show both outcomes
+  --help        this text
+
+Ends with 0 when all are equal, with 1 when one is not.
+",
+    valued: &["--records", "--seed", "--replay"],
+    flags: &["--trace"],
+    free: 0,
+};
+
+/// The library, as C sees it.
+mod library {
+    use std::ops::Range;
+
+    use model::rules::Outcome as Judged;
+    use model::tables::{self, Stored};
+
+    #[repr(C)]
+    #[derive(Clone, Copy)]
+    struct Tables {
+        state: u8,
+        owned: u8,
+        ncreds: u8,
+        naces: u8,
+        devowner: [u8; 16],
+        rowners: [u8; 64],
+        creds: [u8; 504],
+        aces: [u8; 896],
+    }
+
+    #[repr(C)]
+    struct Outcome {
+        answer: u8,
+        permission: u8,
+        payload_start: u16,
+        payload_len: u16,
+        tables: Tables,
+    }
+
+    const _: () = assert!(size_of::<Tables>() == tables::SIZE);
+
+    #[link(name = "terminal", kind = "static")]
+    extern "C" {
+        fn tillerclover_fresh() -> Tables;
+        fn tillerclover_clear(t: Tables) -> Tables;
+        fn tillerclover_judge(t: Tables, record: *const u8, len: usize) -> Outcome;
+    }
+
+    impl Tables {
+        fn from_bytes(stored: &Stored) -> Tables {
+            fn part<const N: usize>(stored: &Stored, range: Range<usize>) -> [u8; N] {
+                stored[range].try_into().expect("a field of this length")
+            }
+            Tables {
+                state: stored[tables::STATE],
+                owned: stored[tables::OWNED],
+                ncreds: stored[tables::CREDENTIAL_COUNT],
+                naces: stored[tables::ACCESS_COUNT],
+                devowner: part(stored, tables::DEVICE_OWNER),
+                rowners: part(stored, tables::ROW_OWNERS),
+                creds: part(stored, tables::CREDENTIALS),
+                aces: part(stored, tables::ACCESSES),
+            }
+        }
+
+        fn bytes(&self) -> Stored {
+            let mut stored = [0; tables::SIZE];
+            stored[tables::STATE] = self.state;
+            stored[tables::OWNED] = self.owned;
+            stored[tables::CREDENTIAL_COUNT] = self.ncreds;
+            stored[tables::ACCESS_COUNT] = self.naces;
+            stored[tables::DEVICE_OWNER].copy_from_slice(&self.devowner);
+            stored[tables::ROW_OWNERS].copy_from_slice(&self.rowners);
+            stored[tables::CREDENTIALS].copy_from_slice(&self.creds);
+            stored[tables::ACCESSES].copy_from_slice(&self.aces);
+            stored
+        }
+    }
+
+    pub fn fresh() -> Stored {
+        // Takes nothing and gives bytes.
+        unsafe { tillerclover_fresh() }.bytes()
+    }
+
+    pub fn clear(stored: &Stored) -> Stored {
+        // Takes and gives bytes, any of which are allowed.
+        unsafe { tillerclover_clear(Tables::from_bytes(stored)) }.bytes()
+    }
+
+    pub fn judge(stored: &Stored, record: &[u8]) -> Judged {
+        // The pointer and the length are those of a living slice.
+        let outcome = unsafe { tillerclover_judge(Tables::from_bytes(stored), record.as_ptr(), record.len()) };
+        let start = outcome.payload_start as usize;
+        Judged {
+            answer: outcome.answer,
+            permission: outcome.permission,
+            payload: start..start + outcome.payload_len as usize,
+            tables: outcome.tables.bytes(),
+        }
+    }
+}
+
+const SHOWN: usize = 5;
+const RECORDS_BETWEEN_CLEARS: u64 = 50;
+const CLEARED: usize = 5000;
+
+fn main() {
+    let options = PROGRAM.options();
+    if let Some(line) = options.text("--replay") {
+        for name in ["--records", "--seed"] {
+            if options.text(name).is_some() {
+                PROGRAM.stop(format!("{name} has no meaning with --replay"));
+            }
+        }
+        let case = Case::from_line(line).unwrap_or_else(|fault| PROGRAM.stop(fault));
+        let differences = replay(&case);
+        println!("compare: 1 records, {differences} differences");
+        finish(differences);
+    }
+    let records = PROGRAM.number(&options, "--records", 300_000);
+    let seed = PROGRAM.number(&options, "--seed", 1);
+    let differences = compare(records, seed, options.flag("--trace"));
+    println!("compare: {records} records, {differences} differences");
+    finish(differences);
+}
+
+fn finish(differences: u64) -> ! {
+    std::process::exit(if differences == 0 { 0 } else { 1 });
+}
+
+fn compare(records: u64, seed: u64, trace: bool) -> u64 {
+    let mut differences = 0;
+    if let Some(place) = first_change(&library::fresh(), &fresh_bytes()) {
+        differences += 1;
+        println!("fresh tables differ at {}", field(place));
+    }
+    let mut clear_shown = false;
+    let mut cleared = 0u64;
+    let mut check_clear = |tables: &Stored| {
+        cleared += 1;
+        if clears(tables) {
+            return 0;
+        }
+        if !clear_shown {
+            clear_shown = true;
+            let case = Case { tables: *tables, record: Vec::new() };
+            let small = shrink(case, |case| !clears(&case.tables));
+            let place = first_change(&library::clear(&small.tables), &fresh_bytes());
+            println!("the clear button leaves {}", place.map_or("no difference".into(), field));
+            show_command(&small);
+        }
+        1
+    };
+    let mut random = Random::part(seed, 3);
+    for _ in 0..CLEARED {
+        differences += check_clear(&any_bytes(&mut random));
+    }
+
+    let mut histogram = Histogram::new();
+    let mut shown: Vec<(u8, u8)> = Vec::new();
+    let mut judged = 0;
+    walk(seed, records, |_, tables, record| {
+        if trace {
+            println!("{}", Case { tables: *tables, record: record.to_vec() }.line());
+        }
+        let expected = judge(tables, record);
+        let found = library::judge(tables, record);
+        histogram.add(record, &expected);
+        if !same(&expected, &found) {
+            differences += 1;
+            let pair = (expected.answer, found.answer);
+            if shown.len() < SHOWN && !shown.contains(&pair) {
+                shown.push(pair);
+                let case = Case { tables: *tables, record: record.to_vec() };
+                let small = shrink(case, |case| differs_so(case, pair));
+                println!("a difference, made as small as it goes:");
+                show_case(&small);
+                show_command(&small);
+            }
+        }
+        judged += 1;
+        if judged % RECORDS_BETWEEN_CLEARS == 0 {
+            differences += check_clear(tables);
+        }
+        expected.tables
+    });
+    print!("{histogram}");
+    println!("tables cleared: {cleared}");
+    differences
+}
+
+fn clears(tables: &Stored) -> bool {
+    library::clear(tables) == fresh_bytes()
+}
+
+fn outcomes(case: &Case) -> (Outcome, Outcome) {
+    (judge(&case.tables, &case.record), library::judge(&case.tables, &case.record))
+}
+
+/// Whether the case differs with just these two answers.
+fn differs_so(case: &Case, pair: (u8, u8)) -> bool {
+    let (expected, found) = outcomes(case);
+    (expected.answer, found.answer) == pair && !same(&expected, &found)
+}
+
+fn show_case(case: &Case) {
+    let (expected, found) = outcomes(case);
+    println!("{}", case.line());
+    println!("  model:   {}", describe(&expected, &case.tables));
+    println!("  library: {}", describe(&found, &case.tables));
+    if let Some(place) = first_change(&expected.tables, &found.tables) {
+        println!("  the tables afterwards differ first at {}", field(place));
+    }
+}
+
+fn show_command(case: &Case) {
+    let program = std::env::args().next().unwrap_or("compare".into());
+    println!("  to replay: {program} --replay {}", case.line());
+}
+
+/// One case, with fresh tables and the clear button beside it.
+fn replay(case: &Case) -> u64 {
+    show_case(case);
+    let (expected, found) = outcomes(case);
+    let mut differences = u64::from(!same(&expected, &found));
+    if let Some(place) = first_change(&library::fresh(), &fresh_bytes()) {
+        println!("  fresh tables differ at {}", field(place));
+        differences += 1;
+    }
+    if let Some(place) = first_change(&library::clear(&case.tables), &fresh_bytes()) {
+        println!("  the clear button leaves {}", field(place));
+        differences += 1;
+    }
+    differences
+}

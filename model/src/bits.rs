@@ -1,0 +1,89 @@
+//! Fields packed most significant bit first.
+
+/// Takes fields off the front of some bytes.
+pub struct Fields<'a> {
+    bytes: &'a [u8],
+    place: usize,
+}
+
+impl<'a> Fields<'a> {
+    pub fn new(bytes: &'a [u8]) -> Self {
+        Fields { bytes, place: 0 }
+    }
+
+    /// The next `width` bits (at most 128) as a number.
+    pub fn take(&mut self, width: usize) -> u128 {
+        let mut value = 0;
+        let mut wanted = width;
+        while wanted > 0 {
+            let left_in_byte = 8 - self.place % 8;
+            let now = wanted.min(left_in_byte);
+            let byte = self.bytes[self.place / 8] as u128;
+            let piece = (byte >> (left_in_byte - now)) & ((1 << now) - 1);
+            value = value << now | piece;
+            self.place += now;
+            wanted -= now;
+        }
+        value
+    }
+
+    pub fn flag(&mut self) -> bool {
+        self.take(1) == 1
+    }
+}
+
+/// Puts fields one behind the other.
+#[derive(Default)]
+pub struct Packer {
+    bytes: Vec<u8>,
+    place: usize,
+}
+
+impl Packer {
+    pub fn new() -> Self {
+        Packer::default()
+    }
+
+    /// Appends the low `width` bits of `value`.
+    pub fn put(mut self, value: u128, width: usize) -> Self {
+        for shift in (0..width).rev() {
+            if self.place.is_multiple_of(8) {
+                self.bytes.push(0);
+            }
+            let bit = (value >> shift & 1) as u8;
+            self.bytes[self.place / 8] |= bit << (7 - self.place % 8);
+            self.place += 1;
+        }
+        self
+    }
+
+    pub fn bytes(self) -> Vec<u8> {
+        self.bytes
+    }
+}
+
+#[cfg(test)]
+mod tests {
+    use super::*;
+
+    #[test]
+    fn fields_come_out_as_they_went_in() {
+        let fields = [(5, 3), (1, 1), (42, 6), (0, 6), (0xBEEF, 16), (u128::MAX - 7, 128), (3, 2), (9, 6)];
+        let mut packer = Packer::new();
+        for (value, width) in fields {
+            packer = packer.put(value, width);
+        }
+        let bytes = packer.bytes();
+        assert_eq!(bytes.len(), 21);
+        let mut reader = Fields::new(&bytes);
+        for (value, width) in fields {
+            assert_eq!(reader.take(width), value);
+        }
+    }
+
+    #[test]
+    fn the_first_field_is_at_the_top() {
+        assert_eq!(Packer::new().put(1, 3).put(0, 1).put(8, 6).put(0, 6).bytes(), [0x22, 0x00]);
+        assert_eq!(Fields::new(&[0xA2]).take(3), 5);
+    }
+}

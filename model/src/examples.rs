@@ -1,0 +1,251 @@
+//! Cases with expectations worked out by hand.
+
+use crate::directory::set_bit;
+use crate::hex;
+use crate::record::{compose, device_owner_body, target_body, Verb};
+use crate::tables::{fresh_bytes, CREDENTIAL_COUNT};
+use crate::tables::{Access, Connection, Credential, Row, State, Stored, Subject, Tables, Uuid, Wildcards};
+
+/// A record, the tables before it, and what is to come of it.
+pub struct Example {
+    pub name: &'static str,
+    pub tables: Stored,
+    pub record: Vec<u8>,
+    pub answer: u8,
+    pub permission: u8,
+}
+
+/// The UUID of sixteen equal bytes.
+pub fn uuid(byte: u8) -> Uuid {
+    Uuid::new(u128::from_be_bytes([byte; 16])).expect("not nil")
+}
+
+pub fn credential(number: u16, subject: Uuid) -> Credential {
+    Credential { number, subject, role: None, kind: 4 }
+}
+
+pub fn access(number: u16, subject: Subject, permission: u8, wildcards: u8, resources: &[u8]) -> Access {
+    Access {
+        number,
+        subject,
+        permission,
+        wildcards: Wildcards::from_number(wildcards),
+        set: resources.iter().fold(0, |set, &number| set | set_bit(number)),
+    }
+}
+
+pub const ANON: Subject = Subject::Connection(Connection::AnonClear);
+pub const AUTH: Subject = Subject::Connection(Connection::AuthCrypt);
+
+/// Owned by sixteen `11`, whose credential is row 5.
+pub fn owned(state: State) -> Tables {
+    Tables { state, device_owner: Some(uuid(0x11)), credentials: vec![credential(5, uuid(0x11))], ..Tables::fresh() }
+}
+
+fn with_access(state: State, accesses: Vec<Access>) -> Tables {
+    Tables { accesses, ..owned(state) }
+}
+
+/// One for each refusal, in order.
+pub fn refusals() -> Vec<Example> {
+    let fresh = fresh_bytes();
+    let mut claims_25 = fresh;
+    claims_25[CREDENTIAL_COUNT] = 25;
+    let full =
+        Tables { credentials: (1..=24).map(|number| credential(number, uuid(0x22))).collect(), ..Tables::fresh() };
+    let eleven = "11".repeat(16);
+    let rows: [(Stored, String); 14] = [
+        (claims_25, "22 00 00 00".into()),
+        (fresh, "40 80 00".into()),
+        (fresh, "A2 00 00 00".into()),
+        (fresh, "22 01 00 00".into()),
+        (fresh, "22 00 00 05".into()),
+        (fresh, "21 40 00 00".into()),
+        (fresh, "32 00 00 09".into()),
+        (fresh, "22 00 00 00".into()),
+        (fresh, "00 C0 00 00".into()),
+        (fresh, "40 40 00 00 A0".into()),
+        (owned(State::Rfpro).bytes(), format!("50 00 00 05 80 {eleven}")),
+        (fresh, "40 40 00 00 60".into()),
+        (fresh, "60 80 00 00 00 05".into()),
+        (full.bytes(), format!("40 80 00 00 00 19 {eleven} 00 00 04")),
+    ];
+    (1..)
+        .zip(rows)
+        .map(|(answer, (tables, record))| Example {
+            name: "refusal",
+            tables,
+            record: hex::literal(&record),
+            answer,
+            permission: 0,
+        })
+        .collect()
+}
+
+/// The readings that are wrong, each with the right answer.
+pub fn wrong_readings() -> Vec<Example> {
+    let mut examples = Vec::new();
+    let mut add = |name, tables: &Tables, record, answer, permission| {
+        examples.push(Example { name, tables: tables.bytes(), record, answer, permission });
+    };
+
+    let two = with_access(State::Rfnop, vec![access(1, ANON, 1, 0, &[8]), access(2, ANON, 4, 0, &[8])]);
+    add("rows unite", &two, compose(Verb::Update, 8, 0, &[]), 0, 5);
+    add("rows unite", &two, compose(Verb::Create, 8, 0, &[]), 0, 5);
+    add("rows unite", &two, compose(Verb::Retrieve, 8, 0, &[]), 8, 0);
+
+    for wildcards in 1..8 {
+        let mut wild =
+            with_access(State::Rfnop, vec![access(1, AUTH, 31, wildcards, &[]), access(2, ANON, 31, wildcards, &[])]);
+        wild.credentials.push(credential(6, uuid(0x66)));
+        for resource in 0..4 {
+            for sender in [0, 6] {
+                add("no wildcard on security", &wild, compose(Verb::Retrieve, resource, sender, &[]), 8, 0);
+            }
+        }
+    }
+
+    for state in State::ALL {
+        let ownerless = owned(state);
+        for resource in 0..4 {
+            add("nil fits nobody", &ownerless, compose(Verb::Retrieve, resource, 0, &[]), 8, 0);
+        }
+    }
+
+    let auth = with_access(State::Rfnop, vec![access(1, AUTH, 2, 0, &[8])]);
+    add("auth-crypt is not anon-clear", &auth, compose(Verb::Retrieve, 8, 0, &[]), 8, 0);
+    add("auth-crypt is not anon-clear", &auth, compose(Verb::Retrieve, 8, 5, &[]), 0, 2);
+    let anon = with_access(State::Rfnop, vec![access(1, ANON, 2, 0, &[8])]);
+    add("anon-clear is not auth-crypt", &anon, compose(Verb::Retrieve, 8, 0, &[]), 0, 2);
+    add("anon-clear is not auth-crypt", &anon, compose(Verb::Retrieve, 8, 5, &[]), 8, 0);
+
+    let taken = owned(State::Rfpro);
+    add("permission before body", &taken, compose(Verb::Update, 1, 0, &[0xA0]), 8, 0);
+    add("permission before body", &taken, compose(Verb::Update, 1, 5, &[0xA0]), 10, 0);
+
+    for state in State::ALL {
+        let target = target_body(state as u8);
+        add("no move to the same state", &owned(state), compose(Verb::Update, 1, 5, &target), 12, 0);
+    }
+    examples
+}
+
+/// Cases that the paper leaves open and a decision settles.
+pub fn decided() -> Vec<Example> {
+    let mut examples = Vec::new();
+    let mut add = |name, tables: &Tables, record, answer, permission| {
+        examples.push(Example { name, tables: tables.bytes(), record, answer, permission });
+    };
+    let fresh = Tables::fresh();
+
+    add("SRESET keeps an owner", &owned(State::Sreset), compose(Verb::Update, 0, 5, &device_owner_body(None)), 11, 0);
+    let other = device_owner_body(Some(uuid(0x77)));
+    add("SRESET takes another owner", &owned(State::Sreset), compose(Verb::Update, 0, 5, &other), 0, 31);
+    add("RFPRO needs an owner", &fresh, compose(Verb::Update, 1, 0, &target_body(2)), 12, 0);
+    add("no body to a read", &fresh, compose(Verb::Retrieve, 0, 0, &[0]), 10, 0);
+    add("no body to a read", &fresh, compose(Verb::Observe, 3, 0, &[0; 16]), 10, 0);
+    for state in [State::Rfotm, State::Rfpro, State::Sreset] {
+        let open = with_access(state, vec![access(1, ANON, 31, 1, &[])]);
+        let closed = with_access(state, vec![]);
+        for body in [&[][..], &[1, 2, 3]] {
+            add("served in RFNOP only", &open, compose(Verb::Update, 8, 0, body), 11, 0);
+            add("served in RFNOP only", &closed, compose(Verb::Update, 8, 0, body), 8, 0);
+        }
+    }
+    add("unknown partner", &fresh, compose(Verb::Retrieve, 0, 9, &[]), 7, 0);
+    add("partner 0", &fresh, hex::literal("30 00 00 00"), 5, 0);
+    add("row 0", &fresh, compose(Verb::Delete, 2, 0, &[0, 0]), 10, 0);
+    add("delete all of none", &fresh, compose(Verb::Delete, 2, 0, &[]), 0, 31);
+    add("delete all of none", &fresh, compose(Verb::Delete, 3, 0, &[]), 0, 31);
+
+    let credentials = (1..=24).map(|number| credential(number, uuid(0x22))).collect();
+    let accesses = (1..=32).map(|number| access(number, ANON, 1, 1, &[])).collect();
+    let full = Tables { credentials, accesses, ..fresh };
+    add(
+        "a held number in a full table",
+        &full,
+        compose(Verb::Update, 2, 0, &credential(24, uuid(0x33)).bytes()),
+        0,
+        31,
+    );
+    add(
+        "a held number in a full table",
+        &full,
+        compose(Verb::Update, 3, 0, &access(1, AUTH, 9, 2, &[3]).bytes()),
+        0,
+        31,
+    );
+    add(
+        "a new number in a full table",
+        &full,
+        compose(Verb::Update, 3, 0, &access(33, AUTH, 9, 2, &[3]).bytes()),
+        14,
+        0,
+    );
+    examples
+}
+
+/// The run of the paper, and its text.
+pub fn worked_run() -> Vec<u8> {
+    let eleven = "11".repeat(16);
+    hex::literal(&format!(
+        "0019 40800000 0005 {eleven} 0000 04
+         0015 40000000 80 {eleven}
+         0005 40400000 40
+         0005 50400005 40
+         0005 50400005 40"
+    ))
+}
+
+pub const WORKED_TEXT: &str = "\
+n answer perm state
+1 0 31 1
+2 0 31 1
+3 8 0 1
+4 0 31 2
+5 12 0 2
+";
+
+/// All of them.
+pub fn all() -> Vec<Example> {
+    let mut examples = refusals();
+    examples.extend(wrong_readings());
+    examples.extend(decided());
+    examples
+}
+
+#[cfg(test)]
+mod tests {
+    use super::*;
+    use crate::rules::judge;
+
+    fn check(examples: Vec<Example>) {
+        for example in examples {
+            let outcome = judge(&example.tables, &example.record);
+            let shown = format!("{}: {}", example.name, hex::write(&example.record));
+            assert_eq!(outcome.answer, example.answer, "{shown}");
+            assert_eq!(outcome.permission, example.permission, "{shown}");
+            if outcome.answer != 0 {
+                assert_eq!(outcome.payload, 0..0, "{shown}");
+                assert_eq!(outcome.tables, example.tables, "{shown}");
+            }
+        }
+    }
+
+    #[test]
+    fn fourteen_refusals() {
+        let examples = refusals();
+        assert_eq!(examples.len(), 14);
+        check(examples);
+    }
+
+    #[test]
+    fn readings_to_guard_against() {
+        check(wrong_readings());
+    }
+
+    #[test]
+    fn open_places_as_decided() {
+        check(decided());
+    }
+}

@@ -1,0 +1,768 @@
+//! Random tables and records. The same seed gives the same ones.
+
+use crate::directory::{self, DIRECTORY};
+use crate::examples;
+use crate::random::Random;
+use crate::record::{compose, device_owner_body, target_body, Header, Verb, HEADER, LONGEST};
+use crate::rules::{effective_permission, judge, Sender};
+use crate::run::LONGEST_RUN;
+use crate::spoil;
+use crate::systematic;
+use crate::tables::{
+    fresh_bytes, uuid_bytes, Access, Connection, Credential, Row, State, Stored, Subject, Tables, Uuid, Wildcards, SIZE,
+};
+
+// Values from small pools, so that they meet again, and near misses of them.
+
+const SUBJECTS: [u128; 8] = [
+    0x1111_1111_1111_1111_1111_1111_1111_1111,
+    0x2222_2222_2222_2222_2222_2222_2222_2222,
+    0x3333_3333_3333_3333_3333_3333_3333_3333,
+    0x1111_1111_1111_1111_1111_1111_1111_1110,
+    0x0111_1111_1111_1111_1111_1111_1111_1111,
+    0x0000_0000_0000_0000_0000_0000_0000_0001,
+    0x8000_0000_0000_0000_0000_0000_0000_0000,
+    0x0000_0000_0000_0000_0001_0000_0000_0000,
+];
+const ROLES: [u16; 6] = [1, 7, 0x0700, 0x0100, 0x8000, 0xFFFF];
+const NUMBERS: [u16; 8] = [5, 0x0500, 0x0001, 0x0100, 0x0101, 0x8000, 0xFF00, 0xFFFF];
+
+pub fn uuid(random: &mut Random) -> Uuid {
+    let value = match random.below(20) {
+        0 => u128::from(random.next()) << 64 | u128::from(random.next()),
+        1 => SUBJECTS[0] ^ 1 << random.below(128),
+        2..=13 => random.pick(&SUBJECTS[..3]),
+        _ => random.pick(&SUBJECTS),
+    };
+    Uuid::new(value).unwrap_or(Uuid::MIN)
+}
+
+fn maybe_uuid(random: &mut Random) -> Option<Uuid> {
+    random.chance(60).then(|| uuid(random))
+}
+
+fn role(random: &mut Random) -> u16 {
+    if random.chance(95) {
+        random.pick(&ROLES)
+    } else {
+        random.between(1, 0xFFFF) as u16
+    }
+}
+
+/// A row number, never 0.
+fn number(random: &mut Random) -> u16 {
+    match random.below(10) {
+        0 => random.between(1, 0xFFFF) as u16,
+        1 | 2 => random.pick(&NUMBERS),
+        _ => random.between(1, 48) as u16,
+    }
+}
+
+fn number_beside(random: &mut Random, held: &[u16]) -> u16 {
+    loop {
+        let drawn = number(random);
+        if !held.contains(&drawn) {
+            return drawn;
+        }
+    }
+}
+
+/// A credential row with a number that none of `held` is.
+pub fn credential(random: &mut Random, held: &[u16]) -> Credential {
+    Credential {
+        number: number_beside(random, held),
+        subject: uuid(random),
+        role: random.chance(50).then(|| role(random)),
+        kind: random.pick(&[0, 1, 2, 4, 8, 16, 32]),
+    }
+}
+
+/// An access row with a number that none of `held` is.
+pub fn access(random: &mut Random, held: &[u16]) -> Access {
+    let subject = match random.below(10) {
+        0..=3 => Subject::Uuid(uuid(random)),
+        4..=6 => Subject::Role(role(random)),
+        7 => Subject::Connection(Connection::AnonClear),
+        _ => Subject::Connection(Connection::AuthCrypt),
+    };
+    let permission = match random.below(10) {
+        0 => 0,
+        1 | 2 => 31,
+        3..=5 => 1 << random.below(5),
+        _ => random.below(32) as u8,
+    };
+    let wildcards = if random.chance(55) { 0 } else { random.below(8) as u8 };
+    let set = match random.below(10) {
+        0 | 1 => 0,
+        2..=5 => DIRECTORY[random.below(DIRECTORY.len())].bit(),
+        6 => directory::known(),
+        _ => directory::known() & random.next(),
+    };
+    Access {
+        number: number_beside(random, held),
+        subject,
+        permission,
+        wildcards: Wildcards::from_number(wildcards),
+        set,
+    }
+}
+
+/// How many rows a table gets.
+#[derive(Clone, Copy)]
+enum Fill {
+    Few,
+    Any,
+    NearFull,
+    Full,
+}
+
+impl Fill {
+    fn rows(self, random: &mut Random, capacity: usize) -> usize {
+        match self {
+            Fill::Few => random.between(0, 5),
+            Fill::Any => random.between(0, capacity),
+            Fill::NearFull => random.between(capacity - 3, capacity),
+            Fill::Full => capacity,
+        }
+    }
+}
+
+fn sound(random: &mut Random, fill: Fill) -> Tables {
+    let state = random.weighted(&[(25, State::Rfotm), (28, State::Rfpro), (27, State::Rfnop), (20, State::Sreset)]);
+    let mut tables = Tables::fresh();
+    tables.state = state;
+    for _ in 0..fill.rows(random, Credential::CAPACITY) {
+        let held: Vec<u16> = tables.credentials.iter().map(Row::number).collect();
+        tables.credentials.push(credential(random, &held));
+    }
+    let rows = match random.below(3) {
+        0 => fill.rows(random, Access::CAPACITY).min(6),
+        _ => fill.rows(random, Access::CAPACITY),
+    };
+    for _ in 0..rows {
+        let held: Vec<u16> = tables.accesses.iter().map(Row::number).collect();
+        tables.accesses.push(access(random, &held));
+    }
+    if state != State::Rfotm || random.chance(60) {
+        // Mostly somebody who holds a credential.
+        let owner = if tables.credentials.is_empty() || random.chance(10) {
+            uuid(random)
+        } else {
+            tables.credentials[random.below(tables.credentials.len())].subject
+        };
+        tables.device_owner = Some(owner);
+    }
+    for owner in &mut tables.row_owners {
+        *owner = maybe_uuid(random);
+    }
+    tables
+}
+
+/// Sound tables of any kind.
+pub fn any_sound(random: &mut Random) -> Tables {
+    let fill = random.weighted(&[(50, Fill::Few), (25, Fill::Any), (12, Fill::NearFull), (13, Fill::Full)]);
+    sound(random, fill)
+}
+
+/// Sound tables with 24 and up to 32 rows.
+pub fn full_sound(random: &mut Random) -> Tables {
+    sound(random, Fill::Full)
+}
+
+/// Bytes that make sound tables only by chance.
+pub fn noise(random: &mut Random) -> Stored {
+    let mut stored = [0; SIZE];
+    stored.fill_with(|| random.byte());
+    stored
+}
+
+/// Tables of any content.
+pub fn any_bytes(random: &mut Random) -> Stored {
+    let mut stored = any_sound(random).bytes();
+    match random.below(4) {
+        0 => {}
+        1 => spoil::spoil_tables(&mut stored, random),
+        2 => {
+            for _ in 0..random.between(2, 5) {
+                spoil::spoil_tables(&mut stored, random);
+            }
+        }
+        _ => return noise(random),
+    }
+    stored
+}
+
+/// How records are chosen.
+#[derive(Clone, Copy, Debug, PartialEq, Eq)]
+pub enum Style {
+    /// Sets up, provisions, operates and resets, mostly permitted.
+    Purposeful,
+    /// Anything that a sender might try.
+    Mixed,
+    /// Mixed, and every second record damaged.
+    Damaged,
+    /// Bytes without sense.
+    Noise,
+}
+
+/// Tables to start from and how many records follow in which style.
+pub struct Session {
+    pub tables: Stored,
+    pub style: Style,
+    pub records: usize,
+}
+
+pub fn session(random: &mut Random) -> Session {
+    #[derive(Clone, Copy)]
+    enum Start {
+        Fresh,
+        Sound(Fill),
+        Unsound,
+        SeveralFaults,
+        FlippedBit,
+        Noise,
+    }
+    let start = random.weighted(&[
+        (22, Start::Fresh),
+        (18, Start::Sound(Fill::Few)),
+        (8, Start::Sound(Fill::Any)),
+        (9, Start::Sound(Fill::NearFull)),
+        (9, Start::Sound(Fill::Full)),
+        (16, Start::Unsound),
+        (6, Start::SeveralFaults),
+        (10, Start::FlippedBit),
+        (2, Start::Noise),
+    ]);
+    let long = random.between(10, 120);
+    let (tables, records) = match start {
+        Start::Fresh => (fresh_bytes(), long),
+        Start::Sound(fill) => (sound(random, fill).bytes(), long),
+        Start::Unsound => {
+            let mut stored = any_sound(random).bytes();
+            spoil::spoil_tables(&mut stored, random);
+            (stored, random.between(1, 20))
+        }
+        Start::SeveralFaults => {
+            let mut stored = any_sound(random).bytes();
+            for _ in 0..random.between(2, 5) {
+                spoil::spoil_tables(&mut stored, random);
+            }
+            (stored, random.between(1, 10))
+        }
+        Start::FlippedBit => {
+            let mut stored = any_sound(random).bytes();
+            spoil::flip_table_bit(&mut stored, random);
+            (stored, random.between(1, 12))
+        }
+        Start::Noise => (noise(random), random.between(1, 4)),
+    };
+    let style =
+        random.weighted(&[(40, Style::Purposeful), (40, Style::Mixed), (15, Style::Damaged), (5, Style::Noise)]);
+    Session { tables, style, records }
+}
+
+/// The next record, made with the present tables in view.
+pub fn record(random: &mut Random, style: Style, present: &Stored) -> Vec<u8> {
+    let tables = Tables::read(present).unwrap_or_else(|_| Tables::fresh());
+    match style {
+        Style::Purposeful => {
+            let mut wish = purposeful(random, &tables);
+            for _ in 0..6 {
+                if wish.permitted(&tables).is_empty() {
+                    wish = purposeful(random, &tables);
+                }
+            }
+            wish.sent(random, &tables, 95)
+        }
+        Style::Mixed => {
+            let mut record = mixed(random, &tables);
+            if random.chance(4) {
+                spoil::damage(&mut record, random);
+            }
+            record
+        }
+        Style::Damaged => {
+            let mut record = mixed(random, &tables);
+            while random.chance(50) {
+                spoil::damage(&mut record, random);
+            }
+            record
+        }
+        Style::Noise => {
+            let length = if random.chance(90) { random.between(0, 40) } else { random.between(0, 300) };
+            let mut record = random.bytes(length);
+            // Half of them with a header that gets past the first checks.
+            if length >= HEADER && random.chance(50) {
+                let verb = random.below(5) as u8;
+                let resource = DIRECTORY[random.below(DIRECTORY.len())].number;
+                let header = Header { verb, connection: Connection::AnonClear, resource, zeros: 0, credential: 0 };
+                record[..HEADER].copy_from_slice(&header.with_body(&[]));
+            }
+            record
+        }
+    }
+}
+
+/// A record without its sender.
+struct Wish {
+    verb: Verb,
+    resource: u8,
+    body: Vec<u8>,
+}
+
+impl Wish {
+    fn new(verb: Verb, resource: u8, body: Vec<u8>) -> Wish {
+        Wish { verb, resource, body }
+    }
+
+    /// The senders with the permission for it.
+    fn permitted(&self, tables: &Tables) -> Vec<u16> {
+        let Some(resource) = directory::find(self.resource) else {
+            return Vec::new();
+        };
+        let may = |sender| effective_permission(tables, sender, resource) & self.verb.needs() != 0;
+        let anon = may(Sender::Unauthenticated).then_some(0);
+        let partners = tables.credentials.iter().filter(|row| may(Sender::Partner(row))).map(Row::number);
+        anon.into_iter().chain(partners).collect()
+    }
+
+    /// From a permitted sender in so many of a hundred cases, if there is one.
+    fn sent(&self, random: &mut Random, tables: &Tables, percent: usize) -> Vec<u8> {
+        let permitted = self.permitted(tables);
+        let sender = if !permitted.is_empty() && random.chance(percent) {
+            random.pick(&permitted)
+        } else {
+            any_sender(random, tables)
+        };
+        compose(self.verb, self.resource, sender, &self.body)
+    }
+}
+
+fn any_sender(random: &mut Random, tables: &Tables) -> u16 {
+    if tables.credentials.is_empty() || random.chance(25) {
+        return if random.chance(85) { 0 } else { number(random) };
+    }
+    if random.chance(7) {
+        return number(random);
+    }
+    tables.credentials[random.below(tables.credentials.len())].number
+}
+
+/// The subject of a credential row, so that the new owner can act.
+fn held_subject(random: &mut Random, tables: &Tables) -> Uuid {
+    if tables.credentials.is_empty() || random.chance(5) {
+        uuid(random)
+    } else {
+        tables.credentials[random.below(tables.credentials.len())].subject
+    }
+}
+
+fn target(state: u8) -> Wish {
+    Wish::new(Verb::Update, 1, target_body(state))
+}
+
+fn store_credential(random: &mut Random, tables: &Tables) -> Wish {
+    let mut row = credential(random, &[]);
+    if !tables.credentials.is_empty() && random.chance(25) {
+        let held = &tables.credentials[random.below(tables.credentials.len())];
+        row.number = held.number;
+        // An owner without a credential is the end of most runs.
+        if Some(held.subject) == tables.device_owner && random.chance(85) {
+            row.subject = held.subject;
+        }
+    }
+    Wish::new(Verb::Update, 2, row.bytes())
+}
+
+fn store_access(random: &mut Random, tables: &Tables) -> Wish {
+    let mut row = access(random, &[]);
+    if !tables.accesses.is_empty() && random.chance(20) {
+        row.number = tables.accesses[random.below(tables.accesses.len())].number;
+    }
+    Wish::new(Verb::Update, 3, row.bytes())
+}
+
+fn delete_row(random: &mut Random, tables: &Tables, held_percent: usize) -> Wish {
+    let (resource, held): (u8, Vec<u16>) = if random.chance(50) {
+        let spare_owner = random.chance(85);
+        let others = tables.credentials.iter().filter(|row| !spare_owner || Some(row.subject) != tables.device_owner);
+        (2, others.map(Row::number).collect())
+    } else {
+        (3, tables.accesses.iter().map(Row::number).collect())
+    };
+    let row = if !held.is_empty() && random.chance(held_percent) { random.pick(&held) } else { number(random) };
+    Wish::new(Verb::Delete, resource, row.to_be_bytes().to_vec())
+}
+
+fn delete_all(random: &mut Random) -> Wish {
+    Wish::new(Verb::Delete, random.pick(&[2, 3]), Vec::new())
+}
+
+fn set_row_owner(random: &mut Random, owner: Option<Uuid>) -> Wish {
+    Wish::new(Verb::Update, random.below(4) as u8, uuid_bytes(owner).to_vec())
+}
+
+fn set_device_owner(owner: Option<Uuid>) -> Wish {
+    Wish::new(Verb::Update, 0, device_owner_body(owner))
+}
+
+fn read_security(random: &mut Random) -> Wish {
+    Wish::new(random.pick(&[Verb::Retrieve, Verb::Observe]), random.below(4) as u8, Vec::new())
+}
+
+fn application(random: &mut Random) -> Wish {
+    let length = match random.below(20) {
+        0 => random.between(0, LONGEST - HEADER),
+        1 => LONGEST - HEADER,
+        2..=6 => 0,
+        _ => random.between(1, 24),
+    };
+    Wish::new(random.pick(&Verb::ALL), random.between(8, 14) as u8, random.bytes(length))
+}
+
+/// The next step of somebody who sets the terminal up and uses it.
+fn purposeful(random: &mut Random, tables: &Tables) -> Wish {
+    #[derive(Clone, Copy)]
+    enum Step {
+        Credential,
+        Access,
+        DeleteRow,
+        DeleteAll,
+        RowOwner,
+        Claim,
+        GiveUp,
+        Read,
+        Use,
+        Target(u8),
+    }
+    use Step::*;
+    // Now and then out of place.
+    if random.chance(4) {
+        return match random.below(4) {
+            0 => store_credential(random, tables),
+            1 => store_access(random, tables),
+            2 => delete_row(random, tables, 30),
+            _ => target(random.between(1, 4) as u8),
+        };
+    }
+    let steps: &[(usize, Step)] = match tables.state {
+        State::Rfotm if tables.credentials.is_empty() => &[(8, Credential), (1, Access), (1, Read)],
+        State::Rfotm if !tables.owned() => {
+            &[(25, Credential), (20, Access), (20, Claim), (15, RowOwner), (4, DeleteRow), (4, Read), (2, Target(0))]
+        }
+        State::Rfotm => &[
+            (20, Credential),
+            (20, Access),
+            (15, RowOwner),
+            (5, Claim),
+            (2, GiveUp),
+            (4, DeleteRow),
+            (4, Read),
+            (25, Target(2)),
+            (1, Target(0)),
+        ],
+        State::Rfpro => &[
+            (30, Credential),
+            (35, Access),
+            (12, DeleteRow),
+            (1, DeleteAll),
+            (6, Read),
+            (9, Target(3)),
+            (3, Target(4)),
+            (1, Target(0)),
+        ],
+        State::Rfnop => &[(85, Use), (9, Read), (4, Target(2)), (2, Target(4)), (1, Target(0))],
+        State::Sreset => &[
+            (15, RowOwner),
+            (12, Claim),
+            (10, Credential),
+            (10, Access),
+            (6, DeleteRow),
+            (2, DeleteAll),
+            (5, Read),
+            (20, Target(2)),
+            (2, Target(0)),
+        ],
+    };
+    match random.weighted(steps) {
+        Credential => store_credential(random, tables),
+        Access => store_access(random, tables),
+        DeleteRow => delete_row(random, tables, 90),
+        DeleteAll => delete_all(random),
+        RowOwner => {
+            let owner = random.chance(80).then(|| held_subject(random, tables));
+            set_row_owner(random, owner)
+        }
+        Claim => set_device_owner(Some(held_subject(random, tables))),
+        GiveUp => set_device_owner(None),
+        Read => read_security(random),
+        Use => {
+            let mut wish = application(random);
+            for _ in 0..12 {
+                if wish.permitted(tables).is_empty() {
+                    wish = application(random);
+                }
+            }
+            wish
+        }
+        Target(state) => target(state),
+    }
+}
+
+/// Any record at all, some of them forbidden in one place.
+fn mixed(random: &mut Random, tables: &Tables) -> Vec<u8> {
+    let mut wish = match random.weighted(&[
+        (if tables.state == State::Rfnop { 30 } else { 10 }, 0),
+        (10, 1),
+        (if tables.credentials.len() == Credential::CAPACITY { 30 } else { 14 }, 2),
+        (if tables.accesses.len() == Access::CAPACITY { 30 } else { 14 }, 3),
+        (12, 4),
+        (1, 5),
+        (6, 6),
+        (6, 7),
+        (9, 8),
+        (8, 9),
+        (3, 10),
+    ]) {
+        0 => application(random),
+        1 => read_security(random),
+        2 => store_credential(random, tables),
+        3 => store_access(random, tables),
+        4 => delete_row(random, tables, 60),
+        5 => delete_all(random),
+        6 => {
+            let owner = maybe_uuid(random);
+            set_row_owner(random, owner)
+        }
+        7 => {
+            let owner = random.chance(75).then(|| held_subject(random, tables));
+            set_device_owner(owner)
+        }
+        8 => target(if random.chance(10) { 0 } else { random.between(1, 4) as u8 }),
+        9 => {
+            let length = random.pick(&[0, 1, 2, 16, 17, 21, 28]);
+            let body = if random.chance(50) { vec![0; length] } else { random.bytes(length) };
+            Wish::new(random.pick(&Verb::ALL), random.below(4) as u8, body)
+        }
+        _ => {
+            let resource = spoil::unknown_resource(random) as u8;
+            let length = random.below(30);
+            Wish::new(random.pick(&Verb::ALL), resource, random.bytes(length))
+        }
+    };
+    if random.chance(8) {
+        spoil::spoil_body(&mut wish.body, random);
+    }
+    let mut record = wish.sent(random, tables, 70);
+    // Headers that are wrong in one place.
+    match random.below(60) {
+        0 => record[0] |= 0xA0,
+        1 => record[1] |= 1 << random.below(6),
+        2 => record[0] ^= 0x10,
+        3 => record[2..4].fill(0),
+        _ => {}
+    }
+    record
+}
+
+/// Where a case comes from.
+#[derive(Clone, Copy, Debug, PartialEq, Eq)]
+pub enum Part {
+    Systematic(&'static str),
+    Random(Style),
+}
+
+/// Shows `records` cases to `visit`: first the systematic ones, then random
+/// sessions. `visit` gives the tables afterwards.
+pub fn walk(seed: u64, records: u64, mut visit: impl FnMut(Part, &Stored, &[u8]) -> Stored) {
+    let left = walk_groups(seed, records, &mut visit);
+    walk_sessions(seed, left, &mut visit);
+}
+
+/// The systematic cases, up to `records`; gives how many are left.
+fn walk_groups(seed: u64, records: u64, visit: &mut impl FnMut(Part, &Stored, &[u8]) -> Stored) -> u64 {
+    let mut left = records;
+    for group in systematic::groups(seed) {
+        for record in &group.records {
+            if left == 0 {
+                return 0;
+            }
+            left -= 1;
+            visit(Part::Systematic(group.name), &group.tables, record);
+        }
+    }
+    left
+}
+
+/// Random sessions, `left` records in all.
+fn walk_sessions(seed: u64, mut left: u64, visit: &mut impl FnMut(Part, &Stored, &[u8]) -> Stored) {
+    let mut random = Random::part(seed, 1);
+    while left > 0 {
+        let session = session(&mut random);
+        let mut tables = session.tables;
+        for _ in 0..left.min(session.records as u64) {
+            left -= 1;
+            let record = record(&mut random, session.style, &tables);
+            tables = visit(Part::Random(session.style), &tables, &record);
+        }
+    }
+}
+
+/// The input of one run; the first few are of a kind each.
+pub fn run_input(seed: u64, run: u64) -> Vec<u8> {
+    let mut random = Random::part(seed, 0x0100_0000 + run);
+    let random = &mut random;
+    let mut input = Vec::new();
+    match run {
+        0 => {}
+        1 => input.push(0),
+        2 => input = examples::worked_run(),
+        3 => input = vec![0; 2],
+        4 => input = vec![0; LONGEST_RUN],
+        5 => input = vec![0; LONGEST_RUN + 1000],
+        6 => input = vec![0xFF; LONGEST_RUN + 1000],
+        7 => input = vec![0, 4],
+        8 => {
+            // The longest length that is all there.
+            input = vec![0; LONGEST_RUN];
+            input[..2].copy_from_slice(&(LONGEST_RUN as u16 - 2).to_be_bytes());
+        }
+        9..=16 => {
+            // A record that ends at, before or behind the last byte that counts.
+            fill_run(random, &mut input, LONGEST_RUN - 2000);
+            let end = LONGEST_RUN + run as usize - 12;
+            let length = end - input.len() - 2;
+            append(&mut input, &vec![0; length]);
+            fill_run(random, &mut input, LONGEST_RUN + 300);
+        }
+        17..=24 => {
+            // Lengths around the two limits of a record.
+            for length in [0, 1, 2, 3, 4, 5, 255, 256, 257, 258, 300, 1000] {
+                let mut record = random.bytes(length);
+                if length >= HEADER {
+                    record[..HEADER].copy_from_slice(&[0x20, random.pick(&[0x00, 0x40, 0x80, 0xC0]), 0, 0]);
+                }
+                append(&mut input, &record);
+            }
+            input.truncate(input.len() - (run as usize - 17) * 150);
+        }
+        _ => {
+            let bytes = match random.below(20) {
+                0 => random.between(LONGEST_RUN - 2000, LONGEST_RUN + 3000),
+                1..=6 => random.between(2000, 8000),
+                _ => random.between(0, 2000),
+            };
+            fill_run(random, &mut input, bytes);
+            match random.below(8) {
+                0 => input.push(random.byte()),
+                1 => input.truncate(random.below(input.len() + 1)),
+                2 => {
+                    let length = random.between(1, 300);
+                    append(&mut input, &vec![0x40; length]);
+                    input.truncate(input.len() - random.between(1, length));
+                }
+                3 => input.extend(random.next().to_be_bytes()),
+                _ => {}
+            }
+        }
+    }
+    input
+}
+
+/// Appends records that make sense to the run so far, up to about this length.
+fn fill_run(random: &mut Random, input: &mut Vec<u8>, bytes: usize) {
+    let mut tables = fresh_bytes();
+    let style =
+        random.weighted(&[(60, Style::Purposeful), (25, Style::Mixed), (13, Style::Damaged), (2, Style::Noise)]);
+    while input.len() < bytes {
+        let record = match random.below(100) {
+            0 => Vec::new(),
+            1 => vec![0x22; random.between(257, 400)],
+            _ => record(random, style, &tables),
+        };
+        tables = judge(&tables, &record).tables;
+        append(input, &record);
+    }
+}
+
+fn append(input: &mut Vec<u8>, record: &[u8]) {
+    input.extend((record.len() as u16).to_be_bytes());
+    input.extend(record);
+}
+
+#[cfg(test)]
+mod tests {
+    use super::*;
+    use crate::histogram::Histogram;
+    use crate::run;
+
+    #[test]
+    fn every_answer_occurs_often() {
+        let mut systematic = Histogram::new();
+        walk_groups(1, u64::MAX, &mut |_, tables, record| {
+            let outcome = judge(tables, record);
+            systematic.add(record, &outcome);
+            outcome.tables
+        });
+        let mut random = Histogram::new();
+        walk_sessions(1, 40_000, &mut |_, tables, record| {
+            let outcome = judge(tables, record);
+            random.add(record, &outcome);
+            outcome.tables
+        });
+        for answer in 0..=14 {
+            assert!(systematic.answers[answer] >= 50, "systematic {answer}: {systematic}");
+            assert!(random.answers[answer] >= 200, "random {answer}: {random}");
+        }
+    }
+
+    #[test]
+    fn the_same_seed_gives_the_same() {
+        let digest = |seed| {
+            let mut sum = 0u64;
+            walk_sessions(seed, 5_000, &mut |_, tables, record| {
+                let outcome = judge(tables, record);
+                for &byte in record.iter().chain(&outcome.tables) {
+                    sum = sum.rotate_left(5).wrapping_add(byte.into());
+                }
+                outcome.tables
+            });
+            sum
+        };
+        assert_eq!(digest(7), digest(7));
+        assert_ne!(digest(7), digest(8));
+    }
+
+    #[test]
+    fn the_rules_keep_tables_sound() {
+        walk_sessions(2, 30_000, &mut |_, tables, record| {
+            let outcome = judge(tables, record);
+            assert_eq!(Tables::read(tables).is_ok(), Tables::read(&outcome.tables).is_ok());
+            outcome.tables
+        });
+    }
+
+    #[test]
+    fn exactly_so_many_records() {
+        for records in [0, 1, 40, 100_000] {
+            let mut seen = 0;
+            walk(3, records, |_, tables, _| {
+                seen += 1;
+                *tables
+            });
+            assert_eq!(seen, records);
+        }
+    }
+
+    #[test]
+    fn runs_of_every_kind() {
+        let texts: Vec<String> = (0..150).map(|run| run::text(&run_input(1, run))).collect();
+        assert!(texts.iter().filter(|text| text.ends_with("cut\n")).count() > 20);
+        assert!(texts.iter().filter(|text| !text.ends_with("cut\n")).count() > 60);
+        assert!((0..150).filter(|&run| run_input(1, run).len() > LONGEST_RUN).count() > 10);
+        for state in 1..=4 {
+            let line = format!(" {state}\n");
+            assert!(texts.iter().filter(|text| text.contains(&line)).count() > 20, "state {state}");
+        }
+    }
+}

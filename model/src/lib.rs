@@ -1,0 +1,26 @@
+//! A second model of the terminal's access rules, written from the scope paper
+//! alone, and the means to compare the proved library with it.
+
+#![forbid(unsafe_code)]
+
+// The rules.
+pub mod bits;
+pub mod directory;
+pub mod record;
+pub mod rules;
+pub mod run;
+pub mod tables;
+
+// What is put to them.
+pub mod examples;
+pub mod generate;
+pub mod random;
+pub mod spoil;
+pub mod systematic;
+pub mod vectors;
+
+// What the programs share.
+pub mod case;
+pub mod hex;
+pub mod histogram;
+pub mod options;

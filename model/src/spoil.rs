@@ -1,0 +1,323 @@
+//! Ways to break things: forbidden rows and bodies, tables that are not sound,
+//! damaged records.
+
+use crate::directory;
+use crate::random::Random;
+use crate::tables::{
+    Access, Credential, Row, Stored, ACCESSES, ACCESS_COUNT, CREDENTIALS, CREDENTIAL_COUNT, DEVICE_OWNER, OWNED, SIZE,
+    STATE,
+};
+
+/// A fault of a row: afterwards the row is forbidden, whatever it was.
+pub type RowFault = (&'static str, fn(&mut [u8], &mut Random));
+
+pub const CREDENTIAL_FAULTS: [RowFault; 4] = [
+    ("number 0", |row, _| row[..2].fill(0)),
+    ("nil subject", |row, _| row[2..18].fill(0)),
+    ("two bits of type", |row, random| {
+        let first = random.below(6);
+        let second = (first + random.between(1, 5)) % 6;
+        row[20] = 4 << first | 4 << second;
+    }),
+    ("zero bit", |row, random| row[20] |= 1 << random.below(2)),
+];
+
+pub const ACCESS_FAULTS: [RowFault; 8] = [
+    ("number 0", |row, _| row[..2].fill(0)),
+    ("subject kind 3", |row, _| row[2] |= 0xC0),
+    ("zero bit", |row, random| row[3] |= 1 << random.below(6)),
+    ("unknown resource", |row, random| {
+        let number = unknown_resource(random);
+        row[4 + number / 8] |= 0x80 >> (number % 8);
+    }),
+    ("nil subject", |row, _| {
+        set_kind(row, 0);
+        row[12..].fill(0);
+    }),
+    ("role 0", |row, _| {
+        set_kind(row, 1);
+        row[12..].fill(0);
+    }),
+    ("bit before the role", |row, random| {
+        set_kind(row, 1);
+        row[12..].fill(0);
+        row[27] = random.byte();
+        set_bit(&mut row[12..], random.below(112));
+    }),
+    ("bit before the connection", |row, random| {
+        set_kind(row, 2);
+        row[12..].fill(0);
+        row[27] = random.byte() & 1;
+        set_bit(&mut row[12..], random.below(127));
+    }),
+];
+
+fn set_kind(row: &mut [u8], kind: u8) {
+    row[2] = row[2] & 0x3F | kind << 6;
+}
+
+fn set_bit(bytes: &mut [u8], place: usize) {
+    bytes[place / 8] |= 0x80 >> (place % 8);
+}
+
+/// A number of 6 bits that no resource has.
+pub fn unknown_resource(random: &mut Random) -> usize {
+    loop {
+        let bound = random.pick(&[17, 64]);
+        let number = random.below(bound);
+        if directory::find(number as u8).is_none() {
+            return number;
+        }
+    }
+}
+
+/// A fault of tables. It says whether it could be made; sound tables are then
+/// sound no longer.
+pub type TableFault = (&'static str, fn(&mut Stored, &mut Random) -> bool);
+
+pub const TABLE_FAULTS: [TableFault; 18] = [
+    ("state 0", |stored, _| {
+        stored[STATE] = 0;
+        true
+    }),
+    ("state over 4", |stored, random| {
+        stored[STATE] = over(4, random);
+        true
+    }),
+    ("owned over 1", |stored, random| {
+        stored[OWNED] = over(1, random);
+        true
+    }),
+    ("not owned, with an owner", |stored, random| {
+        stored[STATE] = 1;
+        stored[OWNED] = 0;
+        stored[DEVICE_OWNER].fill(0);
+        set_bit(&mut stored[DEVICE_OWNER], random.below(128));
+        true
+    }),
+    ("owned by nil", |stored, _| {
+        stored[OWNED] = 1;
+        stored[DEVICE_OWNER].fill(0);
+        true
+    }),
+    ("not owned in a later state", |stored, random| {
+        stored[STATE] = random.between(2, 4) as u8;
+        stored[OWNED] = 0;
+        stored[DEVICE_OWNER].fill(0);
+        true
+    }),
+    ("over 24 credentials", |stored, random| {
+        stored[CREDENTIAL_COUNT] = over(24, random);
+        true
+    }),
+    ("over 32 accesses", |stored, random| {
+        stored[ACCESS_COUNT] = over(32, random);
+        true
+    }),
+    ("one credential too many", |stored, _| one_too_many::<Credential>(stored, CREDENTIAL_COUNT)),
+    ("one access too many", |stored, _| one_too_many::<Access>(stored, ACCESS_COUNT)),
+    ("one credential too few", |stored, _| one_too_few(stored, CREDENTIAL_COUNT)),
+    ("one access too few", |stored, _| one_too_few(stored, ACCESS_COUNT)),
+    ("byte behind the credentials", |stored, random| {
+        byte_behind::<Credential>(stored, random, CREDENTIAL_COUNT, CREDENTIALS.start)
+    }),
+    ("byte behind the accesses", |stored, random| byte_behind::<Access>(stored, random, ACCESS_COUNT, ACCESSES.start)),
+    ("credential number twice", |stored, random| {
+        number_twice::<Credential>(stored, random, CREDENTIAL_COUNT, CREDENTIALS.start)
+    }),
+    ("access number twice", |stored, random| number_twice::<Access>(stored, random, ACCESS_COUNT, ACCESSES.start)),
+    ("forbidden credential", |stored, random| {
+        let fault = random.pick(&CREDENTIAL_FAULTS);
+        spoil_row::<Credential>(stored, random, fault, CREDENTIAL_COUNT, CREDENTIALS.start)
+    }),
+    ("forbidden access", |stored, random| {
+        let fault = random.pick(&ACCESS_FAULTS);
+        spoil_row::<Access>(stored, random, fault, ACCESS_COUNT, ACCESSES.start)
+    }),
+];
+
+fn over(capacity: usize, random: &mut Random) -> u8 {
+    if random.chance(50) {
+        capacity as u8 + 1
+    } else {
+        random.between(capacity + 1, 255) as u8
+    }
+}
+
+fn one_too_many<R: Row>(stored: &mut Stored, count: usize) -> bool {
+    let possible = (stored[count] as usize) < R::CAPACITY;
+    if possible {
+        stored[count] += 1;
+    }
+    possible
+}
+
+fn one_too_few(stored: &mut Stored, count: usize) -> bool {
+    let possible = stored[count] > 0;
+    if possible {
+        stored[count] -= 1;
+    }
+    possible
+}
+
+fn byte_behind<R: Row>(stored: &mut Stored, random: &mut Random, count: usize, start: usize) -> bool {
+    let used = stored[count] as usize;
+    if used >= R::CAPACITY {
+        return false;
+    }
+    let place = random.between(start + used * R::LENGTH, start + R::CAPACITY * R::LENGTH - 1);
+    stored[place] = random.between(1, 255) as u8;
+    true
+}
+
+fn number_twice<R: Row>(stored: &mut Stored, random: &mut Random, count: usize, start: usize) -> bool {
+    let used = stored[count] as usize;
+    if !(2..=R::CAPACITY).contains(&used) {
+        return false;
+    }
+    let first = random.below(used);
+    let second = (first + random.between(1, used - 1)) % used;
+    let number = start + first * R::LENGTH;
+    stored.copy_within(number..number + 2, start + second * R::LENGTH);
+    true
+}
+
+fn spoil_row<R: Row>(stored: &mut Stored, random: &mut Random, fault: RowFault, count: usize, start: usize) -> bool {
+    let used = stored[count] as usize;
+    if !(1..=R::CAPACITY).contains(&used) {
+        return false;
+    }
+    let place = start + random.below(used) * R::LENGTH;
+    (fault.1)(&mut stored[place..place + R::LENGTH], random);
+    true
+}
+
+/// Any one fault that can be made.
+pub fn spoil_tables(stored: &mut Stored, random: &mut Random) {
+    loop {
+        let (_, fault) = random.pick(&TABLE_FAULTS);
+        if fault(stored, random) {
+            return;
+        }
+    }
+}
+
+/// Turns a bit over anywhere in the tables; they may stay sound.
+pub fn flip_table_bit(stored: &mut Stored, random: &mut Random) {
+    // The first 84 bytes are few and matter most.
+    let bound = if random.chance(50) { CREDENTIALS.start } else { SIZE };
+    stored[random.below(bound)] ^= 1 << random.below(8);
+}
+
+/// Makes an UPDATE or DELETE body likely to be forbidden.
+pub fn spoil_body(body: &mut Vec<u8>, random: &mut Random) {
+    if random.chance(20) {
+        if random.chance(50) {
+            body.push(random.byte());
+        } else {
+            body.pop();
+        }
+        return;
+    }
+    match body.len() {
+        1 => body[0] = if random.chance(50) { random.byte() | 0xA0 } else { body[0] | 1 << random.below(5) },
+        2 => body.fill(0),
+        17 => match random.below(3) {
+            0 => body[0] ^= 0x80,
+            1 => body[0] |= 1 << random.below(7),
+            _ => body[1..].fill(0),
+        },
+        Credential::LENGTH => (random.pick(&CREDENTIAL_FAULTS).1)(body, random),
+        Access::LENGTH => (random.pick(&ACCESS_FAULTS).1)(body, random),
+        _ => body.push(0),
+    }
+}
+
+/// Damages a record as a line might: bits turned over, bytes lost or added.
+pub fn damage(record: &mut Vec<u8>, random: &mut Random) {
+    match random.weighted(&[(35, 0), (15, 1), (20, 2), (12, 3), (3, 4), (10, 5), (5, 6)]) {
+        0 if !record.is_empty() => {
+            let place = random.below(record.len());
+            record[place] ^= 1 << random.below(8);
+        }
+        1 => {
+            // Within the header, where most is decided.
+            let place = random.below(4);
+            if let Some(byte) = record.get_mut(place) {
+                *byte ^= 1 << random.below(8);
+            }
+        }
+        2 => record.truncate(random.below(record.len() + 1)),
+        3 => {
+            let more = random.between(1, 12);
+            let zeros = random.chance(50);
+            record.extend(random.bytes(more).iter().map(|&byte| if zeros { 0 } else { byte }));
+        }
+        4 => {
+            let length = random.pick(&[255, 256, 257, 258, 300, 512]);
+            record.resize(length, 0);
+        }
+        5 if !record.is_empty() => {
+            let place = random.below(record.len());
+            record[place] = random.byte();
+        }
+        _ => {
+            let length = record.len();
+            if length >= 2 {
+                record.swap(random.below(length), random.below(length));
+            }
+        }
+    }
+}
+
+#[cfg(test)]
+mod tests {
+    use super::*;
+    use crate::generate;
+    use crate::tables::{Fault, Tables};
+    use std::collections::BTreeSet;
+
+    #[test]
+    fn every_row_fault_is_forbidden() {
+        let mut random = Random::new(1);
+        for _ in 0..200 {
+            for (name, fault) in CREDENTIAL_FAULTS {
+                let mut row = generate::credential(&mut random, &[]).bytes();
+                fault(&mut row, &mut random);
+                assert_eq!(Credential::read(&row), None, "{name}");
+            }
+            for (name, fault) in ACCESS_FAULTS {
+                let mut row = generate::access(&mut random, &[]).bytes();
+                fault(&mut row, &mut random);
+                assert_eq!(Access::read(&row), None, "{name}");
+            }
+        }
+    }
+
+    #[test]
+    fn every_table_fault_is_seen() {
+        let mut random = Random::new(2);
+        let mut seen = BTreeSet::new();
+        for (name, fault) in TABLE_FAULTS {
+            let mut made = 0;
+            while made < 100 {
+                let mut stored = generate::any_sound(&mut random).bytes();
+                if fault(&mut stored, &mut random) {
+                    seen.insert(Tables::read(&stored).expect_err(name));
+                    made += 1;
+                }
+            }
+        }
+        let all = [
+            Fault::State,
+            Fault::Owned,
+            Fault::OwnedDisagrees,
+            Fault::StateNeedsOwner,
+            Fault::CountOverCapacity,
+            Fault::Row,
+            Fault::NumberTwice,
+            Fault::UnusedRow,
+        ];
+        assert_eq!(seen, BTreeSet::from(all));
+    }
+}

@@ -1,0 +1,533 @@
+//! Cases by enumeration: every record of a group is judged on the group's
+//! tables.
+
+use crate::directory::{self, DIRECTORY};
+use crate::examples::{self, access, owned, uuid, ANON, AUTH};
+use crate::generate;
+use crate::random::Random;
+use crate::record::{compose, device_owner_body, target_body, Header, Verb};
+use crate::spoil::{ACCESS_FAULTS, CREDENTIAL_FAULTS, TABLE_FAULTS};
+use crate::tables::{
+    fresh_bytes, uuid_bytes, Access, Connection, Credential, Row, State, Stored, Subject, Tables, Uuid, ACCESSES,
+    ACCESS_COUNT, CREDENTIALS, CREDENTIAL_COUNT, OWNED, SIZE, STATE,
+};
+
+pub struct Group {
+    pub name: &'static str,
+    pub tables: Stored,
+    pub records: Vec<Vec<u8>>,
+}
+
+// The senders of the tables below: 0 for nobody, and these rows.
+const OWNER: u16 = 5;
+const HAULIER: u16 = 0x0500;
+const FOREMAN: u16 = 7;
+const MISSING: u16 = 9;
+const ROLE: u16 = 0x0107;
+
+/// All groups; the seed decides only what the random bytes in them are.
+pub fn groups(seed: u64) -> Vec<Group> {
+    let mut random = Random::part(seed, 0);
+    let mut groups = Vec::new();
+    hand_worked(&mut groups);
+    lengths(&mut groups);
+    headers(&mut groups);
+    body_lengths(&mut groups);
+    targets(&mut groups);
+    credential_bodies(&mut groups);
+    access_bodies(&mut groups);
+    owner_bodies(&mut groups);
+    access_rows(&mut groups);
+    owners(&mut groups);
+    near_misses(&mut groups);
+    places(&mut groups, &mut random);
+    soundness(&mut groups, &mut random);
+    groups
+}
+
+/// Fresh, then owned in each state with an owner and two partners, then with
+/// the same partners and no owner.
+fn stages() -> Vec<Tables> {
+    let mut stages = vec![Tables::fresh()];
+    for state in State::ALL {
+        let mut tables = owned(state);
+        tables.credentials.push(Credential { number: HAULIER, subject: uuid(0x22), role: None, kind: 0 });
+        tables.credentials.push(Credential { number: FOREMAN, subject: uuid(0x33), role: Some(ROLE), kind: 32 });
+        tables.row_owners[2] = Some(uuid(0x22));
+        tables.accesses.push(access(1, AUTH, 31, 5, &[]));
+        tables.accesses.push(access(2, Subject::Role(ROLE), 6, 0, &[0, 1, 2, 3]));
+        stages.push(tables);
+    }
+    stages.push(Tables { device_owner: None, ..stages[1].clone() });
+    stages
+}
+
+/// In each state, with rows that give everybody everything.
+fn open_stages() -> Vec<Tables> {
+    let every: Vec<u8> = DIRECTORY.iter().map(|resource| resource.number).collect();
+    let mut stages = stages();
+    for tables in &mut stages {
+        tables.accesses = vec![access(3, ANON, 31, 0, &every), access(4, AUTH, 31, 0, &every)];
+    }
+    stages
+}
+
+fn flips(record: &[u8], from: usize) -> Vec<Vec<u8>> {
+    let mut flipped = Vec::new();
+    for place in from * 8..record.len() * 8 {
+        let mut copy = record.to_vec();
+        copy[place / 8] ^= 0x80 >> (place % 8);
+        flipped.push(copy);
+    }
+    flipped
+}
+
+fn hand_worked(groups: &mut Vec<Group>) {
+    for example in examples::all() {
+        groups.push(Group { name: "worked by hand", tables: example.tables, records: vec![example.record] });
+    }
+}
+
+/// Lengths 0 to 300, with headers that stop at different checks.
+fn lengths(groups: &mut Vec<Group>) {
+    let starts: [[u8; 4]; 9] = [
+        [0x22, 0x00, 0x00, 0x00], // RETRIEVE /weight
+        [0x32, 0x00, 0x00, 0x05], // the same, row 5
+        [0x40, 0x80, 0x00, 0x00], // UPDATE cred
+        [0x50, 0xC0, 0x00, 0x05], // UPDATE acl2, row 5
+        [0x50, 0x00, 0x00, 0x05], // UPDATE doxm, row 5
+        [0x70, 0x80, 0x00, 0x05], // DELETE cred, row 5
+        [0x30, 0x40, 0x00, 0x05], // RETRIEVE pstat, row 5
+        [0xE2, 0x00, 0x00, 0x00], // verb 7
+        [0x32, 0x00, 0x00, 0x00], // row 0
+    ];
+    for tables in [&stages()[0], &stages()[3], &open_stages()[3]] {
+        let mut records = Vec::new();
+        for start in starts {
+            for length in 0..=300 {
+                let mut record: Vec<u8> =
+                    start.into_iter().chain((0..).map(|byte: u16| byte as u8)).take(length).collect();
+                records.push(record.clone());
+                if length > 4 {
+                    record[4..].fill(0);
+                    records.push(record);
+                }
+            }
+        }
+        groups.push(Group { name: "lengths", tables: tables.bytes(), records });
+    }
+}
+
+/// Each verb, connection and resource number, and each header zero bit.
+fn headers(groups: &mut Vec<Group>) {
+    for tables in stages().iter().chain(&open_stages()) {
+        let mut records = Vec::new();
+        for verb in 0..8 {
+            for connection in [Connection::AnonClear, Connection::AuthCrypt] {
+                for resource in 0..64 {
+                    // Of what no check looks at any more, a sample is enough.
+                    let known = directory::find(resource).is_some();
+                    let sampled = resource % 5 == verb % 5;
+                    if !sampled && (verb > 4 || !known && resource > 20) {
+                        continue;
+                    }
+                    let senders: &[u16] = match connection {
+                        Connection::AnonClear if sampled => &[0, OWNER],
+                        Connection::AnonClear => &[0],
+                        Connection::AuthCrypt if sampled => &[0, OWNER, HAULIER, FOREMAN, MISSING],
+                        Connection::AuthCrypt => &[OWNER, HAULIER, FOREMAN],
+                    };
+                    for &credential in senders {
+                        let header = Header { verb, connection, resource, zeros: 0, credential };
+                        records.push(header.with_body(&[]));
+                    }
+                }
+            }
+        }
+        for bit in 0..6 {
+            for verb in 0..8 {
+                for credential in [0, OWNER, MISSING] {
+                    for connection in [Connection::AnonClear, Connection::AuthCrypt] {
+                        let header = Header { verb, connection, resource: 63, zeros: 1 << bit, credential };
+                        records.push(header.with_body(&[]));
+                    }
+                }
+            }
+        }
+        groups.push(Group { name: "headers", tables: tables.bytes(), records });
+    }
+}
+
+/// Bodies of every short length for each verb of each security resource.
+fn body_lengths(groups: &mut Vec<Group>) {
+    for tables in stages() {
+        let sender = if tables.owned() { OWNER } else { 0 };
+        let mut records = Vec::new();
+        for resource in 0..4 {
+            for verb in Verb::ALL {
+                for length in 0..=30 {
+                    for byte in [0x00, 0x11, 0x80] {
+                        records.push(compose(verb, resource, sender, &vec![byte; length]));
+                    }
+                }
+            }
+        }
+        groups.push(Group { name: "body lengths", tables: tables.bytes(), records });
+    }
+}
+
+/// Every byte as a target, in each state, from the owner and from others.
+fn targets(groups: &mut Vec<Group>) {
+    for tables in stages() {
+        let senders: &[u16] = if tables.owned() { &[OWNER, HAULIER, FOREMAN, 0] } else { &[0, MISSING] };
+        let records = senders
+            .iter()
+            .flat_map(|&sender| {
+                // From those who may not, the eight values of the field only.
+                let step = if sender == senders[0] { 1 } else { 32 };
+                (0..=255).step_by(step).map(move |byte| compose(Verb::Update, 1, sender, &[byte]))
+            })
+            .collect();
+        groups.push(Group { name: "targets", tables: tables.bytes(), records });
+    }
+}
+
+fn credential_bodies(groups: &mut Vec<Group>) {
+    for tables in [&stages()[0], &stages()[2], &stages()[4]] {
+        let sender = if tables.owned() { OWNER } else { 0 };
+        let mut records = Vec::new();
+        let body = Credential { number: 6, subject: uuid(0x44), role: Some(7), kind: 0 }.bytes();
+        records.extend(flips(&compose(Verb::Update, 2, sender, &body), 4));
+        // One bit of the subject: turned over it is nil.
+        let slight = Credential { number: 1, subject: 1u128.try_into().unwrap(), role: None, kind: 1 }.bytes();
+        records.extend(flips(&compose(Verb::Update, 2, sender, &slight), 4));
+        for last in 0..=255 {
+            let mut body = body.clone();
+            body[20] = last;
+            records.push(compose(Verb::Update, 2, sender, &body));
+        }
+        groups.push(Group { name: "credential bodies", tables: tables.bytes(), records });
+    }
+}
+
+fn access_bodies(groups: &mut Vec<Group>) {
+    for tables in [&stages()[0], &stages()[2], &stages()[4]] {
+        let sender = if tables.owned() { OWNER } else { 0 };
+        let mut records = Vec::new();
+        let one = 1u128.try_into().unwrap();
+        for subject in
+            [Subject::Uuid(uuid(0x44)), Subject::Uuid(one), Subject::Role(1), Subject::Role(0x8100), ANON, AUTH]
+        {
+            let body = access(6, subject, 3, 0, &[8]).bytes();
+            records.extend(flips(&compose(Verb::Update, 3, sender, &body), 4));
+            // Kind, permission and wildcards in all their values.
+            for value in (0..1024u16).filter(|value| value % 2 == 0 || subject == Subject::Role(1)) {
+                let mut body = body.clone();
+                body[2..4].copy_from_slice(&(value << 6).to_be_bytes());
+                records.push(compose(Verb::Update, 3, sender, &body));
+            }
+        }
+        groups.push(Group { name: "access bodies", tables: tables.bytes(), records });
+    }
+}
+
+/// Device owners and row owners, in each state, from each sender.
+fn owner_bodies(groups: &mut Vec<Group>) {
+    for tables in stages() {
+        let mut records = Vec::new();
+        for sender in [0, OWNER, HAULIER, FOREMAN] {
+            for owner in [None, Some(uuid(0x11)), Some(uuid(0x44))] {
+                let device = compose(Verb::Update, 0, sender, &device_owner_body(owner));
+                let writes = sender == if tables.owned() { OWNER } else { 0 };
+                if writes {
+                    records.extend(flips(&device, 4));
+                    for first in 0..=255 {
+                        let mut record = device.clone();
+                        record[4] = first;
+                        records.push(record);
+                    }
+                }
+                records.push(device);
+                for resource in 0..4 {
+                    records.push(compose(Verb::Update, resource, sender, &uuid_bytes(owner)));
+                }
+            }
+        }
+        groups.push(Group { name: "owner bodies", tables: tables.bytes(), records });
+    }
+}
+
+/// One access row of each kind against every verb, resource and sender.
+fn access_rows(groups: &mut Vec<Group>) {
+    let subjects = [
+        Subject::Uuid(uuid(0x33)),
+        Subject::Uuid(uuid(0x11)),
+        Subject::Uuid(uuid(0x55)),
+        Subject::Role(ROLE),
+        Subject::Role(0x0007),
+        ANON,
+        AUTH,
+    ];
+    let wildcards = (0..8).map(|wildcards| (wildcards, None));
+    let named = DIRECTORY.iter().map(|resource| (0, Some(resource.number)));
+    let mut records = Vec::new();
+    for verb in Verb::ALL {
+        for resource in &DIRECTORY {
+            for sender in [0, OWNER, FOREMAN] {
+                records.push(compose(verb, resource.number, sender, &[]));
+            }
+        }
+    }
+    let mut turn = 0;
+    for (wildcards, resource) in wildcards.chain(named) {
+        for subject in subjects {
+            let permissions = [31, 1, 2, 4, 8, 16, 0, 21];
+            let mut tables = stages().swap_remove(3);
+            let row = |number, permission| access(number, subject, permission, wildcards, resource.as_slice());
+            tables.accesses = vec![row(1, permissions[turn % 8])];
+            // A second row that adds to the first, or does not fit.
+            if turn % 3 == 1 {
+                tables.accesses.push(row(2, 2));
+            } else if turn % 3 == 2 {
+                tables.accesses.insert(0, access(2, Subject::Uuid(uuid(0x56)), 31, 7, &[0, 1, 2, 3]));
+            }
+            turn += 1;
+            groups.push(Group { name: "access rows", tables: tables.bytes(), records: records.clone() });
+        }
+    }
+}
+
+/// Each combination of row owners and device owner against one partner.
+fn owners(groups: &mut Vec<Group>) {
+    for choice in 0..32 {
+        for state in [State::Rfnop, State::Sreset] {
+            let mut tables = stages().swap_remove(state as usize);
+            tables.accesses.clear();
+            for place in 0..4 {
+                tables.row_owners[place] = (choice >> place & 1 == 1).then(|| uuid(0x22));
+            }
+            if choice & 16 != 0 {
+                tables.device_owner = Some(uuid(0x22));
+            }
+            let mut records = Vec::new();
+            for resource in (0..4).chain([8, 14]) {
+                for verb in Verb::ALL {
+                    for sender in [0, OWNER, HAULIER, FOREMAN] {
+                        records.push(compose(verb, resource, sender, &[]));
+                    }
+                }
+            }
+            groups.push(Group { name: "owners", tables: tables.bytes(), records });
+        }
+    }
+}
+
+/// Values that differ from the fitting one in a single bit, at each place.
+fn near_misses(groups: &mut Vec<Group>) {
+    let mut add = |tables: &Tables, records| {
+        groups.push(Group { name: "near misses", tables: tables.bytes(), records });
+    };
+    let base = || Tables { accesses: Vec::new(), row_owners: [None; 4], ..stages().swap_remove(3) };
+    let fits: u128 = uuid(0x22).get();
+    for bit in 0..128 {
+        let near = Uuid::new(fits ^ 1 << bit);
+        let mut by_row = base();
+        by_row.accesses = near.map(|near| access(1, Subject::Uuid(near), 31, 1, &[2])).into_iter().collect();
+        let mut by_device_owner = base();
+        by_device_owner.device_owner = near;
+        let mut by_row_owner = base();
+        by_row_owner.row_owners[2] = near;
+        for tables in [by_row, by_device_owner, by_row_owner] {
+            add(&tables, vec![compose(Verb::Retrieve, 2, HAULIER, &[])]);
+        }
+    }
+    let mut by_role = base();
+    by_role.accesses = vec![access(0x0505, Subject::Role(ROLE), 31, 1, &[2, 3])];
+    for bit in 0..16 {
+        let mut other = by_role.clone();
+        other.accesses[0].subject = Subject::Role(ROLE ^ 1 << bit);
+        add(&other, vec![compose(Verb::Retrieve, 2, FOREMAN, &[])]);
+    }
+    // Senders, rows to delete and rows to replace, each a bit off.
+    by_role.state = State::Sreset;
+    let mut records = Vec::new();
+    for bit in 0..16 {
+        for number in [OWNER, HAULIER, FOREMAN] {
+            records.push(compose(Verb::Retrieve, 2, number ^ 1 << bit, &[]));
+            let near = number ^ 1 << bit;
+            records.push(compose(Verb::Delete, 2, OWNER, &near.to_be_bytes()));
+            records.push(compose(Verb::Update, 2, OWNER, &examples::credential(near.max(1), uuid(0x77)).bytes()));
+        }
+        let near = 0x0505u16 ^ 1 << bit;
+        records.push(compose(Verb::Delete, 3, OWNER, &near.to_be_bytes()));
+        records.push(compose(Verb::Update, 3, OWNER, &access(near, ANON, 3, 1, &[]).bytes()));
+    }
+    add(&by_role, records);
+}
+
+/// Every row of small, nearly full and full tables deleted and replaced.
+fn places(groups: &mut Vec<Group>, random: &mut Random) {
+    for (credentials, accesses) in [(24, 32), (23, 31), (24, 1), (2, 32), (3, 3), (1, 1), (0, 0)] {
+        for state in State::ALL {
+            let mut tables = Tables { state, device_owner: Some(uuid(0x11)), ..Tables::fresh() };
+            for place in 0..credentials {
+                let mut row = generate::credential(random, &[]);
+                row.number = 0x0100 + place;
+                row.subject = uuid(0x11);
+                tables.credentials.push(row);
+            }
+            for place in 0..accesses {
+                let mut row = generate::access(random, &[]);
+                row.number = 0x01F0 + place;
+                tables.accesses.push(row);
+            }
+            let sender = if credentials > 0 { 0x0100 + random.below(credentials.into()) as u16 } else { 0 };
+            if credentials == 0 {
+                // Somebody has to be able to write.
+                tables.accesses.push(access(0x01F0 + accesses, ANON, 31, 0, &[0, 1, 2, 3]));
+            }
+            let mut records = Vec::new();
+            for number in (0x0100..0x0100 + credentials + 2).chain([1, 0x01, 0x0001, 0x17, 0xFFFF]) {
+                let mut row = generate::credential(random, &[]);
+                row.number = number;
+                records.push(compose(Verb::Update, 2, sender, &row.bytes()));
+                records.push(compose(Verb::Delete, 2, sender, &number.to_be_bytes()));
+            }
+            for number in (0x01F0..0x01F0 + accesses + 2).chain([1, 0xF0, 0xF001, 0xFFFF]) {
+                let mut row = generate::access(random, &[]);
+                row.number = number;
+                records.push(compose(Verb::Update, 3, sender, &row.bytes()));
+                records.push(compose(Verb::Delete, 3, sender, &number.to_be_bytes()));
+            }
+            for resource in [2, 3] {
+                records.push(compose(Verb::Delete, resource, sender, &[]));
+                records.push(compose(Verb::Delete, resource, sender, &[0, 0]));
+            }
+            for target in 0..=4 {
+                records.push(compose(Verb::Update, 1, sender, &target_body(target)));
+            }
+            groups.push(Group { name: "places", tables: tables.bytes(), records });
+        }
+    }
+}
+
+/// Each condition of sound tables broken alone.
+fn soundness(groups: &mut Vec<Group>, random: &mut Random) {
+    let probes = || vec![compose(Verb::Retrieve, 1, 0, &[]), compose(Verb::Retrieve, 8, OWNER, &[1]), vec![]];
+    let one_probe = || vec![compose(Verb::Retrieve, 2, OWNER, &[])];
+    let mut add = |tables, records| groups.push(Group { name: "soundness", tables, records });
+
+    // Every fault on tables of many kinds.
+    for (_, fault) in TABLE_FAULTS {
+        for _ in 0..40 {
+            let mut stored = generate::any_sound(random).bytes();
+            if fault(&mut stored, random) {
+                add(stored, probes());
+            }
+        }
+    }
+
+    // Every value of the first four bytes.
+    for tables in stages() {
+        for place in [STATE, OWNED, CREDENTIAL_COUNT, ACCESS_COUNT] {
+            for value in 0..=255 {
+                let mut stored = tables.bytes();
+                stored[place] = value;
+                add(stored, one_probe());
+            }
+        }
+    }
+    let rows = |count: u16| {
+        let mut tables = owned(State::Rfpro);
+        tables.credentials.clear();
+        tables.accesses.clear();
+        for number in 1..=count {
+            tables.credentials.push(examples::credential(number, uuid(0x11)));
+            tables.accesses.push(access(number, ANON, 2, 1, &[2]));
+        }
+        tables
+    };
+    for tables in [rows(23), rows(24)] {
+        for value in 20..=40 {
+            for place in [CREDENTIAL_COUNT, ACCESS_COUNT] {
+                let mut stored = tables.bytes();
+                stored[place] = value;
+                add(stored, one_probe());
+            }
+        }
+    }
+
+    // A byte set anywhere behind the counted rows.
+    for count in [0, 2] {
+        let base = rows(count).bytes();
+        for place in CREDENTIALS.start..SIZE {
+            if base[place] == 0 && (place + count as usize).is_multiple_of(2) {
+                let mut stored = base;
+                stored[place] = 1 << (place % 8);
+                add(stored, one_probe());
+            }
+        }
+    }
+
+    // Each forbidden value in the first, a middle and the last row.
+    let full = Tables { accesses: (1..=32).map(|number| access(number, ANON, 2, 1, &[2])).collect(), ..rows(24) };
+    for (_, fault) in CREDENTIAL_FAULTS {
+        for row in [0, 11, 23] {
+            let mut stored = full.bytes();
+            let place = CREDENTIALS.start + row * Credential::LENGTH;
+            fault(&mut stored[place..place + Credential::LENGTH], random);
+            add(stored, one_probe());
+        }
+    }
+    for (_, fault) in ACCESS_FAULTS {
+        for row in [0, 16, 31] {
+            let mut stored = full.bytes();
+            let place = ACCESSES.start + row * Access::LENGTH;
+            fault(&mut stored[place..place + Access::LENGTH], random);
+            add(stored, one_probe());
+        }
+    }
+
+    // Every bit of a small row turned over: most stay sound.
+    let mut small = rows(0);
+    small.credentials.push(Credential { number: OWNER, subject: uuid(0x11), role: Some(1), kind: 0 });
+    small.accesses.push(access(1, Subject::Role(1), 2, 0, &[2]));
+    small.accesses.push(access(2, AUTH, 2, 0, &[2]));
+    for place in 0..CREDENTIALS.start + Credential::LENGTH {
+        for bit in 0..8 {
+            let mut stored = small.bytes();
+            stored[place] ^= 1 << bit;
+            add(stored, one_probe());
+        }
+    }
+    for place in ACCESSES.start..ACCESSES.start + 2 * Access::LENGTH {
+        for bit in 0..8 {
+            let mut stored = small.bytes();
+            stored[place] ^= 1 << bit;
+            add(stored, one_probe());
+        }
+    }
+
+    // A number held twice, at every pair of places.
+    for first in 0..24 {
+        for second in first + 1..24 {
+            let mut tables = full.clone();
+            tables.credentials[second].number = tables.credentials[first].number;
+            add(tables.bytes(), one_probe());
+        }
+    }
+    for first in 0..32 {
+        for second in first + 1..32 {
+            let mut tables = full.clone();
+            tables.accesses[second].number = tables.accesses[first].number;
+            add(tables.bytes(), one_probe());
+        }
+    }
+
+    // Nothing wrong, for contrast.
+    add(fresh_bytes(), probes());
+    add(full.bytes(), probes());
+    for _ in 0..300 {
+        add(generate::any_sound(random).bytes(), probes());
+    }
+}

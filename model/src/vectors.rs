@@ -1,0 +1,251 @@
+//! A file of vectors for another program to read.
+//!
+//! Entries follow one another, each behind a tag byte:
+//! 0: tables (1,484 bytes), from now on the current ones;
+//! 1: a record behind its length (16 bits), then answer, permission (a byte
+//!    each), payload start and payload length (16 bits each; start 0 when the
+//!    length is 0); the tables afterwards are the current ones;
+//! 2: tables (1,484 bytes) that the current ones must equal.
+//! Numbers of 16 bits have their high byte first.
+
+use crate::directory::DIRECTORY;
+use crate::examples;
+use crate::generate::{self, Style};
+use crate::histogram::Histogram;
+use crate::random::Random;
+use crate::record::{compose, Verb};
+use crate::rules::judge;
+use crate::spoil::{ACCESS_FAULTS, CREDENTIAL_FAULTS, TABLE_FAULTS};
+use crate::tables::{fresh_bytes, Access, Credential, Row, State, Stored, Tables, ACCESSES, CREDENTIALS, SIZE};
+
+pub const TABLES: u8 = 0;
+pub const RECORD: u8 = 1;
+pub const CHECK: u8 = 2;
+
+/// Fewest bytes that leave room for random sessions.
+pub const LEAST: usize = 200_000;
+const RECORDS_BETWEEN_CHECKS: usize = 40;
+
+pub struct Vectors {
+    pub bytes: Vec<u8>,
+    pub records: usize,
+    pub tables: usize,
+    pub checks: usize,
+    pub histogram: Histogram,
+    current: Option<Stored>,
+    unchecked: usize,
+}
+
+impl Vectors {
+    /// Vectors of at most `limit` bytes.
+    pub fn build(seed: u64, limit: usize) -> Vectors {
+        let mut random = Random::part(seed, 2);
+        let mut vectors = Vectors {
+            bytes: Vec::new(),
+            records: 0,
+            tables: 0,
+            checks: 0,
+            histogram: Histogram::new(),
+            current: None,
+            unchecked: 0,
+        };
+        for example in examples::all() {
+            vectors.set_tables(&example.tables);
+            vectors.record(&example.record);
+        }
+        vectors.check();
+        vectors.headers();
+        vectors.faults(&mut random);
+        vectors.sessions(&mut random, limit);
+        vectors
+    }
+
+    fn set_tables(&mut self, tables: &Stored) {
+        if self.current.as_ref() != Some(tables) {
+            self.bytes.push(TABLES);
+            self.bytes.extend(tables);
+            self.tables += 1;
+            self.current = Some(*tables);
+        }
+    }
+
+    fn record(&mut self, record: &[u8]) {
+        let outcome = judge(&self.current.expect("tables come first"), record);
+        let length = outcome.payload.len() as u16;
+        let start = if length == 0 { 0 } else { outcome.payload.start as u16 };
+        self.bytes.push(RECORD);
+        self.bytes.extend((record.len() as u16).to_be_bytes());
+        self.bytes.extend(record);
+        self.bytes.extend([outcome.answer, outcome.permission]);
+        self.bytes.extend(start.to_be_bytes());
+        self.bytes.extend(length.to_be_bytes());
+        self.histogram.add(record, &outcome);
+        self.records += 1;
+        self.current = Some(outcome.tables);
+        self.unchecked += 1;
+        if self.unchecked == RECORDS_BETWEEN_CHECKS {
+            self.check();
+        }
+    }
+
+    fn check(&mut self) {
+        if self.unchecked > 0 {
+            self.bytes.push(CHECK);
+            self.bytes.extend(self.current.expect("tables come first"));
+            self.checks += 1;
+            self.unchecked = 0;
+        }
+    }
+
+    /// Each verb on each resource, from nobody and from the owner.
+    fn headers(&mut self) {
+        for (tables, senders) in [
+            (Tables::fresh(), &[0, 5][..]),
+            (examples::owned(State::Rfpro), &[5]),
+            (examples::owned(State::Rfnop), &[0, 5]),
+        ] {
+            self.set_tables(&tables.bytes());
+            // DELETE last: it takes the owner's credential away.
+            for verb in [0, 1, 2, 4, 5, 6, 7, 3] {
+                for resource in DIRECTORY.iter().filter(|resource| verb < 5 || resource.number < 3) {
+                    for &sender in senders {
+                        let mut record = compose(Verb::Create, resource.number, sender, &[]);
+                        record[0] |= verb << 5;
+                        self.record(&record);
+                    }
+                }
+            }
+        }
+        self.check();
+    }
+
+    /// Tables that are not sound, by each fault once.
+    fn faults(&mut self, random: &mut Random) {
+        let mut faulty = Vec::new();
+        for (_, fault) in TABLE_FAULTS {
+            loop {
+                let mut stored = generate::any_sound(random).bytes();
+                if fault(&mut stored, random) {
+                    faulty.push(stored);
+                    break;
+                }
+            }
+        }
+        let (credentials, accesses) = rows(random);
+        for (_, fault) in CREDENTIAL_FAULTS {
+            let mut stored = Tables { credentials: credentials.clone(), ..Tables::fresh() }.bytes();
+            let place = CREDENTIALS.start + Credential::LENGTH;
+            fault(&mut stored[place..place + Credential::LENGTH], random);
+            faulty.push(stored);
+        }
+        for (_, fault) in ACCESS_FAULTS {
+            let mut stored = Tables { accesses: accesses.clone(), ..Tables::fresh() }.bytes();
+            let place = ACCESSES.start + Access::LENGTH;
+            fault(&mut stored[place..place + Access::LENGTH], random);
+            faulty.push(stored);
+        }
+        for stored in faulty {
+            self.set_tables(&stored);
+            for style in [Style::Purposeful, Style::Mixed, Style::Noise] {
+                let record = generate::record(random, style, &stored);
+                self.record(&record);
+            }
+        }
+        self.check();
+    }
+
+    /// Random sessions from fresh, sound and full tables in turn.
+    fn sessions(&mut self, random: &mut Random, limit: usize) {
+        // Room for new tables, a few longest records and a last check.
+        let room = 3 * SIZE + 2000;
+        let mut turn = 0;
+        while self.bytes.len() + room < limit {
+            let start = match turn % 3 {
+                0 => fresh_bytes(),
+                1 => generate::full_sound(random).bytes(),
+                _ => generate::any_sound(random).bytes(),
+            };
+            turn += 1;
+            self.set_tables(&start);
+            for _ in 0..random.between(60, 160) {
+                if self.bytes.len() + room >= limit {
+                    break;
+                }
+                let style = random.weighted(&[(45, Style::Purposeful), (35, Style::Mixed), (20, Style::Damaged)]);
+                let record = generate::record(random, style, &self.current.expect("set above"));
+                // Long records would use up the room.
+                if record.len() <= 40 || random.chance(15) {
+                    self.record(&record);
+                }
+            }
+        }
+        self.check();
+    }
+}
+
+fn rows(random: &mut Random) -> (Vec<Credential>, Vec<Access>) {
+    let mut credentials = Vec::new();
+    let mut accesses = Vec::new();
+    for number in 1..=3 {
+        let mut credential = generate::credential(random, &[]);
+        credential.number = number;
+        credentials.push(credential);
+        let mut access = generate::access(random, &[]);
+        access.number = number;
+        accesses.push(access);
+    }
+    (credentials, accesses)
+}
+
+#[cfg(test)]
+mod tests {
+    use super::*;
+
+    /// Reads the file as another program would.
+    fn replay(mut bytes: &[u8]) -> (usize, usize) {
+        let mut current: Option<Stored> = None;
+        let (mut records, mut checks) = (0, 0);
+        let mut take = |count: usize| {
+            let (taken, rest) = bytes.split_at_checked(count)?;
+            bytes = rest;
+            Some(taken)
+        };
+        let number = |pair: &[u8]| pair[0] as usize * 256 + pair[1] as usize;
+        while let Some(tag) = take(1) {
+            match tag[0] {
+                TABLES => current = Some(take(SIZE).unwrap().try_into().unwrap()),
+                CHECK => {
+                    assert_eq!(take(SIZE).unwrap(), current.unwrap());
+                    checks += 1;
+                }
+                RECORD => {
+                    let length = number(take(2).unwrap());
+                    let record = take(length).unwrap();
+                    let outcome = judge(&current.unwrap(), record);
+                    assert_eq!(take(2).unwrap(), [outcome.answer, outcome.permission]);
+                    let start = number(take(2).unwrap());
+                    let length = number(take(2).unwrap());
+                    assert_eq!(length, outcome.payload.len());
+                    assert_eq!(start, if length == 0 { 0 } else { 4 });
+                    current = Some(outcome.tables);
+                    records += 1;
+                }
+                tag => panic!("tag {tag}"),
+            }
+        }
+        (records, checks)
+    }
+
+    #[test]
+    fn the_file_holds_what_it_says() {
+        for (seed, limit, often) in [(1, 399_999, 20), (2, LEAST, 1), (3, LEAST, 1)] {
+            let vectors = Vectors::build(seed, limit);
+            assert!(vectors.bytes.len() <= limit, "{}", vectors.bytes.len());
+            assert_eq!(replay(&vectors.bytes), (vectors.records, vectors.checks));
+            assert_eq!(Vectors::build(seed, limit).bytes, vectors.bytes);
+            for (answer, &count) in vectors.histogram.answers.iter().enumerate() {
+                assert!(count >= often, "answer {answer}: {count}");
+            }
+        }
+    }
+}
