@@ -1,0 +1,16 @@
+-- `is_owner`: the code's tests are the definition's, in its order.
+use Rattle.rules.specs.Tables.{rowOwner}
+use Rattle.rules.specs.Permission.{isOwner}
+use borrow.Author.Needs.{needs}
+use Rattle.permission.proofs.is_owner.Statement.{statement}
+use Rattle.permission.proofs.is_owner.Tie as tie
+
+returns : tie.Need-returns
+unfolding isOwner rowOwner
+returns c = cc
+
+pub is-owner-spec : {M : Type 1} → statement M
+is-owner-spec =
+    tie.close
+    (tie.spec
+    (λ c κs. search needs) (λ c. search needs) (λ c κs. search needs) (λ c κs. search needs) returns)

@@ -1,0 +1,145 @@
+// The effective permission of a record's sender on its resource.
+// The union of what the fitting access rows give, and all five bits for a security resource's owners.
+use fields::ace;
+use fields::cred;
+use fields::held;
+use fields::part;
+use fields::record::connection_of;
+use fields::record::resource_of;
+use rules::Permission;
+use rules::Tables;
+use rules::Uuid;
+use rules::directory::resource_row;
+ghost use mathlib.Core.Path.{_≡_};
+ghost use mathlib.Core.Bool.{cond};
+ghost use Prim.Native.Nat.{_*_, _≤_, min};
+ghost use lib.ListN.{length};
+ghost use Rattle.rows.specs.Rows.{rowsOf, unionOf};
+ghost use Rattle.rules.specs.Record.{sender};
+ghost use Rattle.rules.specs.Permission.{credentialIn, connectionOf, subjectFits, resourceFits, rowFits, gives, names, isOwner, all, permission};
+
+// The credential row of the record's sender, or no bytes.
+fn credential_row<'a>(creds: &'a [u8], count: usize, record: &'a [u8]) -> &'a [u8]
+    requires { ⌜ count * 21 ≤ length (now creds) ⌝ }
+    ensures { λ r. ⌜ now r ≡ credentialIn (rowsOf 21 count (now (creds .entry))) (sender (now («record» .entry))) ⌝ }
+{
+    if record.len() < 4 {
+        return &record[..0];
+    }
+    if connection_of(record) != 1 {
+        return &record[..0];
+    }
+    rows::row_with(creds, 21, count, 0, &record[2..4])
+}
+
+// The connection of the record's sender: of one too short to have a sender, 0.
+fn sender_connection(record: &[u8]) -> u16
+    ensures { λ n. ⌜ n ≡ connectionOf (sender (now («record» .entry))) ⌝ }
+{
+    if record.len() < 4 {
+        return 0;
+    }
+    connection_of(record)
+}
+
+fn subject_fits(cred: &[u8], connection: u16, ace: &[u8]) -> bool
+    ensures { λ r. ⌜ r ≡ subjectFits (now (cred .entry)) connection (now (ace .entry)) ⌝ }
+{
+    let kind = ace::kind(ace);
+    match kind {
+        0 => (cred.len() != 0) & rows::same_bytes(ace::subject(ace), cred::subject(cred)),
+        1 => (cred.len() != 0) & (ace::role(ace) == cred::role(cred)),
+        2 => ace::connection(ace) == connection,
+        _ => false,
+    }
+}
+
+fn resource_fits(resource: u16, ace: &[u8]) -> bool
+    ensures { λ r. ⌜ r ≡ resourceFits resource (now (ace .entry)) ⌝ }
+{
+    let e = resource_row(resource as usize);
+    let star = e.known & !e.configuration;
+    let shown = star & e.discoverable;
+    ace::in_set(ace, resource)
+        | (ace::star(ace) & star)
+        | (ace::plus(ace) & (shown & e.secure))
+        | (ace::minus(ace) & (shown & e.unsecure))
+}
+
+fn row_fits(cred: &[u8], connection: u16, resource: u16, ace: &[u8]) -> bool
+    ensures { λ r. ⌜ r ≡ rowFits (now (cred .entry)) connection resource (now (ace .entry)) ⌝ }
+{
+    subject_fits(cred, connection, ace) & resource_fits(resource, ace)
+}
+
+// What an access row gives.
+fn row_gives(cred: &[u8], connection: u16, resource: u16, ace: &[u8]) -> u8
+    ensures { λ r. ⌜ r ≡ gives (now (cred .entry)) connection resource (now (ace .entry)) ⌝ }
+{
+    if row_fits(cred, connection, resource, ace) {
+        return ace::permission(ace) as u8;
+    }
+    0
+}
+
+// What the access rows give together.
+fn rows_give(aces: &[u8], count: usize, cred: &[u8], connection: u16, resource: u16) -> u8
+    requires { ⌜ count * 28 ≤ length (now aces) ⌝ }
+    ensures { λ r. ⌜ r ≡ unionOf (gives (now (cred .entry)) connection resource) (rowsOf 28 count (now (aces .entry))) ⌝ }
+{
+    let mut total: u8 = 0;
+    let mut rest = aces;
+    let mut left = count;
+    while 0 < left {
+        total = total | row_gives(cred, connection, resource, &rest[..28]);
+        rest = &rest[28..];
+        left -= 1;
+    }
+    total
+}
+
+// Whether a credential row names an owner: nil is nobody.
+fn row_names(owner: &[u8], cred: &[u8]) -> bool
+    ensures { λ r. ⌜ r ≡ names (now (owner .entry)) (now (cred .entry)) ⌝ }
+{
+    let nil = rows::same_bytes(owner, &Uuid::NIL);
+    !nil & rows::same_bytes(owner, cred::subject(cred))
+}
+
+// Whether a credential row, if there is one, names the device owner or the resource's row owner.
+fn is_owner(t: Tables, cred: &[u8], resource: u16) -> bool
+    ensures { λ r. ⌜ r ≡ isOwner t (now (cred .entry)) resource ⌝ }
+{
+    let device = row_names(&t.devowner, cred);
+    let at = resource as usize * 16;
+    let row = row_names(part(&t.rowners, at, 16), cred);
+    (cred.len() != 0) & (device | row)
+}
+
+// All five bits where the test passes.
+fn all_if(test: bool) -> u8
+    ensures { λ r. ⌜ r ≡ cond test all 0 ⌝ }
+{
+    if test {
+        return Permission::ALL;
+    }
+    0
+}
+
+// The effective permission of a record's sender on its resource.
+// Rules out: the first fitting row alone; a row owner's rights on another resource.
+pub fn effective(t: Tables, record: &[u8]) -> u8
+    ensures { λ r. ⌜ r ≡ permission t (now («record» .entry)) ⌝ }
+{
+    let ncreds = held(t.ncreds, 24);
+    let naces = held(t.naces, 32);
+    let resource = resource_of(record);
+    let connection = sender_connection(record);
+    let creds = t.creds;
+    let cred = credential_row(&creds, ncreds, record);
+    let granted = rows_give(&t.aces, naces, cred, connection, resource);
+    let e = resource_row(resource as usize);
+    let owner = all_if(e.configuration & is_owner(t, cred, resource));
+    let unowned = all_if(e.configuration & (t.owned == 0));
+    granted | owner | unowned
+}
