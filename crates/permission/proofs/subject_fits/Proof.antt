@@ -22,8 +22,7 @@ returns-2 c =
 
 returns-3 : tie.Need-returns-3
 unfolding subjectFits
-returns-3 c =
-    rw (sym (c .before .before .kind .ensures) ∙ c .before .match .keys3) (cc)
+returns-3 c = rw (sym (c .before .before .kind .ensures) ∙ c .before .match .keys3) (cc)
 
 returns-4 : tie.Need-returns-4
 unfolding subjectFits

@@ -1,0 +1,85 @@
+// The judge of the terminal: for any record beside any tables, exactly one outcome.
+// Entry points: judge, payload and clear. None asks anything of its caller.
+mod effect;
+mod request;
+mod states;
+
+use effect::apply;
+use fields::after;
+use fields::record::resource_of;
+use form::check_form;
+use format::action::action_of;
+use permission::effective;
+use request::check_request;
+use rules::directory::resource_row;
+use rules::Check;
+use rules::Judgement;
+use rules::Tables;
+ghost use mathlib.Core.Path.{_≡_};
+ghost use Rattle.rules.specs.Checks.{numberOf};
+ghost use Rattle.rules.specs.Tables.{cleared};
+ghost use Rattle.rules.specs.Outcome.{outcome, judgementOf, refusal, payloadAt};
+
+// A refusal hands the tables back as they are, with permission 0.
+fn refused(t: Tables, c: Check) -> Judgement
+    ensures { λ r. ⌜ r ≡ refusal t (numberOf c) ⌝ }
+{
+    match c {
+        Check::Pass => Judgement {
+            answer: 0,
+            permission: 0,
+            tables: t,
+        },
+        Check::Refuse(n) => Judgement {
+            answer: n,
+            permission: 0,
+            tables: t,
+        },
+    }
+}
+
+// What becomes of a record: the answer, the permission and the tables afterwards.
+// Rules out: a judge that refuses every record with 8; one that answers and never alters the tables.
+pub fn judge(t: Tables, record: &[u8]) -> Judgement
+    ensures { λ r. ⌜ r ≡ judgementOf (outcome t (now («record» .entry))) ⌝ }
+{
+    let c = check_form(t, record);
+    let Check::Pass = c else {
+        return refused(t, c);
+    };
+    let permission = effective(t, record);
+    let a = action_of(record);
+    let c = check_request(t, permission, record, a);
+    let Check::Pass = c else {
+        return refused(t, c);
+    };
+    let next = apply(t, a, record);
+    Judgement {
+        answer: 0,
+        permission: permission,
+        tables: next,
+    }
+}
+
+// What a record with this answer passes on: a part of the caller's own bytes, empty on a refusal.
+// Rules out: a payload on a refusal; the body of a security record.
+pub fn payload(record: &[u8], answer: u8) -> &[u8]
+    ensures { λ r. ⌜ now r ≡ payloadAt answer (now («record» .entry)) ⌝ }
+{
+    if answer != 0 {
+        return &record[..0];
+    }
+    let e = resource_row(resource_of(record) as usize);
+    if e.configuration {
+        return &record[..0];
+    }
+    after(record, 4)
+}
+
+// The clear button: any tables become the fresh ones.
+// Rules out: a button that keeps the rows; one that works on sound tables only.
+pub fn clear(t: Tables) -> Tables
+    ensures { λ r. ⌜ r ≡ cleared t ⌝ }
+{
+    Tables::fresh()
+}

@@ -1,0 +1,129 @@
+-- The loop over the records of a run: what is written and what is still to come are the lines of the whole input.
+-- The start, a turn and the two ends, over plain variables.
+use mathlib.Core.Path.{_≡_, refl, ap, _∙_}
+use mathlib.Core.Bool.{cond}
+use mathlib.Core.List.{List, [], _∷_, _++_, append-nil, append-assoc}
+use Prim.Native.Nat.{ℕ, zero, suc, _+_, _-_, _*_, _≤_, _<_, min}
+use native.Mathlib.Omega.{arith}
+use lib.ListN.{length, length-append, length-drop}
+use borrow.Author.Tests.{lt-ltb, le-ltb, eq-eqb, ne-eqb}
+use Rattle.rules.specs.declared.Tables.{Tables}
+use Rattle.rules.specs.Tables.{fresh}
+use Rattle.rules.specs.declared.Judgement.{Judgement}
+use Rattle.rules.specs.Outcome.{outcome, tablesAfter, judgementOf}
+use Rattle.text.specs.Text.{ascii, decimal}
+use Rattle.text.specs.Buffer.{written, largest, Puts}
+use Rattle.text.proofs.Decimals.{decimal-length}
+use Rattle.text.proofs.Buffers.{puts-then, puts-length, Writing, writing-start, writing-step, writing-end}
+use Rattle.report.specs.Run.{header, line, lineFor, cut, lengthOf, firstOf, restOf, isCut, linesFrom, lines, runText}
+use Rattle.report.specs.Room.{LineFits, LinesFit, Whole}
+
+-- ---- a line
+
+-- four numbers, each with the byte after it
+pub line-numbers : (place a p s : ℕ)
+    → decimal place ++ 32 ∷ [] ++ (decimal a ++ 32 ∷ []) ++ (decimal p ++ 32 ∷ []) ++ (decimal s ++ 10 ∷ []) ≡ line place a p s
+unfolding line ascii
+line-numbers place a p s = simp append-assoc
+
+pub line-length : (place a p s : ℕ) → a < 256 → p < 256 → s < 256 → LineFits place a p s
+line-length place a p s h k l m =
+    rw (← (line-numbers place a p s))
+    (simp length-append
+    (omega (arith, decimal-length 4 place m, decimal-length 2 a (omega arith), decimal-length 2 p (omega arith), decimal-length 2 s (omega arith))))
+
+cut-length : length cut ≡ 4
+unfolding cut ascii
+cut-length = refl
+
+-- ---- the loop
+
+-- `rest` is still to be judged, on the tables t, from `place` on, and its lines are to be put at p
+pub record Running (s o : List ℕ) (at : ℕ) (out : List ℕ) (p : ℕ) (t : Tables) (rest : List ℕ) (place : ℕ) : Type 0 where
+  pub steps : ℕ
+  pub enough : length rest ≤ steps
+  pub writing : Writing o at (lines s) (linesFrom steps t place rest) out p
+  -- each record took at least two bytes, so the place fits its type
+  pub places : 2 * place + length rest ≤ length s + 2
+  -- nine bytes of text at most for each byte of the input
+  pub short : length s ≤ 32768 → length (lines s) + 9 * length rest ≤ 294912 + length (linesFrom steps t place rest)
+
+pub run-start : (s o : List ℕ) {at : ℕ} {t : Tables} → length o ≤ largest → at ≤ largest → t ≡ fresh → Running s o at o at t s 1
+unfolding lines
+run-start s o {at} h l e = rw e record {
+  steps = length s;
+  enough = omega arith;
+  writing = writing-start o at (lines s) h l;
+  places = omega arith;
+  short = λ k. omega arith;
+}
+
+lines-end : (k : ℕ) (t : Tables) (place : ℕ) (s : List ℕ) → length s ≤ 0 → linesFrom k t place s ≡ []
+unfolding linesFrom
+lines-end zero t place s h = refl
+lines-end (suc k) t place s h = rw (eq-eqb (length s) 0 (omega arith))
+
+module _ {s o : List ℕ} {at : ℕ} {out : List ℕ} {p : ℕ} {t : Tables} {rest : List ℕ} {place : ℕ} (i : Running s o at out p t rest place) where
+  -- one step of the definition
+  step : 0 < length rest
+      → linesFrom (i .steps) t place rest
+      ≡ cond (isCut rest) cut (lineFor t place (firstOf rest) ++ linesFrom (i .steps - 1) (tablesAfter t (firstOf rest)) (place + 1) (restOf rest))
+  unfolding linesFrom
+  step h =
+      let k : i .steps ≡ suc (i .steps - 1) = omega (arith, i .enough) in
+      let z : length rest ≡ 0 → ⊥ = λ e. omega arith in
+      ap (λ (n : ℕ). linesFrom n t place rest) k ∙ rw (ne-eqb (length rest) 0 z)
+
+  -- the input ends
+  pub run-end : length rest ≤ 0 → Puts o at (lines s) out p × LinesFit s
+  run-end h =
+      let e = lines-end (i .steps) t place rest h in
+      (writing-end (i .writing) e, λ k. omega (arith, i .short k, ap length e))
+
+  -- a record that is not all there
+  pub run-cut : {out′ : List ℕ} {r : ℕ} → 0 < length rest → length rest < 2 + lengthOf rest → Puts out p cut out′ r
+      → Puts o at (lines s) out′ r × LinesFit s
+  run-cut h c q =
+      let e : linesFrom (i .steps) t place rest ≡ cut ++ [] = rw (step h, lt-ltb (length rest) (2 + lengthOf rest) c, append-nil) in
+      (writing-end (writing-step cut [] (i .writing) e q) refl, λ k. omega (arith, i .short k, ap length e ∙ length-append cut [], cut-length))
+
+  -- a record, and what the judge says of it
+  pub run-turn : {out′ : List ℕ} {r : ℕ} {rest′ : List ℕ} {j : Judgement} → 0 < length rest → 2 + lengthOf rest ≤ length rest
+      → j ≡ judgementOf (outcome t (firstOf rest)) → rest′ ≡ restOf rest
+      → Puts out p (line place (j .answer) (j .permission) (j .tables .state)) out′ r
+      → LineFits place (j .answer) (j .permission) (j .tables .state)
+      → Running s o at out′ r (j .tables) rest′ (place + 1)
+  run-turn {out′} {r} {rest′} {j} h c e d q l =
+      let len : length rest′ ≡ length rest - (2 + lengthOf rest) = ap length d ∙ length-drop (2 + lengthOf rest) rest in
+      let text = line place (j .answer) (j .permission) (j .tables .state) in
+      let more = linesFrom (i .steps - 1) (j .tables) (place + 1) rest′ in
+      let two : linesFrom (i .steps) t place rest ≡ text ++ more = rw (e, d, step h, le-ltb (length rest) (2 + lengthOf rest) c) in
+      record {
+        steps = i .steps - 1;
+        enough = omega (arith, i .enough);
+        writing = writing-step text more (i .writing) two q;
+        places = omega (arith, i .places);
+        short = λ k. omega (arith, i .short k, i .places, l (omega (arith, i .places)), ap length two ∙ length-append text more);
+      }
+
+-- ---- the header and the lines
+
+header-length : length header ≡ 20
+unfolding header ascii
+header-length = refl
+
+-- r bytes of the whole text stand in the buffer
+pub run-whole : (s : List ℕ) {o o₁ o₂ : List ℕ} {p q r : ℕ} → length o ≤ largest
+    → Puts o 0 header o₁ p → Puts o₁ p (lines s) o₂ q × LinesFit s → r ≡ min q (length o₂)
+    → (r ≡ min (length (runText s)) (length o))
+    × (o₂ ≡ written o 0 (runText s))
+    × Whole s o r
+unfolding runText
+run-whole s {o} {o₁} {o₂} {p} {q} {r} h f g e =
+    let w = puts-then h f (g .0) in
+    let two = length-append header (lines s) in
+    let same = puts-length w in (
+      omega (arith, w .next),
+      w .buffer,
+      λ k l. omega (arith, w .next, two, header-length, g .1 k),
+    )

@@ -1,0 +1,56 @@
+-- The text of a run, as document 01 has it under "A run, whole".
+-- The records are taken from the front of the input, one after the other, and each is judged on the tables that the one before left.
+use mathlib.Core.Bool.{Bool, cond}
+use mathlib.Core.List.{List, [], _++_}
+use Prim.Native.Nat.{ℕ, zero, suc, _+_}
+use lib.Dec.{eqb, ltb}
+use lib.ListN.{length, take, drop}
+use Rattle.text.specs.Text.{ascii, decimal}
+use Rattle.rules.specs.declared.Tables.{Tables}
+use Rattle.rules.specs.Bits.{bits}
+use Rattle.rules.specs.Tables.{fresh}
+use Rattle.rules.specs.Outcome.{replyTo, tablesAfter}
+
+unfoldable pub header : List ℕ
+header = ascii "n answer perm state\n"
+
+-- "the record's place from 1, the answer, the permission, the state afterwards, in decimal with one space between"
+unfoldable pub line : ℕ → ℕ → ℕ → ℕ → List ℕ
+line place answer permission state =
+    decimal place ++ ascii " " ++ decimal answer ++ ascii " " ++ decimal permission ++ ascii " " ++ decimal state ++ ascii "\n"
+
+-- of a record that is judged on the tables t
+abbrev pub lineFor : Tables → ℕ → List ℕ → List ℕ
+lineFor t place r = line place (replyTo t r .answer) (replyTo t r .permission) (tablesAfter t r .state)
+
+unfoldable pub cut : List ℕ
+cut = ascii "cut\n"
+
+-- the 16-bit length that the input starts with, the record after it, and the input after that
+abbrev pub lengthOf : List ℕ → ℕ
+lengthOf s = bits s 0 16
+
+abbrev pub firstOf : List ℕ → List ℕ
+firstOf s = take (lengthOf s) (drop 2 s)
+
+abbrev pub restOf : List ℕ → List ℕ
+restOf s = drop (2 + lengthOf s) s
+
+-- "a length whose record isn't all there, or a lone byte"
+abbrev pub isCut : List ℕ → Bool
+isCut s = ltb (length s) (2 + lengthOf s)
+
+-- the lines for the input s, in at most so many steps
+unfoldable pub linesFrom : ℕ → Tables → ℕ → List ℕ → List ℕ
+linesFrom zero t place s = []
+linesFrom (suc k) t place s =
+    cond (eqb (length s) 0) []
+    (cond (isCut s) cut
+    (lineFor t place (firstOf s) ++ linesFrom k (tablesAfter t (firstOf s)) (place + 1) (restOf s)))
+
+-- from fresh tables; a record takes at least two bytes, so as many steps as there are bytes are enough
+unfoldable pub lines : List ℕ → List ℕ
+lines s = linesFrom (length s) fresh 1 s
+
+unfoldable pub runText : List ℕ → List ℕ
+runText s = header ++ lines s

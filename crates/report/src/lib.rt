@@ -1,0 +1,75 @@
+// The text of a run: the input is cut into records after 16-bit lengths, and a line for each is written into a lent buffer.
+// Each record is judged on the tables that the one before handed back.
+use rules::Tables;
+use text::put;
+use text::put_byte;
+use text::put_decimal;
+ghost use mathlib.Core.Path.{_≡_};
+ghost use mathlib.Core.List.{[], _∷_, _++_};
+ghost use Prim.Native.Nat.{min};
+ghost use lib.ListN.{length};
+ghost use Rattle.text.specs.Text.{decimal};
+ghost use Rattle.text.specs.Buffer.{written, Puts, Counts};
+ghost use Rattle.report.specs.Run.{line, cut, lines, runText};
+ghost use Rattle.report.specs.Room.{LineFits, LinesFit, Whole};
+
+// A number in decimal, and the byte after it.
+fn put_number(out: &mut [u8], at: usize, n: usize, after: u8) -> usize
+    ensures { λ r. ⌜ Puts (now (out .entry)) at (decimal n ++ after ∷ []) (now (out .exit)) r ⌝ }
+{
+    let p = put_decimal(out, at, n);
+    put_byte(out, p, after)
+}
+
+fn put_line(out: &mut [u8], at: usize, place: usize, answer: u8, permission: u8, state: u8) -> usize
+    ensures { λ r. ⌜ Puts (now (out .entry)) at (line place answer permission state) (now (out .exit)) r ⌝ }
+    ensures { λ r. ⌜ LineFits place answer permission state ⌝ }
+{
+    let p = put_number(out, at, place, b' ');
+    let p = put_number(out, p, answer as usize, b' ');
+    let p = put_number(out, p, permission as usize, b' ');
+    put_number(out, p, state as usize, b'\n')
+}
+
+fn put_cut(out: &mut [u8], at: usize) -> usize
+    ensures { λ r. ⌜ Puts (now (out .entry)) at cut (now (out .exit)) r ⌝ }
+{
+    put(out, at, b"cut\n")
+}
+
+// The lines of a run, from fresh tables.
+fn put_lines(out: &mut [u8], at: usize, input: &[u8]) -> usize
+    ensures { λ r. ⌜ Puts (now (out .entry)) at (lines (now (input .entry))) (now (out .exit)) r ⌝ }
+    ensures { λ r. ⌜ LinesFit (now (input .entry)) ⌝ }
+{
+    let mut p = at;
+    let mut t = Tables::fresh();
+    let mut rest = input;
+    let mut place: usize = 1;
+    while 0 < rest.len() {
+        let end = 2 + fields::word(rest) as usize;
+        if rest.len() < end {
+            return put_cut(out, p);
+        }
+        let j = judge::judge(t, &rest[2..end]);
+        let next = j.tables;
+        p = put_line(out, p, place, j.answer, j.permission, next.state);
+        t = next;
+        rest = &rest[end..];
+        place += 1;
+    }
+    p
+}
+
+// The text of a run, as much of it as the buffer holds; the result is how many bytes that is.
+// `whole`: a buffer of 294,932 bytes holds all of it, for every run that the run program reads. `part`: a caller may take `&out[..r]`.
+pub fn run_text(input: &[u8], out: &mut [u8]) -> usize
+    ensures count { λ r. ⌜ r ≡ min (length (runText (now (input .entry)))) (length (now (out .entry))) ⌝ }
+    ensures buffer { λ r. ⌜ now (out .exit) ≡ written (now (out .entry)) 0 (runText (now (input .entry))) ⌝ }
+    ensures whole { λ r. ⌜ Whole (now (input .entry)) (now (out .entry)) r ⌝ }
+    ensures part { λ r. ⌜ Counts r (now (out .exit)) ⌝ }
+{
+    let p = put(out, 0, b"n answer perm state\n");
+    let p = put_lines(out, p, input);
+    text::within(out, p)
+}

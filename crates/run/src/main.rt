@@ -1,0 +1,14 @@
+// The run program: reads a run from standard input, and writes its text.
+// The work is `report::run_text`; no contract can say what is read or written.
+fn main() {
+    let mut input = [0u8; 32768];
+    let n = io::read_full(0, &mut input);
+    let mut out = room();
+    let k = report::run_text(&input[..n], &mut out);
+    io::write_all(1, &out[..k]);
+}
+
+// Room for the text of every run of at most 32,768 bytes: the header, and nine bytes for each byte of the run.
+fn room() -> [u8; 294932] {
+    [0; 294932]
+}

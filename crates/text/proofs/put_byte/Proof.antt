@@ -1,0 +1,24 @@
+-- `put_byte` meets its contract.
+-- In the buffer the byte is set; past its end nothing is, and the largest position stays.
+use native.Mathlib.Omega.{arith}
+use borrow.Author.Needs.{needs}
+use Rattle.text.proofs.Buffers.{puts-one, puts-past}
+use Rattle.text.proofs.put_byte.Statement.{statement}
+use Rattle.text.proofs.put_byte.Tie as tie
+
+returns : tie.Need-returns
+returns c = puts-one _ _ _ (omega arith)
+
+returns-2 : tie.Need-returns-2
+returns-2 c = puts-past _ _ _ (omega arith) (omega arith)
+
+returns-3 : tie.Need-returns-3
+returns-3 c = puts-past _ _ _ (omega arith) (omega arith)
+
+pub put-byte-spec : {M : Type 1} → statement M
+put-byte-spec =
+    tie.close
+    (tie.spec
+    (λ c. search needs) (λ c. search needs) (λ c. search needs) returns
+    (λ c. search needs) returns-2
+    returns-3)

@@ -1,0 +1,52 @@
+// Writing bytes, fixed texts and decimal numbers into a lent buffer at a position.
+// No function has a `requires`: a byte past the buffer's end is not written, and the position goes on, so an empty buffer measures.
+ghost use mathlib.Core.Path.{_≡_};
+ghost use mathlib.Core.List.{[], _∷_};
+ghost use Prim.Native.Nat.{min};
+ghost use lib.ListN.{length};
+ghost use Rattle.text.specs.Text.{decimal};
+ghost use Rattle.text.specs.Buffer.{Puts, Counts};
+
+// One byte. The largest position stays where it is.
+pub fn put_byte(out: &mut [u8], at: usize, b: u8) -> usize
+    ensures { λ r. ⌜ Puts (now (out .entry)) at (b ∷ []) (now (out .exit)) r ⌝ }
+{
+    if at < out.len() {
+        out[at] = b;
+        return at + 1;
+    }
+    if at < usize::MAX { at + 1 } else { at }
+}
+
+// A text, byte by byte.
+pub fn put(out: &mut [u8], at: usize, text: &[u8]) -> usize
+    ensures { λ r. ⌜ Puts (now (out .entry)) at (now (text .entry)) (now (out .exit)) r ⌝ }
+{
+    let mut p = at;
+    let mut i = 0;
+    while i < text.len() {
+        p = put_byte(out, p, text[i]);
+        i += 1;
+    }
+    p
+}
+
+// A number in decimal: the digits of its tenth, and then its last digit.
+pub fn put_decimal(out: &mut [u8], at: usize, n: usize) -> usize
+    ensures { λ r. ⌜ Puts (now (out .entry)) at (decimal n) (now (out .exit)) r ⌝ }
+{
+    let digit = (48 + n % 10) as u8;
+    if n < 10 {
+        return put_byte(out, at, digit);
+    }
+    let p = put_decimal(out, at, n / 10);
+    put_byte(out, p, digit)
+}
+
+// How many bytes stand in the buffer of a text that was put from its start and ends at a position.
+pub fn within(out: &[u8], at: usize) -> usize
+    ensures { λ r. ⌜ r ≡ min at (length (now (out .entry))) ⌝ }
+    ensures { λ r. ⌜ Counts r (now (out .entry)) ⌝ }
+{
+    if at < out.len() { at } else { out.len() }
+}
