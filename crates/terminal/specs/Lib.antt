@@ -1,0 +1,2 @@
+-- What the contracts of the C interface speak of.
+pub mod Interface

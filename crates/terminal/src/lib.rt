@@ -1,0 +1,61 @@
+// The C interface: one call each of the library, declared in include/tillerclover.h.
+// Tables pass by value, a record as a pointer and a length; the payload goes out as a start and a length within the record.
+use rules::Tables;
+ghost use mathlib.Core.Path.{_≡_};
+ghost use Rattle.rules.specs.Tables.{fresh, cleared};
+ghost use Rattle.rules.specs.Outcome.{outcome};
+ghost use Rattle.terminal.specs.Interface.{exported, startOf};
+
+// What becomes of a record. Without a payload both its start and its length are 0.
+#[repr(C)]
+pub struct Outcome {
+    pub answer: u8,
+    pub permission: u8,
+    pub start: usize,
+    pub length: usize,
+    pub tables: Tables,
+}
+
+// The tables of a new terminal.
+// Rules out: tables that are not sound; tables with an owner.
+#[no_mangle]
+pub extern "C" fn tillerclover_fresh() -> Tables
+    ensures { λ r. ⌜ r ≡ fresh ⌝ }
+{
+    Tables::fresh()
+}
+
+// The clear button.
+// Rules out: a button that keeps a row; one that asks for sound tables.
+#[no_mangle]
+pub extern "C" fn tillerclover_clear(t: Tables) -> Tables
+    ensures { λ r. ⌜ r ≡ cleared t ⌝ }
+{
+    judge::clear(t)
+}
+
+// Where a payload of this length starts in its record.
+fn start_of(length: usize) -> usize
+    ensures { λ r. ⌜ r ≡ startOf length ⌝ }
+{
+    if length == 0 { 0 } else { 4 }
+}
+
+// Judges a record.
+// Rules out: the payload of a refused record; the tables of another record.
+#[no_mangle]
+pub extern "C" fn tillerclover_judge(t: Tables, record: &[u8]) -> Outcome
+    ensures { λ r. ⌜ r ≡ exported (outcome t (now («record» .entry))) ⌝ }
+{
+    let j = judge::judge(t, record);
+    let next = j.tables;
+    let answer = j.answer;
+    let length = judge::payload(record, answer).len();
+    Outcome {
+        answer: answer,
+        permission: j.permission,
+        start: start_of(length),
+        length: length,
+        tables: next,
+    }
+}
