@@ -46,9 +46,9 @@ credRows : ℕ → List Row
 credRows zero = []
 credRows (suc n) = credRow (suc n) ∷ credRows n
 
--- 25 credential rows are claimed
+-- 25 credential rows are claimed where 24 stand: nothing else is wrong
 overfull : Tables
-overfull = record { state = 1; owned = 0; ncreds = 25; naces = 0; devowner = replicate 16 0; rowners = replicate 64 0; creds = replicate 504 0; aces = replicate 896 0 }
+overfull = record { state = 1; owned = 0; ncreds = 25; naces = 0; devowner = nil; rowners = replicate 64 0; creds = packed 504 (credRows 24); aces = replicate 896 0 }
 
 -- state 2, the owner in row 5
 pub owned5 : Tables
@@ -129,15 +129,26 @@ connected c = replicate 15 0 ++ (c ∷ [])
 pub serving : List Row → Tables
 serving ws = withState (withRows Aces owned5 ws) 3
 
+-- each reading, and beside it that the same row does fit where it should
 pub guards :
+    -- the first fitting row decides
     effective (serving (aceRow 1 2 1 0 weight (connected 0) ∷ aceRow 2 2 4 0 weight (connected 0) ∷ [])) unauthenticated 8
-    ∷ effective (serving (aceRow 1 2 31 1 none (connected 0) ∷ [])) unauthenticated 3
+    -- a wildcard reaches acl2
+    ∷ effective (serving (aceRow 1 2 31 7 none (connected 0) ∷ [])) unauthenticated 3
+    ∷ effective (serving (aceRow 1 2 31 7 none (connected 0) ∷ [])) unauthenticated 8
+    -- a nil row owner fits a sender without a credential
     ∷ effective (serving []) unauthenticated 3
+    ∷ effective (serving []) (partner 5) 3
+    -- a row for auth-crypt also fits anon-clear
     ∷ effective (serving (aceRow 1 2 31 1 none (connected 1) ∷ [])) unauthenticated 8
+    ∷ effective (serving (aceRow 1 2 31 1 none (connected 1) ∷ [])) (partner 5) 8
+    -- a body is judged before permission
     ∷ answer (serving []) (0x40 ∷ 0x40 ∷ 0x00 ∷ 0x00 ∷ 0xa0 ∷ [])
+    ∷ answer (serving []) (0x50 ∷ 0x40 ∷ 0x00 ∷ 0x05 ∷ 0xa0 ∷ [])
+    -- a target equal to the present state passes
     ∷ answer owned5 (0x50 ∷ 0x40 ∷ 0x00 ∷ 0x05 ∷ 0x40 ∷ [])
     ∷ []
-    ≡ 5 ∷ 0 ∷ 0 ∷ 0 ∷ 8 ∷ 12 ∷ []
+    ≡ 5 ∷ 0 ∷ 31 ∷ 0 ∷ 31 ∷ 0 ∷ 31 ∷ 8 ∷ 10 ∷ 12 ∷ []
 unfolding definitions owned5 serving aceRow weight none connected uuid credRow
 guards = refl
 

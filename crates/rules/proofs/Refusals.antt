@@ -6,6 +6,8 @@ use mathlib.Core.Path.{_≡_, refl, sym, ap, _∙_}
 use mathlib.Core.Bool.{Bool, true, false, not, _&&_, cond}
 use mathlib.Core.List.{List, [], _∷_, _++_, map}
 use lib.Dec.{eqb}
+use borrow.Author.Tests.{eq-eqb}
+use Rattle.rules.specs.Tables.{sound}
 use Rattle.rules.specs.declared.Tables.{Tables}
 use Rattle.rules.specs.declared.Check.{Check}
 use Rattle.rules.specs.declared.Check.the-variants.{Pass, Refuse}
@@ -47,6 +49,22 @@ refused-first ((m, false) ∷ es) n p =
     let f = refused-first es n p in
     record { before = (m, false) ∷ f .before; after = f .after; stands = ap (λ (l : List (ℕ × Bool)). (m, false) ∷ l) (f .stands); passed = f .passed }
 
+-- and only then
+pub none-permitted : (es : List (ℕ × Bool)) → noneApplies es ≡ true → verdict es ≡ Pass
+unfolding verdict
+none-permitted [] h = refl
+none-permitted ((m, true) ∷ es) h = contradiction h refl
+none-permitted ((m, false) ∷ es) h = none-permitted es h
+
+past-all : (n : ℕ) (after before : List (ℕ × Bool)) → noneApplies before ≡ true → verdict (before ++ (n, true) ∷ after) ≡ Refuse n
+unfolding verdict
+past-all n after [] h = refl
+past-all n after ((m, true) ∷ before) h = contradiction h refl
+past-all n after ((m, false) ∷ before) h = past-all n after before h
+
+pub first-refused : (es : List (ℕ × Bool)) (n : ℕ) → FirstOf n es → verdict es ≡ Refuse n
+first-refused es n f = ap verdict (f .stands) ∙ past-all n (f .after) (f .before) (f .passed)
+
 -- ---- no check has number 0
 
 abbrev numbered : List (ℕ × Bool) → Bool
@@ -67,6 +85,26 @@ refused-number ((m, false) ∷ es) n d e = go (eqb m 0) d (λ h. refused-number 
     go true h ih = contradiction h refl
     go false h ih = ih h
 
+-- ---- of a record
+
+-- answer 0: no check applies
+pub permitted-is : (t : Tables) (r : List ℕ) → replyTo t r .answer ≡ 0 → noneApplies (checks t (permission t r) r) ≡ true
+unfolding outcome outcomeAt
+permitted-is t r = go (verdict (checks t (permission t r) r)) refl
+  where
+    go : (c : Check) → verdict (checks t (permission t r) r) ≡ c → outcomeOf t (permission t r) r c .reply .answer ≡ 0 → noneApplies (checks t (permission t r) r) ≡ true
+    go Pass e a = permitted-none (checks t (permission t r) r) e
+    go (Refuse n) e a = contradiction (eq-eqb n 0 a) (refused-number (checks t (permission t r) r) n refl e)
+
+-- any other answer: that check applies, and none before it
+pub refused-is : (t : Tables) (r : List ℕ) (n : ℕ) → replyTo t r .answer ≡ suc n → FirstOf (suc n) (checks t (permission t r) r)
+unfolding outcome outcomeAt
+refused-is t r n = go (verdict (checks t (permission t r) r)) refl
+  where
+    go : (c : Check) → verdict (checks t (permission t r) r) ≡ c → outcomeOf t (permission t r) r c .reply .answer ≡ suc n → FirstOf (suc n) (checks t (permission t r) r)
+    go Pass e a = absurd (omega arith)
+    go (Refuse m) e a = refused-first (checks t (permission t r) r) (suc n) (e ∙ ap (λ (k : ℕ). Refuse k) a)
+
 -- ---- a refusal
 
 -- any answer but 0 goes with permission 0, the empty payload and the same tables
@@ -86,3 +124,8 @@ payload-is t r = go (verdict (checks t (permission t r) r)) refl
     go : (c : Check) → verdict (checks t (permission t r) r) ≡ c → let o = outcomeOf t (permission t r) r c .reply in cond (eqb (o .answer) 0) (payloadOf r) [] ≡ o .payload
     go Pass e = refl
     go (Refuse n) e = rw (refused-number (checks t (permission t r) r) n refl e)
+
+-- tables that are not sound: each record gets 1, and they are handed back as they are
+pub unsound-refused : (t : Tables) (r : List ℕ) → sound t ≡ false → outcome t r ≡ record { reply = record { answer = 1; permission = 0; payload = [] }; tables = t }
+unfolding outcome outcomeAt verdict
+unsound-refused t r e = rw e
