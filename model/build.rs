@@ -31,4 +31,5 @@ fn main() {
         exit(1);
     }
     println!("cargo:rustc-link-search=native={}", folder.display());
+    println!("cargo:rustc-env=TILLERCLOVER_ARCHIVE={}", file.display());
 }

@@ -1,7 +1,8 @@
 //! A second model of the terminal's access rules, written from the scope paper
 //! alone, and the means to compare the proved library with it.
 
-#![forbid(unsafe_code)]
+// Only calls of the linked library are unsafe.
+#![deny(unsafe_code)]
 
 // The rules.
 pub mod bits;
@@ -24,3 +25,7 @@ pub mod case;
 pub mod hex;
 pub mod histogram;
 pub mod options;
+
+#[cfg(feature = "linked")]
+#[allow(unsafe_code)]
+pub mod library;

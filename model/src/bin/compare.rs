@@ -3,6 +3,7 @@
 use model::case::{describe, field, first_change, same, shrink, Case};
 use model::generate::{any_bytes, walk};
 use model::histogram::Histogram;
+use model::library;
 use model::options::Program;
 use model::random::Random;
 use model::rules::{judge, Outcome};
@@ -30,98 +31,6 @@ Ends with 0 when all are equal, with 1 when one is not.
     flags: &["--trace"],
     free: 0,
 };
-
-/// The library, as C sees it.
-mod library {
-    use std::ops::Range;
-
-    use model::rules::Outcome as Judged;
-    use model::tables::{self, Stored};
-
-    #[repr(C)]
-    #[derive(Clone, Copy)]
-    struct Tables {
-        state: u8,
-        owned: u8,
-        ncreds: u8,
-        naces: u8,
-        devowner: [u8; 16],
-        rowners: [u8; 64],
-        creds: [u8; 504],
-        aces: [u8; 896],
-    }
-
-    #[repr(C)]
-    struct Outcome {
-        answer: u8,
-        permission: u8,
-        payload_start: u16,
-        payload_len: u16,
-        tables: Tables,
-    }
-
-    const _: () = assert!(size_of::<Tables>() == tables::SIZE);
-
-    #[link(name = "terminal", kind = "static")]
-    extern "C" {
-        fn tillerclover_fresh() -> Tables;
-        fn tillerclover_clear(t: Tables) -> Tables;
-        fn tillerclover_judge(t: Tables, record: *const u8, len: usize) -> Outcome;
-    }
-
-    impl Tables {
-        fn from_bytes(stored: &Stored) -> Tables {
-            fn part<const N: usize>(stored: &Stored, range: Range<usize>) -> [u8; N] {
-                stored[range].try_into().expect("a field of this length")
-            }
-            Tables {
-                state: stored[tables::STATE],
-                owned: stored[tables::OWNED],
-                ncreds: stored[tables::CREDENTIAL_COUNT],
-                naces: stored[tables::ACCESS_COUNT],
-                devowner: part(stored, tables::DEVICE_OWNER),
-                rowners: part(stored, tables::ROW_OWNERS),
-                creds: part(stored, tables::CREDENTIALS),
-                aces: part(stored, tables::ACCESSES),
-            }
-        }
-
-        fn bytes(&self) -> Stored {
-            let mut stored = [0; tables::SIZE];
-            stored[tables::STATE] = self.state;
-            stored[tables::OWNED] = self.owned;
-            stored[tables::CREDENTIAL_COUNT] = self.ncreds;
-            stored[tables::ACCESS_COUNT] = self.naces;
-            stored[tables::DEVICE_OWNER].copy_from_slice(&self.devowner);
-            stored[tables::ROW_OWNERS].copy_from_slice(&self.rowners);
-            stored[tables::CREDENTIALS].copy_from_slice(&self.creds);
-            stored[tables::ACCESSES].copy_from_slice(&self.aces);
-            stored
-        }
-    }
-
-    pub fn fresh() -> Stored {
-        // Takes nothing and gives bytes.
-        unsafe { tillerclover_fresh() }.bytes()
-    }
-
-    pub fn clear(stored: &Stored) -> Stored {
-        // Takes and gives bytes, any of which are allowed.
-        unsafe { tillerclover_clear(Tables::from_bytes(stored)) }.bytes()
-    }
-
-    pub fn judge(stored: &Stored, record: &[u8]) -> Judged {
-        // The pointer and the length are those of a living slice.
-        let outcome = unsafe { tillerclover_judge(Tables::from_bytes(stored), record.as_ptr(), record.len()) };
-        let start = outcome.payload_start as usize;
-        Judged {
-            answer: outcome.answer,
-            permission: outcome.permission,
-            payload: start..start + outcome.payload_len as usize,
-            tables: outcome.tables.bytes(),
-        }
-    }
-}
 
 const SHOWN: usize = 5;
 const RECORDS_BETWEEN_CLEARS: u64 = 50;

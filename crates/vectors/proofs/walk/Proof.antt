@@ -1,0 +1,24 @@
+-- `walk` is safe and ends.
+-- Nothing has to hold from entry to entry. Measure: the length of the rest.
+use borrow.Author.Needs.{needs}
+use lib.ListN.{length}
+use Rattle.vectors.proofs.walk.Statement.{statement}
+use Rattle.vectors.proofs.walk.Tie as tie
+
+abbrev Inv-loop : tie.InvT-loop
+Inv-loop bytes p₀ rest₀ p rest = Unit {0}
+
+abbrev μ-loop : tie.MeasureT-loop
+μ-loop bytes p₀ rest₀ p rest = length rest
+
+pub walk-spec : {M : Type 1} → statement M
+walk-spec =
+    tie.close
+    (tie.spec
+    Inv-loop
+    μ-loop
+    (λ c κs. search needs) (λ c. search needs)
+    (λ c κs. search needs) (λ c κs. search needs) (λ c κs. search needs) (λ c. search needs)
+    (λ c κs. search needs) (λ c. search needs) (λ c κs. search needs) (λ c κs. search needs)
+    (λ c. search needs) (λ c. search needs) (λ c. search needs) (λ c. search needs)
+    (λ c. search needs) (λ c. search needs))

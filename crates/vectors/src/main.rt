@@ -1,0 +1,205 @@
+// Judges the records of vectors.bin, which the second model wrote, and compares what comes of each.
+// The file's form stands in model/src/vectors.rs: tables to take, records with their outcome, tables that must be reached.
+use fields::after;
+use fields::part;
+use fields::word;
+use rules::Tables;
+
+// What is held from entry to entry.
+struct Progress {
+    tables: Tables,
+    entry: u64,
+    records: u64,
+    differences: u64,
+}
+
+fn main() {
+    let path = b"vectors.bin";
+    let file = os::open_read(path);
+    if file < 0 {
+        os::fail(path);
+        return;
+    }
+    let mut bytes = room();
+    let n = io::read_full(file, &mut bytes);
+    libc::close(file);
+    print_result(walk(&bytes[..n]));
+}
+
+// More than the model writes. Of a longer file the last entry is cut, and counts as a difference.
+fn room() -> [u8; 400000] {
+    [0; 400000]
+}
+
+fn print_result(p: Progress) {
+    io::write_all(1, b"vectors: ");
+    io::print_decimal(1, p.records);
+    io::write_all(1, b" records, ");
+    io::print_decimal(1, p.differences);
+    io::write_all(1, b" differences\n");
+}
+
+// All entries in their order, up to one that is cut or has no known tag.
+fn walk(bytes: &[u8]) -> Progress {
+    let mut p = Progress {
+        tables: Tables::fresh(),
+        entry: 0,
+        records: 0,
+        differences: 0,
+    };
+    let mut rest = bytes;
+    while 0 < rest.len() {
+        p = counted(p);
+        let size = entry_size(rest);
+        if rest.len() < size {
+            return differing(p);
+        }
+        if size == 0 {
+            return differing(p);
+        }
+        p = entry_done(p, part(rest, 0, size));
+        rest = &rest[size..];
+    }
+    p
+}
+
+// One more, or the largest number.
+fn more(n: u64) -> u64 {
+    if n < u64::MAX { n + 1 } else { n }
+}
+
+fn counted(p: Progress) -> Progress {
+    let mut next = p;
+    next.entry = more(p.entry);
+    next
+}
+
+// Says which entry differs, and counts it.
+fn differing(p: Progress) -> Progress {
+    io::write_all(1, b"entry ");
+    io::print_decimal(1, p.entry);
+    io::write_all(1, b" differs\n");
+    let mut next = p;
+    next.differences = more(p.differences);
+    next
+}
+
+// The byte at an index, or 0.
+fn byte_at(s: &[u8], i: usize) -> u8 {
+    if i < s.len() { s[i] } else { 0 }
+}
+
+// Bytes of the first entry, its tag among them; 0 where the tag is not known.
+fn entry_size(s: &[u8]) -> usize {
+    let tag = byte_at(s, 0);
+    match tag {
+        0 => 1485,
+        1 => 9 + word(after(s, 1)) as usize,
+        2 => 1485,
+        _ => 0,
+    }
+}
+
+fn entry_done(p: Progress, s: &[u8]) -> Progress {
+    let tag = byte_at(s, 0);
+    match tag {
+        0 => taken(p, after(s, 1)),
+        1 => judged(p, after(s, 1)),
+        _ => reached(p, after(s, 1)),
+    }
+}
+
+// Goes on with the tables of these bytes.
+fn taken(p: Progress, bytes: &[u8]) -> Progress {
+    let t = tables_of(bytes);
+    let mut next = p;
+    next.tables = t;
+    next
+}
+
+// Compares the tables with these bytes.
+fn reached(p: Progress, bytes: &[u8]) -> Progress {
+    let t = p.tables;
+    if same_tables(t, bytes) {
+        p
+    } else {
+        differing(p)
+    }
+}
+
+// Judges the record behind its length, and compares the outcome with the one behind the record.
+fn judged(p: Progress, s: &[u8]) -> Progress {
+    let length = word(s) as usize;
+    let record = part(s, 2, length);
+    let expected = after(after(s, 2), length);
+    let t = p.tables;
+    let j = judge::judge(t, record);
+    let answer = j.answer;
+    let payload = judge::payload(record, answer);
+    let t = j.tables;
+    let mut next = p;
+    next.tables = t;
+    next.records = more(p.records);
+    if same_outcome(answer, j.permission, payload, record, expected) {
+        next
+    } else {
+        differing(next)
+    }
+}
+
+// Whether an outcome is the one of these bytes: answer, permission, payload start and payload length.
+fn same_outcome(
+    answer: u8,
+    permission: u8,
+    payload: &[u8],
+    record: &[u8],
+    expected: &[u8],
+) -> bool {
+    let start = word(after(expected, 2)) as usize;
+    let length = word(after(expected, 4)) as usize;
+    (answer == byte_at(expected, 0))
+        & (permission == byte_at(expected, 1))
+        & (payload.len() == length)
+        & rows::same_bytes(payload, part(record, start, length))
+}
+
+fn tables_of(bytes: &[u8]) -> Tables {
+    let mut devowner = [0u8; 16];
+    let mut rowners = [0u8; 64];
+    let mut creds = [0u8; 504];
+    let mut aces = [0u8; 896];
+    fill(&mut devowner, after(bytes, 4));
+    fill(&mut rowners, after(bytes, 20));
+    fill(&mut creds, after(bytes, 84));
+    fill(&mut aces, after(bytes, 588));
+    Tables {
+        state: byte_at(bytes, 0),
+        owned: byte_at(bytes, 1),
+        ncreds: byte_at(bytes, 2),
+        naces: byte_at(bytes, 3),
+        devowner: devowner,
+        rowners: rowners,
+        creds: creds,
+        aces: aces,
+    }
+}
+
+// Puts the first bytes over all of `out`.
+fn fill(out: &mut [u8], bytes: &[u8]) {
+    let mut i = 0;
+    while i < out.len() {
+        out[i] = byte_at(bytes, i);
+        i += 1;
+    }
+}
+
+fn same_tables(t: Tables, bytes: &[u8]) -> bool {
+    (t.state == byte_at(bytes, 0))
+        & (t.owned == byte_at(bytes, 1))
+        & (t.ncreds == byte_at(bytes, 2))
+        & (t.naces == byte_at(bytes, 3))
+        & rows::same_bytes(&t.devowner, part(bytes, 4, 16))
+        & rows::same_bytes(&t.rowners, part(bytes, 20, 64))
+        & rows::same_bytes(&t.creds, part(bytes, 84, 504))
+        & rows::same_bytes(&t.aces, part(bytes, 588, 896))
+}

@@ -1,0 +1,299 @@
+/* A weighbridge yard: the owner sets a terminal up, then a haulier, a stranger and a broken sender
+ * call. Before that the program sees that its structs are laid out as the library's.
+ *
+ *     rt staticlib terminal
+ *     cc -std=c11 -Wall -Wextra -Werror -Iinclude examples/yard.c target/staticlib/libterminal.a -o target/yard
+ *     target/yard
+ */
+#include <stdio.h>
+#include <stdlib.h>
+#include <string.h>
+
+#include "tillerclover.h"
+
+enum { OWNER = 5, HAULIER = 7, UNKNOWN = 9 };
+
+static const uint8_t OWNER_UUID[TILLERCLOVER_UUID_LENGTH] = {0x5b, 0x0d, 0x3a, 0x64, 0x9c, 0x21, 0x4e, 0x7f,
+                                                             0x8a, 0x15, 0x3d, 0xe2, 0x90, 0xc7, 0x46, 0x18};
+static const uint8_t HAULIER_UUID[TILLERCLOVER_UUID_LENGTH] = {0xc4, 0x71, 0x0e, 0x95, 0x33, 0xda, 0x48, 0x02,
+                                                               0xb6, 0x5f, 0x87, 0x1b, 0x2e, 0x60, 0xf9, 0xad};
+
+static const char *const ANSWERS[] = {
+    "permitted",
+    "tables not sound",
+    "record too short or too long",
+    "no such verb",
+    "a zero bit of the header is set",
+    "connection and credential number disagree",
+    "unknown resource",
+    "no such credential",
+    "not permitted",
+    "verb not offered",
+    "body malformed",
+    "not in this device state",
+    "target state not on the list",
+    "no such row",
+    "table full",
+};
+
+static const char *const STATES[] = {"RESET", "RFOTM", "RFPRO", "RFNOP", "SRESET"};
+
+/* ---- Records */
+
+struct record {
+    uint8_t bytes[TILLERCLOVER_RECORD_MAX];
+    size_t length;
+};
+
+/* A header; `sender` is a credential number, or 0 for an unauthenticated sender. */
+static struct record header(enum tillerclover_verb verb, enum tillerclover_resource resource, unsigned sender)
+{
+    enum tillerclover_connection connection = sender ? TILLERCLOVER_AUTH_CRYPT : TILLERCLOVER_ANON_CLEAR;
+    unsigned first = (unsigned)verb << 13 | (unsigned)connection << 12 | (unsigned)resource << 6;
+    struct record r = {.length = TILLERCLOVER_HEADER_LENGTH};
+    r.bytes[0] = (uint8_t)(first >> 8);
+    r.bytes[1] = (uint8_t)first;
+    r.bytes[2] = (uint8_t)(sender >> 8);
+    r.bytes[3] = (uint8_t)sender;
+    return r;
+}
+
+static void add(struct record *r, const void *bytes, size_t length)
+{
+    memcpy(r->bytes + r->length, bytes, length);
+    r->length += length;
+}
+
+static void add_byte(struct record *r, unsigned byte)
+{
+    r->bytes[r->length++] = (uint8_t)byte;
+}
+
+static struct record set_owner(unsigned sender, const uint8_t uuid[TILLERCLOVER_UUID_LENGTH])
+{
+    struct record r = header(TILLERCLOVER_UPDATE, TILLERCLOVER_DOXM, sender);
+    add_byte(&r, 0x80);
+    add(&r, uuid, TILLERCLOVER_UUID_LENGTH);
+    return r;
+}
+
+static struct record set_row_owner(enum tillerclover_resource resource, const uint8_t uuid[TILLERCLOVER_UUID_LENGTH])
+{
+    struct record r = header(TILLERCLOVER_UPDATE, resource, 0);
+    add(&r, uuid, TILLERCLOVER_UUID_LENGTH);
+    return r;
+}
+
+static struct record set_state(unsigned sender, enum tillerclover_state target)
+{
+    struct record r = header(TILLERCLOVER_UPDATE, TILLERCLOVER_PSTAT, sender);
+    add_byte(&r, (unsigned)target << 5);
+    return r;
+}
+
+/* A credential row with no role and type 1. */
+static struct record store_cred(unsigned sender, unsigned number, const uint8_t uuid[TILLERCLOVER_UUID_LENGTH])
+{
+    struct record r = header(TILLERCLOVER_UPDATE, TILLERCLOVER_CRED, sender);
+    add_byte(&r, number >> 8);
+    add_byte(&r, number);
+    add(&r, uuid, TILLERCLOVER_UUID_LENGTH);
+    add_byte(&r, 0);
+    add_byte(&r, 0);
+    add_byte(&r, 1u << 2);
+    return r;
+}
+
+/* An access row that gives a UUID one resource. */
+static struct record store_ace(unsigned sender, unsigned number, unsigned permission,
+                               enum tillerclover_resource resource, const uint8_t uuid[TILLERCLOVER_UUID_LENGTH])
+{
+    struct record r = header(TILLERCLOVER_UPDATE, TILLERCLOVER_ACL2, sender);
+    uint8_t set[8] = {0};
+    set[resource / 8] = (uint8_t)(0x80u >> resource % 8);
+    add_byte(&r, number >> 8);
+    add_byte(&r, number);
+    /* subject kind 0, five bits of permission, no wildcard, six zero bits */
+    add_byte(&r, permission << 1);
+    add_byte(&r, 0);
+    add(&r, set, sizeof set);
+    add(&r, uuid, TILLERCLOVER_UUID_LENGTH);
+    return r;
+}
+
+/* ---- What is asked of the library */
+
+static void expect(int holds, const char *what)
+{
+    if (!holds) {
+        fprintf(stderr, "yard: %s\n", what);
+        exit(1);
+    }
+}
+
+static tillerclover_outcome judge(tillerclover_tables t, struct record r)
+{
+    return tillerclover_judge(t, r.bytes, r.length);
+}
+
+/* The tables after a record that must be permitted. */
+static tillerclover_tables after(tillerclover_tables t, struct record r)
+{
+    tillerclover_outcome o = judge(t, r);
+    expect(o.answer == TILLERCLOVER_PERMITTED, "a record of the layout test was refused");
+    return o.tables;
+}
+
+static int same(const tillerclover_tables *a, const tillerclover_tables *b)
+{
+    return memcmp(a, b, sizeof *a) == 0;
+}
+
+/* Bytes that show where they come from. */
+static tillerclover_tables pattern(void)
+{
+    tillerclover_tables t;
+    uint8_t *bytes = (uint8_t *)&t;
+    for (size_t i = 0; i < sizeof t; i++) {
+        bytes[i] = (uint8_t)(i * 37 + i / 256 + 101);
+    }
+    return t;
+}
+
+/* ---- Sizes and offsets: the library's against the header's */
+
+static void whole_tables(void)
+{
+    tillerclover_tables worn, cleared, fresh, expected;
+    memset(&worn, 0xFF, sizeof worn);
+    cleared = tillerclover_clear(worn);
+    fresh = tillerclover_fresh();
+    memset(&expected, 0, sizeof expected);
+    expected.state = TILLERCLOVER_RFOTM;
+    expect(same(&cleared, &expected), "tables are not fresh after clearing");
+    expect(same(&fresh, &expected), "fresh tables have other bytes");
+}
+
+static void refused_tables(void)
+{
+    tillerclover_tables t = pattern();
+    tillerclover_outcome o = judge(t, header(TILLERCLOVER_RETRIEVE, TILLERCLOVER_WEIGHT, 0));
+    expect(o.answer == TILLERCLOVER_NOT_SOUND, "tables of any bytes were taken for sound");
+    expect(o.permission == 0 && o.start == 0 && o.length == 0, "a refusal has a permission or a payload");
+    expect(same(&o.tables, &t), "a refusal changed the tables");
+}
+
+/* Each field is written by the library and read here by its name. */
+static void each_field(void)
+{
+    tillerclover_tables expected = tillerclover_fresh();
+    tillerclover_tables t = expected;
+    struct record r;
+    for (unsigned i = 0; i < TILLERCLOVER_ROW_OWNERS; i++) {
+        uint8_t uuid[TILLERCLOVER_UUID_LENGTH];
+        memset(uuid, (int)(0x20 + i), sizeof uuid);
+        t = after(t, set_row_owner((enum tillerclover_resource)i, uuid));
+        memcpy(expected.rowners + i * sizeof uuid, uuid, sizeof uuid);
+        expect(same(&t, &expected), "rowners stands elsewhere");
+    }
+    for (unsigned i = 0; i < TILLERCLOVER_CRED_CAPACITY; i++) {
+        r = store_cred(0, 100 + i, OWNER_UUID);
+        t = after(t, r);
+        expected.ncreds++;
+        memcpy(expected.creds + i * TILLERCLOVER_CRED_LENGTH, r.bytes + TILLERCLOVER_HEADER_LENGTH, TILLERCLOVER_CRED_LENGTH);
+        expect(same(&t, &expected), "creds or ncreds stands elsewhere");
+    }
+    for (unsigned i = 0; i < TILLERCLOVER_ACE_CAPACITY; i++) {
+        r = store_ace(0, 200 + i, TILLERCLOVER_MAY_ALL, TILLERCLOVER_LAMP, OWNER_UUID);
+        t = after(t, r);
+        expected.naces++;
+        memcpy(expected.aces + i * TILLERCLOVER_ACE_LENGTH, r.bytes + TILLERCLOVER_HEADER_LENGTH, TILLERCLOVER_ACE_LENGTH);
+        expect(same(&t, &expected), "aces or naces stands elsewhere");
+    }
+    t = after(t, set_owner(0, OWNER_UUID));
+    expected.owned = 1;
+    memcpy(expected.devowner, OWNER_UUID, sizeof OWNER_UUID);
+    expect(same(&t, &expected), "owned or devowner stands elsewhere");
+    t = after(t, set_state(100, TILLERCLOVER_RFPRO));
+    t = after(t, set_state(100, TILLERCLOVER_RFNOP));
+    expected.state = TILLERCLOVER_RFNOP;
+    expect(same(&t, &expected), "state stands elsewhere");
+
+    /* An outcome whose fields all differ. */
+    r = header(TILLERCLOVER_UPDATE, TILLERCLOVER_LAMP, 100);
+    add(&r, "on", 2);
+    tillerclover_outcome o = judge(t, r);
+    expect(o.answer == TILLERCLOVER_PERMITTED && o.permission == TILLERCLOVER_MAY_ALL, "answer or permission stands elsewhere");
+    expect(o.start == 4 && o.length == 2, "start or length stands elsewhere");
+    expect(same(&o.tables, &expected), "tables stands elsewhere in the outcome");
+    o = judge(t, store_ace(100, 1, 0, TILLERCLOVER_LAMP, OWNER_UUID));
+    expect(o.answer == TILLERCLOVER_WRONG_STATE && o.permission == 0 && o.start == 0 && o.length == 0, "a refusal has other fields");
+}
+
+/* A record of no bytes, with a pointer and with none. */
+static void no_bytes(void)
+{
+    static const uint8_t nothing[1];
+    tillerclover_outcome o = tillerclover_judge(tillerclover_fresh(), nothing, 0);
+    expect(o.answer == TILLERCLOVER_BAD_LENGTH, "an empty record was not refused for its length");
+    o = tillerclover_judge(tillerclover_fresh(), NULL, 0);
+    expect(o.answer == TILLERCLOVER_BAD_LENGTH, "a null record was not refused for its length");
+}
+
+/* ---- The yard */
+
+/* Judges a record, prints what came of it and keeps the tables that were handed back. */
+static void call(tillerclover_tables *t, const char *what, struct record r)
+{
+    tillerclover_outcome o = judge(*t, r);
+    *t = o.tables;
+    printf("%-44s %2u %s", what, o.answer, ANSWERS[o.answer]);
+    if (o.answer == TILLERCLOVER_PERMITTED) {
+        printf(", permission %u, state %s", o.permission, STATES[o.tables.state]);
+    }
+    if (o.length != 0) {
+        printf(", payload \"%.*s\"", (int)o.length, (const char *)r.bytes + o.start);
+    }
+    printf("\n");
+}
+
+int main(void)
+{
+    whole_tables();
+    refused_tables();
+    each_field();
+    no_bytes();
+    printf("layout: %zu bytes of tables in an outcome of %zu, as in the library\n", sizeof(tillerclover_tables),
+           sizeof(tillerclover_outcome));
+
+    tillerclover_tables t = tillerclover_fresh();
+    call(&t, "a new terminal takes the owner's credential", store_cred(0, OWNER, OWNER_UUID));
+    call(&t, "and gets its owner", set_owner(0, OWNER_UUID));
+    call(&t, "the owner moves it to RFPRO", set_state(OWNER, TILLERCLOVER_RFPRO));
+    call(&t, "stores the haulier's credential", store_cred(OWNER, HAULIER, HAULIER_UUID));
+    call(&t, "lets the haulier write the tare", store_ace(OWNER, 1, TILLERCLOVER_MAY_UPDATE, TILLERCLOVER_TARE, HAULIER_UUID));
+    call(&t, "and read the weight", store_ace(OWNER, 2, TILLERCLOVER_MAY_RETRIEVE, TILLERCLOVER_WEIGHT, HAULIER_UUID));
+    call(&t, "and moves the terminal to RFNOP", set_state(OWNER, TILLERCLOVER_RFNOP));
+
+    struct record tare = header(TILLERCLOVER_UPDATE, TILLERCLOVER_TARE, HAULIER);
+    add(&tare, "7420 kg", 7);
+    call(&t, "the haulier writes the tare", tare);
+    call(&t, "reads the weight", header(TILLERCLOVER_RETRIEVE, TILLERCLOVER_WEIGHT, HAULIER));
+    call(&t, "tries to write the weight", header(TILLERCLOVER_UPDATE, TILLERCLOVER_WEIGHT, HAULIER));
+    call(&t, "and to read the access list", header(TILLERCLOVER_RETRIEVE, TILLERCLOVER_ACL2, HAULIER));
+
+    struct record strange = header(TILLERCLOVER_UPDATE, TILLERCLOVER_TARE, 0);
+    add(&strange, "100 kg", 6);
+    call(&t, "a stranger writes the tare", strange);
+    call(&t, "and one with a credential of its own", header(TILLERCLOVER_UPDATE, TILLERCLOVER_TARE, UNKNOWN));
+
+    struct record broken = header(TILLERCLOVER_RETRIEVE, TILLERCLOVER_WEIGHT, HAULIER);
+    broken.length = 3;
+    call(&t, "a record that lost a byte", broken);
+    broken = header(TILLERCLOVER_RETRIEVE, TILLERCLOVER_WEIGHT, HAULIER);
+    broken.bytes[1] |= 1;
+    call(&t, "a record with a stray bit", broken);
+    broken = store_cred(OWNER, 0, HAULIER_UUID);
+    call(&t, "the owner stores a credential with number 0", broken);
+    return 0;
+}

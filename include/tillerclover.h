@@ -1,0 +1,218 @@
+/* Tillerclover: the access decision of a weighbridge terminal, for C11 and C++11.
+ *
+ * Link libterminal.a, which `rt staticlib terminal` writes to target/staticlib/. It is code for
+ * x86-64 with the System V calling convention and needs nothing but memcpy, memmove and memset.
+ *
+ * The three functions are pure: what they return depends on their arguments alone. They keep no
+ * state between calls, allocate nothing, do no input or output, never fail and always return. So
+ * any number of threads may call them at once. A thread needs 16 KiB of free stack for a call;
+ * docs/BENCHMARKS.md has the measured depth.
+ *
+ * Tables go in and come out by value: the caller owns every copy, and keeps the one that was
+ * handed back. A caller that shares its tables between threads holds its own lock from reading
+ * them to storing what came back, or one record's change is lost.
+ */
+#ifndef TILLERCLOVER_H
+#define TILLERCLOVER_H
+
+#include <stddef.h>
+#include <stdint.h>
+
+#ifdef __cplusplus
+#define TILLERCLOVER_ASSERT(condition, text) static_assert(condition, text)
+extern "C" {
+#else
+#define TILLERCLOVER_ASSERT(condition, text) _Static_assert(condition, text)
+#endif
+
+/* ---- Sizes, in bytes unless said otherwise */
+
+enum {
+    TILLERCLOVER_UUID_LENGTH = 16,
+    /* verb, connection, resource, six zero bits and credential number */
+    TILLERCLOVER_HEADER_LENGTH = 4,
+    /* a longer record is refused with TILLERCLOVER_BAD_LENGTH */
+    TILLERCLOVER_RECORD_MAX = 256,
+    TILLERCLOVER_CRED_LENGTH = 21,
+    TILLERCLOVER_ACE_LENGTH = 28,
+    /* rows */
+    TILLERCLOVER_CRED_CAPACITY = 24,
+    TILLERCLOVER_ACE_CAPACITY = 32,
+    /* resources that have a row owner: doxm, pstat, cred and acl2 */
+    TILLERCLOVER_ROW_OWNERS = 4
+};
+
+/* ---- Numbers in tables and records */
+
+/* Device states. RESET is a target only: entering it gives the fresh tables. */
+enum tillerclover_state {
+    TILLERCLOVER_RESET = 0,
+    TILLERCLOVER_RFOTM = 1,
+    TILLERCLOVER_RFPRO = 2,
+    TILLERCLOVER_RFNOP = 3,
+    TILLERCLOVER_SRESET = 4
+};
+
+/* The first three bits of a record. */
+enum tillerclover_verb {
+    TILLERCLOVER_CREATE = 0,
+    TILLERCLOVER_RETRIEVE = 1,
+    TILLERCLOVER_UPDATE = 2,
+    TILLERCLOVER_DELETE = 3,
+    TILLERCLOVER_OBSERVE = 4
+};
+
+/* The fourth bit of a record. The credential number is 0 exactly with ANON_CLEAR. */
+enum tillerclover_connection {
+    TILLERCLOVER_ANON_CLEAR = 0,
+    TILLERCLOVER_AUTH_CRYPT = 1
+};
+
+/* The fifth to the tenth bit of a record. Other numbers are unknown. */
+enum tillerclover_resource {
+    TILLERCLOVER_DOXM = 0,
+    TILLERCLOVER_PSTAT = 1,
+    TILLERCLOVER_CRED = 2,
+    TILLERCLOVER_ACL2 = 3,
+    TILLERCLOVER_WEIGHT = 8,
+    TILLERCLOVER_TARE = 9,
+    TILLERCLOVER_ZERO = 10,
+    TILLERCLOVER_TICKET = 11,
+    TILLERCLOVER_LAMP = 12,
+    TILLERCLOVER_CALIB = 13,
+    TILLERCLOVER_DISPLAY = 14
+};
+
+/* Permission bits. OBSERVE needs RETRIEVE's; no verb needs NOTIFY's. */
+enum tillerclover_permission {
+    TILLERCLOVER_MAY_CREATE = 1,
+    TILLERCLOVER_MAY_RETRIEVE = 2,
+    TILLERCLOVER_MAY_UPDATE = 4,
+    TILLERCLOVER_MAY_DELETE = 8,
+    TILLERCLOVER_MAY_NOTIFY = 16,
+    TILLERCLOVER_MAY_ALL = 31
+};
+
+/* Answers. 1 to 14 are refusals, in the order of the checks: the first that applies is given. */
+enum tillerclover_answer {
+    TILLERCLOVER_PERMITTED = 0,
+    /* the tables are not sound */
+    TILLERCLOVER_NOT_SOUND = 1,
+    /* the record has under 4 or over 256 bytes */
+    TILLERCLOVER_BAD_LENGTH = 2,
+    /* verb 5 to 7 */
+    TILLERCLOVER_NO_VERB = 3,
+    /* a zero bit of the header is set */
+    TILLERCLOVER_ZERO_BIT_SET = 4,
+    /* connection and credential number disagree */
+    TILLERCLOVER_MISMATCH = 5,
+    TILLERCLOVER_UNKNOWN_RESOURCE = 6,
+    /* auth-crypt, and no credential row has that number */
+    TILLERCLOVER_NO_CREDENTIAL = 7,
+    /* the effective permission lacks the verb's bit */
+    TILLERCLOVER_NOT_PERMITTED = 8,
+    /* this security resource does not offer the verb */
+    TILLERCLOVER_NOT_OFFERED = 9,
+    /* the body of a security record has another length, or a forbidden value */
+    TILLERCLOVER_MALFORMED = 10,
+    /* not in this device state */
+    TILLERCLOVER_WRONG_STATE = 11,
+    /* the target state is not on the list of moves */
+    TILLERCLOVER_BAD_TARGET = 12,
+    /* the row to delete is not there */
+    TILLERCLOVER_MISSING = 13,
+    /* a new row, and its table is full */
+    TILLERCLOVER_FULL = 14
+};
+
+/* ---- Structs */
+
+/* What a record is judged on.
+ *
+ * Every field is a byte or an array of bytes and there is no padding, so the 1,484 bytes may be
+ * kept in a file or in flash as they are. Any content is allowed: tables that are not sound, as
+ * from worn memory, get TILLERCLOVER_NOT_SOUND for every record, and tillerclover_clear takes them.
+ */
+typedef struct tillerclover_tables {
+    /* enum tillerclover_state */
+    uint8_t state;
+    /* 1 exactly when devowner is not nil */
+    uint8_t owned;
+    /* rows held */
+    uint8_t ncreds;
+    uint8_t naces;
+    /* the device owner's UUID, or nil: sixteen zero bytes */
+    uint8_t devowner[TILLERCLOVER_UUID_LENGTH];
+    /* the row owners of doxm, pstat, cred and acl2, each a UUID or nil */
+    uint8_t rowners[TILLERCLOVER_ROW_OWNERS * TILLERCLOVER_UUID_LENGTH];
+    /* rows in the form of the body that stores one, in order of arrival, zeros behind the last */
+    uint8_t creds[TILLERCLOVER_CRED_CAPACITY * TILLERCLOVER_CRED_LENGTH];
+    uint8_t aces[TILLERCLOVER_ACE_CAPACITY * TILLERCLOVER_ACE_LENGTH];
+} tillerclover_tables;
+
+/* What becomes of a record.
+ *
+ * Compare outcomes field by field: the padding between them has no set content.
+ */
+typedef struct tillerclover_outcome {
+    /* enum tillerclover_answer */
+    uint8_t answer;
+    /* the effective permission before the record changed the tables; of a refusal 0 */
+    uint8_t permission;
+    /* The payload is the `length` bytes from record + start on, in the caller's own buffer.
+     * start is 4 when length is not 0. Both are 0 for a refusal, for a security resource and
+     * where no byte follows the header. */
+    size_t start;
+    size_t length;
+    /* the tables afterwards: of a refusal those that were handed in, byte for byte */
+    tillerclover_tables tables;
+} tillerclover_outcome;
+
+/* ---- Functions */
+
+/* The tables of a new terminal: state RFOTM, no owner, no rows. */
+tillerclover_tables tillerclover_fresh(void);
+
+/* The clear button: the tables of a new terminal, whatever the content of `tables`. */
+tillerclover_tables tillerclover_clear(tillerclover_tables tables);
+
+/* Judges a record of `length` bytes on `tables`.
+ *
+ * record  points to at least `length` bytes that nothing changes during the call. They are read,
+ *         never written, and no pointer to them is kept; a byte past `length` is not read. Any
+ *         content and any length are allowed: one that is no record is refused.
+ *         A record of length 0 needs a pointer too, and any one that is not null will do, as that
+ *         of an empty buffer. A null pointer is never read through with length 0, which
+ *         examples/yard.c tries; with any other length it is an error of the caller.
+ *
+ * The tables that were handed in are not changed; the outcome holds those that hold from now on.
+ * Who sent the record is believed: the session layer vouches for the connection bit and the
+ * credential number, and hands over no record whose number is another sender's.
+ */
+tillerclover_outcome tillerclover_judge(tillerclover_tables tables, const uint8_t *record, size_t length);
+
+/* ---- The layout that the library has */
+
+TILLERCLOVER_ASSERT(sizeof(tillerclover_tables) == 1484, "tables have 1,484 bytes");
+TILLERCLOVER_ASSERT(offsetof(tillerclover_tables, state) == 0, "state");
+TILLERCLOVER_ASSERT(offsetof(tillerclover_tables, owned) == 1, "owned");
+TILLERCLOVER_ASSERT(offsetof(tillerclover_tables, ncreds) == 2, "ncreds");
+TILLERCLOVER_ASSERT(offsetof(tillerclover_tables, naces) == 3, "naces");
+TILLERCLOVER_ASSERT(offsetof(tillerclover_tables, devowner) == 4, "devowner");
+TILLERCLOVER_ASSERT(offsetof(tillerclover_tables, rowners) == 20, "rowners");
+TILLERCLOVER_ASSERT(offsetof(tillerclover_tables, creds) == 84, "creds");
+TILLERCLOVER_ASSERT(offsetof(tillerclover_tables, aces) == 588, "aces");
+
+TILLERCLOVER_ASSERT(sizeof(size_t) == 8, "the library is for 64 bits");
+TILLERCLOVER_ASSERT(sizeof(tillerclover_outcome) == 1512, "an outcome has 1,512 bytes");
+TILLERCLOVER_ASSERT(offsetof(tillerclover_outcome, answer) == 0, "answer");
+TILLERCLOVER_ASSERT(offsetof(tillerclover_outcome, permission) == 1, "permission");
+TILLERCLOVER_ASSERT(offsetof(tillerclover_outcome, start) == 8, "start");
+TILLERCLOVER_ASSERT(offsetof(tillerclover_outcome, length) == 16, "length");
+TILLERCLOVER_ASSERT(offsetof(tillerclover_outcome, tables) == 24, "tables");
+
+#ifdef __cplusplus
+}
+#endif
+
+#endif

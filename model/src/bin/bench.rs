@@ -1,0 +1,422 @@
+//! Measures the proved library, with the model beside it.
+
+use std::ffi::c_void;
+use std::fs;
+use std::hint::black_box;
+use std::time::Instant;
+
+use model::case::same;
+use model::examples::{access, credential, uuid, AUTH};
+use model::generate::{record, session};
+use model::library::{self, Tables as Given};
+use model::options::{Options, Program};
+use model::random::Random;
+use model::record::{compose, Verb, RETRIEVE_BIT, UPDATE_BIT};
+use model::rules::judge;
+use model::tables::{Access, Credential, Row, State, Stored, Subject, Tables, STATE};
+
+const PROGRAM: Program = Program {
+    name: "bench",
+    help: "\
+bench [--repetitions N]
+bench --only CASE --rows ROWS --side SIDE [--calls N]
+
+Measures the time of a decision through the library, and through the model on
+the same tables and records. Each time is the least of several repetitions, in
+which the two take turns. Then come the growth with the rows, the stack of one
+decision and the size of the library.
+
+The second form makes one call again and again and measures nothing, for a
+program that counts instructions.
+
+  --repetitions N  so many (default 400)
+  --only CASE      the name of a case, as the first form prints it
+  --rows ROWS      empty, half or full
+  --side SIDE      library or model
+  --calls N        so many calls (default 1000)
+  --help           this text
+",
+    valued: &["--repetitions", "--only", "--rows", "--side", "--calls"],
+    flags: &[],
+    free: 0,
+};
+
+/// A number that no row has.
+const UNUSED: u16 = 999;
+const TARE: u8 = 9;
+const CREDENTIALS: u8 = 2;
+const ACCESSES: u8 = 3;
+
+/// How many rows the two tables hold.
+#[derive(Clone, Copy)]
+struct Rows {
+    name: &'static str,
+    credentials: usize,
+    accesses: usize,
+}
+
+impl Rows {
+    const KINDS: [Rows; 3] = [Rows::eighths("empty", 0), Rows::eighths("half", 4), Rows::eighths("full", 8)];
+
+    /// So many eighths of either capacity.
+    const fn eighths(name: &'static str, part: usize) -> Rows {
+        Rows { name, credentials: Credential::CAPACITY * part / 8, accesses: Access::CAPACITY * part / 8 }
+    }
+
+    /// A terminal with no owner: anyone may read and write the security resources.
+    fn ownerless(self) -> Tables {
+        Tables {
+            credentials: (1..=self.credentials as u16).map(|n| credential(n, uuid(n as u8))).collect(),
+            accesses: (1..=self.accesses as u16).map(row).collect(),
+            ..Tables::fresh()
+        }
+    }
+
+    /// One in service, owned by the first credential. The last access row lets the last credential write the tare.
+    fn serving(self) -> Tables {
+        let mut tables = self.ownerless();
+        tables.state = State::Rfnop;
+        tables.device_owner = Some(uuid(1));
+        if let (Some(sender), Some(last)) = (tables.credentials.last(), tables.accesses.last_mut()) {
+            *last = access(last.number, Subject::Uuid(sender.subject), UPDATE_BIT, 0, &[TARE]);
+        }
+        tables
+    }
+}
+
+/// Rows of every kind in turn, none of which is for an unauthenticated sender.
+fn row(number: u16) -> Access {
+    let subject = match number % 4 {
+        0 | 1 => Subject::Uuid(uuid(number as u8)),
+        2 => Subject::Role(number),
+        _ => AUTH,
+    };
+    access(number, subject, RETRIEVE_BIT, 0, &[8, 12])
+}
+
+/// Tables and a record, with the answer it is to get.
+struct Case {
+    name: &'static str,
+    what: &'static str,
+    stored: Stored,
+    given: Given,
+    record: Vec<u8>,
+}
+
+impl Case {
+    fn new(name: &'static str, what: &'static str, stored: Stored, record: Vec<u8>, answer: u8) -> Case {
+        let (expected, found) = (judge(&stored, &record), library::judge(&stored, &record));
+        if expected.answer != answer || !same(&expected, &found) {
+            PROGRAM.stop(format!(
+                "{name} is to be answered with {answer}: the model says {}, the library {}",
+                expected.answer, found.answer
+            ));
+        }
+        Case { name, what, given: Given::from_bytes(&stored), stored, record }
+    }
+
+    fn ask_library(&self) {
+        black_box(library::decide(black_box(&self.given), black_box(&self.record)));
+    }
+
+    fn ask_model(&self) {
+        black_box(judge(black_box(&self.stored), black_box(&self.record)));
+    }
+}
+
+/// The cases that these rows allow.
+fn cases(rows: Rows) -> Vec<Case> {
+    let ownerless = rows.ownerless().bytes();
+    let mut unsound = ownerless;
+    unsound[STATE] = 9;
+    let full = rows.accesses == Access::CAPACITY;
+    // A full table takes only a row that it holds already.
+    let stored_row = if full { rows.accesses as u16 } else { UNUSED };
+    let mut cases = vec![
+        Case::new("read", "RETRIEVE acl2", ownerless, compose(Verb::Retrieve, ACCESSES, 0, &[]), 0),
+        Case::new(
+            "store",
+            "UPDATE acl2, a row at the end",
+            ownerless,
+            compose(Verb::Update, ACCESSES, 0, &row(stored_row).bytes()),
+            0,
+        ),
+    ];
+    if rows.credentials > 0 {
+        let sender = rows.credentials as u16;
+        cases.push(Case::new(
+            "remove",
+            "DELETE of the first access row",
+            ownerless,
+            compose(Verb::Delete, ACCESSES, 0, &[0, 1]),
+            0,
+        ));
+        cases.push(Case::new(
+            "serve",
+            "UPDATE /tare, 64 bytes, by the last rows",
+            rows.serving().bytes(),
+            compose(Verb::Update, TARE, sender, &[0x55; 64]),
+            0,
+        ));
+    }
+    cases.push(Case::new("refuse1", "tables not sound", unsound, compose(Verb::Retrieve, ACCESSES, 0, &[]), 1));
+    cases.push(Case::new("refuse2", "3 bytes", ownerless, vec![0x40, 0x80, 0x00], 2));
+    cases.push(Case::new(
+        "refuse7",
+        "a credential that no row has",
+        ownerless,
+        compose(Verb::Update, TARE, UNUSED, &[]),
+        7,
+    ));
+    cases.push(Case::new("refuse8", "UPDATE /tare by nobody", ownerless, compose(Verb::Update, TARE, 0, &[]), 8));
+    if full {
+        cases.push(Case::new(
+            "refuse14",
+            "UPDATE cred, a new row",
+            ownerless,
+            compose(Verb::Update, CREDENTIALS, 0, &credential(UNUSED, uuid(1)).bytes()),
+            14,
+        ));
+    }
+    cases
+}
+
+/// Nanoseconds for one decision.
+#[derive(Clone, Copy)]
+struct Times {
+    library: f64,
+    model: f64,
+}
+
+const LIBRARY_CALLS: u32 = 50;
+const MODEL_CALLS: u32 = 20;
+
+fn nanoseconds(calls: u32, mut call: impl FnMut()) -> f64 {
+    let start = Instant::now();
+    for _ in 0..calls {
+        call();
+    }
+    start.elapsed().as_nanos() as f64 / f64::from(calls)
+}
+
+/// The least of the repetitions, since other programs on the machine only ever add time. Each repetition goes
+/// through all cases, so that a slow while does not fall on one case alone.
+fn measure<C>(cases: &[C], repetitions: u64, library: impl Fn(&C), model: impl Fn(&C)) -> Vec<Times> {
+    let mut least = vec![Times { library: f64::INFINITY, model: f64::INFINITY }; cases.len()];
+    for _ in 0..repetitions {
+        for (case, least) in cases.iter().zip(&mut least) {
+            least.library = least.library.min(nanoseconds(LIBRARY_CALLS, || library(case)));
+            least.model = least.model.min(nanoseconds(MODEL_CALLS, || model(case)));
+        }
+    }
+    least
+}
+
+fn main() {
+    let options = PROGRAM.options();
+    if let Some(name) = options.text("--only") {
+        return repeat(&options, name);
+    }
+    for name in ["--rows", "--side", "--calls"] {
+        if options.text(name).is_some() {
+            PROGRAM.stop(format!("{name} goes with --only"));
+        }
+    }
+    let repetitions = PROGRAM.number(&options, "--repetitions", 400).max(1);
+    decisions(repetitions);
+    mixed(repetitions);
+    growth(repetitions);
+    stack();
+    size();
+}
+
+/// The second form: calls of one case.
+fn repeat(options: &Options, name: &str) {
+    let find = |option: &str, known: &[&str]| -> usize {
+        let text = options.text(option).unwrap_or_else(|| PROGRAM.stop(format!("--only needs {option}")));
+        known
+            .iter()
+            .position(|&one| one == text)
+            .unwrap_or_else(|| PROGRAM.stop(format!("{option} is one of {}, not '{text}'", known.join(", "))))
+    };
+    let rows = Rows::KINDS[find("--rows", &Rows::KINDS.map(|rows| rows.name))];
+    let side = find("--side", &["library", "model"]);
+    let calls = PROGRAM.number(options, "--calls", 1000);
+    let cases = cases(rows);
+    let Some(case) = cases.iter().find(|case| case.name == name) else {
+        PROGRAM.stop(format!("no case '{name}' with {} tables", rows.name));
+    };
+    for _ in 0..calls {
+        if side == 0 {
+            case.ask_library();
+        } else {
+            case.ask_model();
+        }
+    }
+}
+
+fn decisions(repetitions: u64) {
+    println!("time of a decision, the least of {repetitions} repetitions\n");
+    println!("tables  case       library       model  ratio  soundness  what");
+    let cases: Vec<(Rows, Case)> =
+        Rows::KINDS.iter().flat_map(|&rows| cases(rows).into_iter().map(move |case| (rows, case))).collect();
+    let times = measure(&cases, repetitions, |(_, case)| case.ask_library(), |(_, case)| case.ask_model());
+    for ((rows, case), time) in cases.iter().zip(&times) {
+        // A record that is refused for its length costs the soundness test, the call and the copies.
+        let soundness = cases
+            .iter()
+            .position(|(other, case)| other.name == rows.name && case.name == "refuse2")
+            .map_or(f64::NAN, |at| times[at].library);
+        println!(
+            "{:6}  {:8}  {:5.0} ns  {:7.0} ns  {:5.2}  {:7.0} %  {}",
+            rows.name,
+            case.name,
+            time.library,
+            time.model,
+            time.library / time.model,
+            100.0 * (soundness / time.library).min(1.0),
+            case.what
+        );
+    }
+}
+
+const MIXED: usize = 1000;
+
+/// Random sessions, so that no branch is always taken the same way.
+fn mixed(repetitions: u64) {
+    let mut random = Random::new(1);
+    let mut cases: Vec<(Stored, Given, Vec<u8>)> = Vec::new();
+    while cases.len() < MIXED {
+        let session = session(&mut random);
+        let mut stored = session.tables;
+        for _ in 0..session.records {
+            let record = record(&mut random, session.style, &stored);
+            let next = judge(&stored, &record).tables;
+            cases.push((stored, Given::from_bytes(&stored), record));
+            stored = next;
+        }
+    }
+    let count = cases.len() as f64;
+    let all = [cases];
+    let library = |cases: &Vec<(Stored, Given, Vec<u8>)>| {
+        for (_, given, record) in cases {
+            black_box(library::decide(given, record));
+        }
+    };
+    let model = |cases: &Vec<(Stored, Given, Vec<u8>)>| {
+        for (stored, _, record) in cases {
+            black_box(judge(stored, record));
+        }
+    };
+    let time = measure(&all, repetitions.div_ceil(10), library, model)[0];
+    println!(
+        "\n{count} different records of random sessions: library {:.0} ns, model {:.0} ns, ratio {:.2}",
+        time.library / count,
+        time.model / count,
+        time.library / time.model
+    );
+}
+
+fn growth(repetitions: u64) {
+    println!("\ntime of `read` by the rows held\n");
+    println!("credentials  accesses  library   for each row more");
+    let cases: Vec<(Rows, Case)> = (0..=8)
+        .map(|part| {
+            let rows = Rows::eighths("", part);
+            let record = compose(Verb::Retrieve, ACCESSES, 0, &[]);
+            (rows, Case::new("read", "", rows.ownerless().bytes(), record, 0))
+        })
+        .collect();
+    let times = measure(&cases, repetitions, |(_, case)| case.ask_library(), |_| {});
+    let mut before = None;
+    for ((rows, _), time) in cases.iter().zip(&times) {
+        let held = rows.credentials + rows.accesses;
+        let more = before.map(|(rows, earlier): (usize, f64)| (time.library - earlier) / (held - rows) as f64);
+        let more = more.map_or(String::new(), |more| format!("{more:.1} ns"));
+        println!("{:11}  {:8}  {:4.0} ns   {more}", rows.credentials, rows.accesses, time.library);
+        before = Some((held, time.library));
+    }
+}
+
+// ---- The stack: a thread whose stack was painted beforehand.
+
+#[repr(C, align(16))]
+struct Attributes([u8; 128]);
+
+extern "C" {
+    fn pthread_attr_init(attributes: *mut Attributes) -> i32;
+    fn pthread_attr_setstack(attributes: *mut Attributes, stack: *mut c_void, size: usize) -> i32;
+    fn pthread_create(
+        thread: *mut u64,
+        attributes: *const Attributes,
+        start: extern "C" fn(*mut c_void) -> *mut c_void,
+        argument: *mut c_void,
+    ) -> i32;
+    fn pthread_join(thread: u64, result: *mut *mut c_void) -> i32;
+}
+
+const PAINT: u8 = 0xA7;
+const STACK: usize = 256 * 1024;
+
+#[repr(C, align(4096))]
+struct Painted([u8; STACK]);
+
+struct Call<'a> {
+    case: &'a Case,
+    /// Where the caller's frame stands.
+    above: usize,
+}
+
+extern "C" fn call(argument: *mut c_void) -> *mut c_void {
+    // The pointer is that of `depth`'s own call, which waits for this thread.
+    let call = unsafe { &mut *argument.cast::<Call>() };
+    let mark = 0u8;
+    call.above = black_box(&raw const mark) as usize;
+    ask(call.case);
+    std::ptr::null_mut()
+}
+
+#[inline(never)]
+fn ask(case: &Case) {
+    case.ask_library();
+}
+
+/// Bytes of stack below the caller that one decision wrote to.
+fn depth(case: &Case) -> usize {
+    // A vector, so that the paint is not on a stack itself.
+    let mut stack: Vec<Painted> = Vec::with_capacity(1);
+    let mut arguments = Call { case, above: 0 };
+    let bytes = stack.spare_capacity_mut()[0].as_mut_ptr().cast::<u8>();
+    // The stack is this function's until the thread is joined.
+    unsafe {
+        bytes.write_bytes(PAINT, STACK);
+        let mut attributes = Attributes([0; 128]);
+        let mut thread = 0;
+        let faults = pthread_attr_init(&mut attributes)
+            | pthread_attr_setstack(&mut attributes, bytes.cast(), STACK)
+            | pthread_create(&mut thread, &attributes, call, (&raw mut arguments).cast());
+        if faults != 0 || pthread_join(thread, std::ptr::null_mut()) != 0 {
+            PROGRAM.stop("cannot start a thread on a stack of its own");
+        }
+        let lowest = (0..STACK).find(|&at| bytes.add(at).read() != PAINT).unwrap_or(STACK);
+        arguments.above - (bytes as usize + lowest)
+    }
+}
+
+fn stack() {
+    let deepest = Rows::KINDS
+        .iter()
+        .flat_map(|&rows| cases(rows))
+        .map(|case| (depth(&case), case.name))
+        .max()
+        .unwrap_or_default();
+    println!("\nstack of a decision, tables and outcome included: at most {} bytes (`{}`)", deepest.0, deepest.1);
+}
+
+fn size() {
+    let file = env!("TILLERCLOVER_ARCHIVE");
+    match fs::metadata(file) {
+        Ok(data) => println!("libterminal.a: {} bytes", data.len()),
+        Err(fault) => PROGRAM.stop(format!("cannot read {file}: {fault}")),
+    }
+}

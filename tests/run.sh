@@ -1,0 +1,151 @@
+#!/usr/bin/env bash
+# Tests of what no proof covers: the library against the second model, the C interface, the programs on bad input.
+#
+#     tests/run.sh              all tests
+#     tests/run.sh NAME..       some: model, compare, runs, example, vectors, inputs
+#
+# The last line counts the tests that passed and failed; a failure makes the script exit with 1.
+set -uo pipefail
+cd "$(dirname "$0")/.." || exit 2
+
+ALL=(model compare runs example vectors inputs)
+mkdir -p target && work=$(mktemp -d "$PWD/target/tests.XXXXXX") || exit 2
+trap 'rm -rf "$work"' EXIT
+
+# ---- what the tests stand on
+
+# need COMMAND PACKAGE: installs the package where the command is missing
+need() {
+    command -v "$1" >/dev/null && return
+    echo "$1 is missing: installing $2"
+    { apt-get update && apt-get install -y --no-install-recommends "$2"; } >"$work/apt" 2>&1 && command -v "$1" >/dev/null && return
+    tail -n 5 "$work/apt"
+    echo "$1 is not installed, and apt-get could not install $2"
+    return 1
+}
+
+need_cargo() {
+    PATH=$PATH:$HOME/.cargo/bin
+    need cargo cargo && need cc gcc
+}
+
+# log COMMAND..: runs it, and shows what it wrote only where it fails
+log() {
+    "$@" >"$work/log" 2>&1 && return
+    tail -n 40 "$work/log"
+    echo "failed: $*"
+    return 1
+}
+
+# The archive and the program are built from today's sources; rt does nothing where they are unchanged.
+library() { log rt staticlib terminal; }
+run_program() { log rt check run; }
+
+in_model() { (cd model && "$@"); }
+
+# ---- the tests
+
+# The model's own tests.
+test_model() {
+    need_cargo && log in_model cargo test --quiet --locked
+}
+
+# The library and the model give the same for 300,000 records.
+test_compare() {
+    need_cargo && library &&
+        log in_model cargo run --quiet --release --locked --features linked --bin compare -- --records 300000 &&
+        tail -n 1 "$work/log"
+}
+
+# The run program and the model write the same text for 200 runs.
+test_runs() {
+    need_cargo && run_program &&
+        log in_model cargo run --quiet --release --locked --bin runs -- --program ../target/bin/run --runs 200 &&
+        tail -n 1 "$work/log"
+}
+
+# The C example is built without a warning and prints what it is to print; C++ takes the header.
+test_example() {
+    need cc gcc && need c++ g++ && library &&
+        log cc -std=c11 -Wall -Wextra -Werror -Iinclude examples/yard.c target/staticlib/libterminal.a -o "$work/yard" &&
+        log "$work/yard" && log diff examples/yard.expected <("$work/yard") &&
+        log c++ -std=c++11 -Wall -Wextra -Werror -fsyntax-only -x c++ include/tillerclover.h
+}
+
+# The vectors are those that the model writes today.
+test_vectors() {
+    need_cargo && log in_model cargo run --quiet --release --locked --bin vectors -- "$work/vectors.bin" &&
+        tail -n 1 "$work/log" && log cmp "$work/vectors.bin" crates/vectors/data/vectors.bin
+}
+
+# The run program on input that is no whole run.
+test_inputs() {
+    run_program || return 1
+    local header="n answer perm state" failed=0
+    # the input as printf's text, then the expected lines after the header
+    expect_text "no input" "" "$header" || failed=1
+    expect_text "a lone byte" '\0' "$header"$'\n'"cut" || failed=1
+    expect_text "a length alone" '\0\4' "$header"$'\n'"cut" || failed=1
+    expect_text "a cut record" '\0\5\x40\x40\0\0' "$header"$'\n'"cut" || failed=1
+    expect_text "a record, then a lone byte" '\0\3\x40\x80\0\0' "$header"$'\n'"1 2 0 1"$'\n'"cut" || failed=1
+    expect_text "a record, then a cut one" '\0\4\x22\0\0\0\0\4\x22\0' "$header"$'\n'"1 8 0 1"$'\n'"cut" || failed=1
+    expect_text "a record of no bytes" '\0\0' "$header"$'\n'"1 2 0 1" || failed=1
+
+    # 16,384 records of no bytes fill the run; the rest is not read.
+    head -c 40000 /dev/zero >"$work/input"
+    { echo "$header" && seq -f '%.0f 2 0 1' 16384; } >"$work/expected"
+    expect_file "40,000 bytes, the last 7,232 not read" || failed=1
+    # One record of 32,766 bytes ends with the run, whatever follows.
+    { printf '\x7f\xfe' && head -c 33000 /dev/zero; } >"$work/input"
+    { echo "$header" && echo "1 2 0 1"; } >"$work/expected"
+    expect_file "a record that ends with the run" || failed=1
+    # One byte more is not all there.
+    { printf '\x7f\xff' && head -c 33000 /dev/zero; } >"$work/input"
+    { echo "$header" && echo "cut"; } >"$work/expected"
+    expect_file "a record that goes on past the run" || failed=1
+    return "$failed"
+}
+
+# expect_text WHAT INPUT TEXT
+expect_text() {
+    # shellcheck disable=SC2059
+    printf "$2" >"$work/input"
+    echo "$3" >"$work/expected"
+    expect_file "$1"
+}
+
+# expect_file WHAT: the program's text for $work/input is $work/expected
+expect_file() {
+    if target/bin/run <"$work/input" >"$work/text" && cmp -s "$work/text" "$work/expected"; then
+        return
+    fi
+    echo "inputs: $1: the text differs"
+    diff "$work/expected" "$work/text" | head -n 5
+    return 1
+}
+
+# ---- the list
+
+if [ $# -eq 0 ]; then
+    set -- "${ALL[@]}"
+fi
+for name in "$@"; do
+    if [[ " ${ALL[*]} " != *" $name "* ]]; then
+        echo "no test '$name'; the tests are: ${ALL[*]}" >&2
+        exit 2
+    fi
+done
+
+passed=0
+failed=0
+for name in "$@"; do
+    if "test_$name"; then
+        echo "PASS $name"
+        passed=$((passed + 1))
+    else
+        echo "FAIL $name"
+        failed=$((failed + 1))
+    fi
+done
+echo "tests: $passed passed, $failed failed"
+[ "$failed" -eq 0 ]
