@@ -1,4 +1,4 @@
-/* A weighbridge yard: the owner sets a terminal up, then a haulier, a stranger and a broken sender
+/* A weighbridge yard: the owner sets a terminal up and reads it back; a haulier, a stranger and a broken sender
  * call. Before that the program sees that its structs are laid out as the library's.
  *
  *     rt staticlib terminal
@@ -34,6 +34,7 @@ static const char *const ANSWERS[] = {
     "target state not on the list",
     "no such row",
     "table full",
+    "buffer too short for the reply",
 };
 
 static const char *const STATES[] = {"RESET", "RFOTM", "RFPRO", "RFNOP", "SRESET"};
@@ -131,9 +132,12 @@ static void expect(int holds, const char *what)
     }
 }
 
+/* A buffer that fits every reply. */
+static uint8_t reply[TILLERCLOVER_REPLY_MAX];
+
 static tillerclover_outcome judge(tillerclover_tables t, struct record r)
 {
-    return tillerclover_judge(t, r.bytes, r.length);
+    return tillerclover_judge(t, r.bytes, r.length, reply, sizeof reply);
 }
 
 /* The tables after a record that must be permitted. */
@@ -179,7 +183,8 @@ static void refused_tables(void)
     tillerclover_tables t = pattern();
     tillerclover_outcome o = judge(t, header(TILLERCLOVER_RETRIEVE, TILLERCLOVER_WEIGHT, 0));
     expect(o.answer == TILLERCLOVER_NOT_SOUND, "tables of any bytes were taken for sound");
-    expect(o.permission == 0 && o.start == 0 && o.length == 0, "a refusal has a permission or a payload");
+    expect(o.permission == 0 && o.start == 0 && o.length == 0 && o.reply == 0,
+           "a refusal has a permission, a payload or a reply");
     expect(same(&o.tables, &t), "a refusal changed the tables");
 }
 
@@ -224,26 +229,56 @@ static void each_field(void)
     add(&r, "on", 2);
     tillerclover_outcome o = judge(t, r);
     expect(o.answer == TILLERCLOVER_PERMITTED && o.permission == TILLERCLOVER_MAY_ALL, "answer or permission stands elsewhere");
-    expect(o.start == 4 && o.length == 2, "start or length stands elsewhere");
+    expect(o.start == 4 && o.length == 2 && o.reply == 0, "start or length stands elsewhere");
     expect(same(&o.tables, &expected), "tables stands elsewhere in the outcome");
+    o = judge(t, header(TILLERCLOVER_RETRIEVE, TILLERCLOVER_CRED, 100));
+    expect(o.answer == TILLERCLOVER_PERMITTED && o.start == 0 && o.length == 0, "answer, start or length stands elsewhere");
+    expect(o.reply == TILLERCLOVER_UUID_LENGTH + sizeof t.creds, "reply stands elsewhere");
+    expect(same(&o.tables, &expected), "tables stands elsewhere behind a reply");
     o = judge(t, store_ace(100, 1, 0, TILLERCLOVER_LAMP, OWNER_UUID));
-    expect(o.answer == TILLERCLOVER_WRONG_STATE && o.permission == 0 && o.start == 0 && o.length == 0, "a refusal has other fields");
+    expect(o.answer == TILLERCLOVER_WRONG_STATE && o.permission == 0 && o.start == 0 && o.length == 0 && o.reply == 0, "a refusal has other fields");
 }
 
-/* A record of no bytes, with a pointer and with none. */
+/* The longest reply in a buffer that just fits, and in one that just does not; the bytes behind it stay. */
+static void buffers(void)
+{
+    tillerclover_tables t = tillerclover_fresh();
+    uint8_t buffer[TILLERCLOVER_REPLY_MAX + 1], before[sizeof buffer];
+    struct record r;
+    for (unsigned i = 0; i < TILLERCLOVER_ACE_CAPACITY; i++) {
+        t = after(t, store_ace(0, 200 + i, TILLERCLOVER_MAY_ALL, TILLERCLOVER_LAMP, OWNER_UUID));
+    }
+    r = header(TILLERCLOVER_RETRIEVE, TILLERCLOVER_ACL2, 0);
+    memset(buffer, 0xA5, sizeof buffer);
+    memset(before, 0xA5, sizeof before);
+    tillerclover_outcome o = tillerclover_judge(t, r.bytes, r.length, buffer, TILLERCLOVER_REPLY_MAX - 1);
+    expect(o.answer == TILLERCLOVER_NO_ROOM && o.reply == 0, "a reply was put into a buffer that is too short");
+    expect(memcmp(buffer, before, sizeof buffer) == 0, "a refusal wrote into the buffer");
+    o = tillerclover_judge(t, r.bytes, r.length, buffer, TILLERCLOVER_REPLY_MAX);
+    expect(o.answer == TILLERCLOVER_PERMITTED && o.reply == TILLERCLOVER_REPLY_MAX, "the longest reply has another length");
+    memcpy(before, t.rowners + TILLERCLOVER_ACL2 * TILLERCLOVER_UUID_LENGTH, TILLERCLOVER_UUID_LENGTH);
+    memcpy(before + TILLERCLOVER_UUID_LENGTH, t.aces, sizeof t.aces);
+    expect(memcmp(buffer, before, sizeof buffer) == 0, "the longest reply has other bytes");
+}
+
+/* A record of no bytes and a buffer of none, with pointers and without. */
 static void no_bytes(void)
 {
     static const uint8_t nothing[1];
-    tillerclover_outcome o = tillerclover_judge(tillerclover_fresh(), nothing, 0);
+    uint8_t empty[1];
+    tillerclover_outcome o = tillerclover_judge(tillerclover_fresh(), nothing, 0, empty, 0);
     expect(o.answer == TILLERCLOVER_BAD_LENGTH, "an empty record was not refused for its length");
-    o = tillerclover_judge(tillerclover_fresh(), NULL, 0);
+    o = tillerclover_judge(tillerclover_fresh(), NULL, 0, NULL, 0);
     expect(o.answer == TILLERCLOVER_BAD_LENGTH, "a null record was not refused for its length");
+    struct record r = header(TILLERCLOVER_RETRIEVE, TILLERCLOVER_CRED, 0);
+    o = tillerclover_judge(tillerclover_fresh(), r.bytes, r.length, NULL, 0);
+    expect(o.answer == TILLERCLOVER_NO_ROOM, "a reply was put into no buffer");
 }
 
 /* ---- The yard */
 
-/* Judges a record, prints what came of it and keeps the tables that were handed back. */
-static void call(tillerclover_tables *t, const char *what, struct record r)
+/* Judges a record, prints what came of it and keeps the tables that were handed back. Returns the reply's length. */
+static size_t call(tillerclover_tables *t, const char *what, struct record r)
 {
     tillerclover_outcome o = judge(*t, r);
     *t = o.tables;
@@ -254,7 +289,33 @@ static void call(tillerclover_tables *t, const char *what, struct record r)
     if (o.length != 0) {
         printf(", payload \"%.*s\"", (int)o.length, (const char *)r.bytes + o.start);
     }
+    if (o.reply != 0) {
+        printf(", reply of %zu bytes", o.reply);
+    }
     printf("\n");
+    return o.reply;
+}
+
+static void print_uuid(const uint8_t uuid[TILLERCLOVER_UUID_LENGTH])
+{
+    for (size_t i = 0; i < TILLERCLOVER_UUID_LENGTH; i++) {
+        printf(i == 4 || i == 6 || i == 8 || i == 10 ? "-%02x" : "%02x", uuid[i]);
+    }
+}
+
+/* The row owner and the rows of a reply of cred. */
+static void print_creds(size_t length)
+{
+    size_t at = TILLERCLOVER_UUID_LENGTH;
+    printf("    row owner ");
+    print_uuid(reply);
+    printf("\n");
+    for (; at < length; at += TILLERCLOVER_CRED_LENGTH) {
+        const uint8_t *row = reply + at;
+        printf("    credential %u: subject ", row[0] << 8 | row[1]);
+        print_uuid(row + 2);
+        printf(", role %u, type %u\n", row[18] << 8 | row[19], row[20] >> 2);
+    }
 }
 
 int main(void)
@@ -262,6 +323,7 @@ int main(void)
     whole_tables();
     refused_tables();
     each_field();
+    buffers();
     no_bytes();
     printf("layout: %zu bytes of tables in an outcome of %zu, as in the library\n", sizeof(tillerclover_tables),
            sizeof(tillerclover_outcome));
@@ -281,6 +343,8 @@ int main(void)
     call(&t, "reads the weight", header(TILLERCLOVER_RETRIEVE, TILLERCLOVER_WEIGHT, HAULIER));
     call(&t, "tries to write the weight", header(TILLERCLOVER_UPDATE, TILLERCLOVER_WEIGHT, HAULIER));
     call(&t, "and to read the access list", header(TILLERCLOVER_RETRIEVE, TILLERCLOVER_ACL2, HAULIER));
+
+    print_creds(call(&t, "the owner's service tool reads cred back", header(TILLERCLOVER_RETRIEVE, TILLERCLOVER_CRED, OWNER)));
 
     struct record strange = header(TILLERCLOVER_UPDATE, TILLERCLOVER_TARE, 0);
     add(&strange, "100 kg", 6);

@@ -3,10 +3,10 @@
  * Link libterminal.a, which `rt staticlib terminal` writes to target/staticlib/. It is code for
  * x86-64 with the System V calling convention and needs nothing but memcpy, memmove and memset.
  *
- * The three functions are pure: what they return depends on their arguments alone. They keep no
- * state between calls, allocate nothing, do no input or output, never fail and always return. So
- * any number of threads may call them at once. A thread needs 16 KiB of free stack for a call;
- * docs/BENCHMARKS.md has the measured depth.
+ * What the three functions return, and what a reply holds, depends on their arguments alone. They
+ * keep no state between calls, allocate nothing, do no input or output, never fail and always
+ * return. So any number of threads may call them at once, each with a buffer of its own. A thread
+ * needs 16 KiB of free stack for a call; docs/BENCHMARKS.md has the measured depth.
  *
  * Tables go in and come out by value: the caller owns every copy, and keeps the one that was
  * handed back. A caller that shares its tables between threads holds its own lock from reading
@@ -39,7 +39,9 @@ enum {
     TILLERCLOVER_CRED_CAPACITY = 24,
     TILLERCLOVER_ACE_CAPACITY = 32,
     /* resources that have a row owner: doxm, pstat, cred and acl2 */
-    TILLERCLOVER_ROW_OWNERS = 4
+    TILLERCLOVER_ROW_OWNERS = 4,
+    /* the longest reply: a row owner and all access rows */
+    TILLERCLOVER_REPLY_MAX = 912
 };
 
 /* ---- Numbers in tables and records */
@@ -93,7 +95,7 @@ enum tillerclover_permission {
     TILLERCLOVER_MAY_ALL = 31
 };
 
-/* Answers. 1 to 14 are refusals, in the order of the checks: the first that applies is given. */
+/* Answers. 1 to 15 are refusals, in the order of the checks: the first that applies is given. */
 enum tillerclover_answer {
     TILLERCLOVER_PERMITTED = 0,
     /* the tables are not sound */
@@ -122,7 +124,9 @@ enum tillerclover_answer {
     /* the row to delete is not there */
     TILLERCLOVER_MISSING = 13,
     /* a new row, and its table is full */
-    TILLERCLOVER_FULL = 14
+    TILLERCLOVER_FULL = 14,
+    /* the reply is longer than the buffer lent for it */
+    TILLERCLOVER_NO_ROOM = 15
 };
 
 /* ---- Structs */
@@ -164,6 +168,9 @@ typedef struct tillerclover_outcome {
      * where no byte follows the header. */
     size_t start;
     size_t length;
+    /* The reply is the first `reply` bytes of the caller's own buffer; see tillerclover_judge. 0 for
+     * every record but a permitted RETRIEVE of a security resource. */
+    size_t reply;
     /* the tables afterwards: of a refusal those that were handed in, byte for byte */
     tillerclover_tables tables;
 } tillerclover_outcome;
@@ -176,7 +183,7 @@ tillerclover_tables tillerclover_fresh(void);
 /* The clear button: the tables of a new terminal, whatever the content of `tables`. */
 tillerclover_tables tillerclover_clear(tillerclover_tables tables);
 
-/* Judges a record of `length` bytes on `tables`.
+/* Judges a record of `length` bytes on `tables`, with a buffer of `room` bytes for a reply.
  *
  * record  points to at least `length` bytes that nothing changes during the call. They are read,
  *         never written, and no pointer to them is kept; a byte past `length` is not read. Any
@@ -184,12 +191,22 @@ tillerclover_tables tillerclover_clear(tillerclover_tables tables);
  *         A record of length 0 needs a pointer too, and any one that is not null will do, as that
  *         of an empty buffer. A null pointer is never read through with length 0, which
  *         examples/yard.c tries; with any other length it is an error of the caller.
+ * reply   points to at least `room` bytes that nothing else reads or writes during the call, none of
+ *         them a byte of the record. Any content and any length are allowed, and
+ *         TILLERCLOVER_REPLY_MAX fits every reply. The bytes behind the reply keep their contents,
+ *         and so do all of them where there is no reply. With room 0 the pointer is treated as that
+ *         of a record of length 0.
+ *
+ * A permitted RETRIEVE of a security resource is replied to: doxm with its body of 17 bytes, pstat
+ * with its byte, the present state as target; then for all four the row owner, a UUID; then for cred
+ * and acl2 all rows in table order, each in the form of its body.
  *
  * The tables that were handed in are not changed; the outcome holds those that hold from now on.
  * Who sent the record is believed: the session layer vouches for the connection bit and the
  * credential number, and hands over no record whose number is another sender's.
  */
-tillerclover_outcome tillerclover_judge(tillerclover_tables tables, const uint8_t *record, size_t length);
+tillerclover_outcome tillerclover_judge(tillerclover_tables tables, const uint8_t *record, size_t length,
+                                        uint8_t *reply, size_t room);
 
 /* ---- The layout that the library has */
 
@@ -204,12 +221,13 @@ TILLERCLOVER_ASSERT(offsetof(tillerclover_tables, creds) == 84, "creds");
 TILLERCLOVER_ASSERT(offsetof(tillerclover_tables, aces) == 588, "aces");
 
 TILLERCLOVER_ASSERT(sizeof(size_t) == 8, "the library is for 64 bits");
-TILLERCLOVER_ASSERT(sizeof(tillerclover_outcome) == 1512, "an outcome has 1,512 bytes");
+TILLERCLOVER_ASSERT(sizeof(tillerclover_outcome) == 1520, "an outcome has 1,520 bytes");
 TILLERCLOVER_ASSERT(offsetof(tillerclover_outcome, answer) == 0, "answer");
 TILLERCLOVER_ASSERT(offsetof(tillerclover_outcome, permission) == 1, "permission");
 TILLERCLOVER_ASSERT(offsetof(tillerclover_outcome, start) == 8, "start");
 TILLERCLOVER_ASSERT(offsetof(tillerclover_outcome, length) == 16, "length");
-TILLERCLOVER_ASSERT(offsetof(tillerclover_outcome, tables) == 24, "tables");
+TILLERCLOVER_ASSERT(offsetof(tillerclover_outcome, reply) == 24, "reply");
+TILLERCLOVER_ASSERT(offsetof(tillerclover_outcome, tables) == 32, "tables");
 
 #ifdef __cplusplus
 }

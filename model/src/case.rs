@@ -1,7 +1,9 @@
-//! A case to replay, the difference between two outcomes, and shrinking.
+//! A case, what a caller sees of its outcome, and shrinking.
+
+use std::ops::Range;
 
 use crate::hex;
-use crate::rules::Outcome;
+use crate::rules::{judge, Outcome, LONGEST_REPLY};
 use crate::tables::{
     fresh_bytes, Access, Credential, Row, Stored, ACCESSES, ACCESS_COUNT, CREDENTIALS, CREDENTIAL_COUNT, DEVICE_OWNER,
     OWNED, ROW_OWNERS, SIZE, STATE,
@@ -12,27 +14,50 @@ use crate::tables::{
 pub struct Case {
     pub tables: Stored,
     pub record: Vec<u8>,
+    /// The length of the buffer that is lent for a reply.
+    pub room: usize,
 }
 
 impl Case {
-    /// As one line of hexadecimal digits: tables, a colon, record.
+    /// With a buffer that fits any reply.
+    pub fn new(tables: &Stored, record: &[u8]) -> Case {
+        Case { tables: *tables, record: record.to_vec(), room: LONGEST_REPLY }
+    }
+
+    /// As one line: tables and record in hexadecimal digits, then the room,
+    /// with colons between.
     pub fn line(&self) -> String {
-        format!("{}:{}", hex::write(&self.tables), hex::write(&self.record))
+        format!("{}:{}:{}", hex::write(&self.tables), hex::write(&self.record), self.room)
     }
 
     pub fn from_line(line: &str) -> Result<Case, String> {
-        let (tables, record) = line.split_once(':').ok_or("a case has a colon between the tables and the record")?;
+        let parts: Vec<&str> = line.split(':').collect();
+        let [tables, record, room] = parts[..] else {
+            return Err(format!("a case is TABLES:RECORD:ROOM, but this has {} parts", parts.len()));
+        };
         let tables = hex::read(tables).map_err(|fault| format!("the tables: {fault}"))?;
         let record = hex::read(record).map_err(|fault| format!("the record: {fault}"))?;
         let length = tables.len();
         let tables = tables.try_into().map_err(|_| format!("the tables have {SIZE} bytes, but these are {length}"))?;
-        Ok(Case { tables, record })
+        let room = room.parse::<u16>().map_err(|_| format!("the room is a number up to 65535, not '{room}'"))?;
+        Ok(Case { tables, record, room: room.into() })
+    }
+
+    /// What is in the lent buffer before the record is judged, and behind it:
+    /// `length` bytes.
+    pub fn pattern(length: usize) -> Vec<u8> {
+        (0..length).map(|place| (place * 29 + 0x5B) as u8).collect()
+    }
+
+    /// What a caller is to see.
+    pub fn expected(&self) -> Seen {
+        Seen::new(judge(self), self.room)
     }
 
     /// What shrinking makes smaller.
-    fn size(&self) -> (usize, usize, usize) {
+    fn size(&self) -> (usize, usize, usize, usize) {
         let set = |bytes: &[u8]| bytes.iter().filter(|&&byte| byte != 0).count();
-        (self.record.len(), set(&self.record), set(&self.tables))
+        (self.record.len(), set(&self.record), set(&self.tables), self.room)
     }
 
     /// Cases a step smaller, the boldest first.
@@ -83,6 +108,11 @@ impl Case {
                 cases.push(cleared);
             }
         }
+        for room in [0, self.room / 2, self.room.saturating_sub(16), self.room.saturating_sub(1)] {
+            if room < self.room {
+                cases.push(Case { room, ..self.clone() });
+            }
+        }
         cases
     }
 
@@ -108,36 +138,74 @@ pub fn shrink(mut case: Case, mut differs: impl FnMut(&Case) -> bool) -> Case {
     }
 }
 
-/// Whether two outcomes are the same; an empty payload may start anywhere.
-pub fn same(one: &Outcome, other: &Outcome) -> bool {
-    one.answer == other.answer
-        && one.permission == other.permission
-        && (one.payload == other.payload || one.payload.is_empty() && other.payload.is_empty())
-        && one.tables == other.tables
+/// An outcome as a caller sees it.
+#[derive(Clone, Debug, PartialEq, Eq)]
+pub struct Seen {
+    pub answer: u8,
+    pub permission: u8,
+    pub payload: Range<usize>,
+    /// The length that is reported.
+    pub reply: usize,
+    /// The lent buffer afterwards, and `BEHIND` bytes that were not lent.
+    pub buffer: Vec<u8>,
+    pub tables: Stored,
 }
 
-/// An outcome in one line.
-pub fn describe(outcome: &Outcome, before: &Stored) -> String {
-    let tables = match first_change(before, &outcome.tables) {
-        None => "tables unchanged".into(),
-        Some(_) if outcome.tables == fresh_bytes() => "tables fresh".into(),
-        Some(place) => {
-            let changed = (0..SIZE).filter(|&place| before[place] != outcome.tables[place]).count();
-            format!("tables changed in {changed} bytes, the first at {}", field(place))
+/// So many bytes behind the lent buffer are watched.
+pub const BEHIND: usize = 64;
+
+impl Seen {
+    /// The outcome for a caller who lends `room` bytes.
+    pub fn new(outcome: Outcome, room: usize) -> Seen {
+        let mut buffer = Case::pattern(room + BEHIND);
+        buffer[..outcome.reply.len()].copy_from_slice(&outcome.reply);
+        Seen {
+            answer: outcome.answer,
+            permission: outcome.permission,
+            payload: outcome.payload,
+            reply: outcome.reply.len(),
+            buffer,
+            tables: outcome.tables,
         }
-    };
-    format!(
-        "answer {}, permission {}, payload from {} length {}, {tables}",
-        outcome.answer,
-        outcome.permission,
-        outcome.payload.start,
-        outcome.payload.len()
-    )
+    }
+
+    /// Whether both are the same; an empty payload may start anywhere.
+    pub fn same(&self, other: &Seen) -> bool {
+        self.answer == other.answer
+            && self.permission == other.permission
+            && (self.payload == other.payload || self.payload.is_empty() && other.payload.is_empty())
+            && self.reply == other.reply
+            && self.buffer == other.buffer
+            && self.tables == other.tables
+    }
+
+    /// In one line.
+    pub fn describe(&self, before: &Stored) -> String {
+        let tables = match first_change(before, &self.tables) {
+            None => "tables unchanged".into(),
+            Some(_) if self.tables == fresh_bytes() => "tables fresh".into(),
+            Some(place) => {
+                let changed = (0..SIZE).filter(|&place| before[place] != self.tables[place]).count();
+                format!("tables changed in {changed} bytes, the first at {}", field(place))
+            }
+        };
+        let pattern = Case::pattern(self.buffer.len());
+        let written = (0..pattern.len()).rev().find(|&place| pattern[place] != self.buffer[place]);
+        let written = written.map_or("nothing written".into(), |place| format!("written up to byte {place}"));
+        format!(
+            "answer {}, permission {}, payload from {} length {}, reply length {}, {written}, {tables}",
+            self.answer,
+            self.permission,
+            self.payload.start,
+            self.payload.len(),
+            self.reply
+        )
+    }
 }
 
-/// The first byte in which tables differ.
-pub fn first_change(one: &Stored, other: &Stored) -> Option<usize> {
-    (0..SIZE).find(|&place| one[place] != other[place])
+/// The first byte in which tables or buffers differ.
+pub fn first_change(one: &[u8], other: &[u8]) -> Option<usize> {
+    one.iter().zip(other).position(|(one, other)| one != other)
 }
 
 /// What a byte of the tables belongs to.
@@ -162,33 +230,75 @@ mod tests {
     use super::*;
     use crate::generate::{self, Style};
     use crate::random::Random;
-    use crate::rules::judge;
 
     #[test]
     fn lines_read_and_write_alike() {
         let mut random = Random::new(5);
-        let case = Case { tables: generate::any_bytes(&mut random), record: random.bytes(9) };
-        assert_eq!(Case::from_line(&case.line()), Ok(case));
-        assert!(Case::from_line("00").is_err());
-        assert!(Case::from_line("00:00").unwrap_err().contains("1484"));
-        assert!(Case::from_line("0g:00").is_err());
+        let case = Case { tables: generate::any_bytes(&mut random), record: random.bytes(9), room: 517 };
+        assert_eq!(Case::from_line(&case.line()), Ok(case.clone()));
+        assert!(Case::from_line("00:00").is_err());
+        assert!(Case::from_line("00:00:0").unwrap_err().contains("1484"));
+        assert!(Case::from_line("0g:00:0").is_err());
+        assert!(Case::from_line(&format!("{}0", case.line())).is_ok());
+        assert!(Case::from_line(&format!("{}x", case.line())).is_err());
+        assert!(Case::from_line(&format!("{}:", case.line())).is_err());
+    }
+
+    #[test]
+    fn the_buffer_behind_a_reply_is_kept() {
+        let read_pstat = Case { room: 40, ..Case::new(&fresh_bytes(), &[0x20, 0x40, 0, 0]) };
+        let seen = read_pstat.expected();
+        assert_eq!((seen.answer, seen.reply, seen.buffer.len()), (0, 17, 40 + BEHIND));
+        let mut expected = Case::pattern(40 + BEHIND);
+        expected[0] = 0x20;
+        expected[1..17].fill(0);
+        assert_eq!(seen.buffer, expected);
+        let seen = Case { room: 16, ..read_pstat }.expected();
+        assert_eq!((seen.answer, seen.reply), (15, 0));
+        assert_eq!(seen.buffer, Case::pattern(16 + BEHIND));
+    }
+
+    #[test]
+    fn a_written_byte_too_many_shrinks_to_little() {
+        // A program that writes a zero behind each reply.
+        let wrong = |case: &Case| {
+            let mut seen = case.expected();
+            if seen.reply > 0 {
+                seen.buffer[seen.reply] = 0;
+            }
+            seen
+        };
+        let differs = |case: &Case| !wrong(case).same(&case.expected());
+        let mut random = Random::new(8);
+        let found = loop {
+            let tables = generate::any_sound(&mut random).bytes();
+            let record = generate::record(&mut random, Style::Purposeful, &tables);
+            let case = Case { room: 1000, ..Case::new(&tables, &record) };
+            if differs(&case) {
+                break case;
+            }
+        };
+        let small = shrink(found, differs);
+        assert_eq!(small.record.len(), 4);
+        assert!(small.room <= 33);
+        assert_eq!(small.tables[ACCESS_COUNT], 0);
     }
 
     #[test]
     fn a_difference_shrinks_to_little() {
         // A program that takes a table for full too early.
         let wrong = |case: &Case| {
-            let mut outcome = judge(&case.tables, &case.record);
-            if outcome.answer == 0 && outcome.tables[ACCESS_COUNT] > 20 {
-                outcome.answer = 14;
+            let mut seen = case.expected();
+            if seen.answer == 0 && seen.tables[ACCESS_COUNT] > 20 {
+                seen.answer = 14;
             }
-            outcome
+            seen
         };
-        let differs = |case: &Case| !same(&wrong(case), &judge(&case.tables, &case.record));
+        let differs = |case: &Case| !wrong(case).same(&case.expected());
         let mut random = Random::new(6);
         let found = loop {
             let tables = generate::any_sound(&mut random).bytes();
-            let case = Case { tables, record: generate::record(&mut random, Style::Purposeful, &tables) };
+            let case = Case::new(&tables, &generate::record(&mut random, Style::Purposeful, &tables));
             if case.tables[CREDENTIAL_COUNT] > 5 && case.record.len() > 25 && differs(&case) {
                 break case;
             }
@@ -196,7 +306,7 @@ mod tests {
         let small = shrink(found, differs);
         assert!((20..=21).contains(&small.tables[ACCESS_COUNT]));
         assert!(small.tables[CREDENTIAL_COUNT] <= 1);
-        assert!(small.tables[ROW_OWNERS].iter().filter(|&&byte| byte != 0).count() <= 1);
+        assert!(small.tables[ROW_OWNERS].iter().filter(|&&byte| byte != 0).count() <= 16);
         assert!(differs(&small));
     }
 

@@ -1,8 +1,10 @@
 //! Cases with expectations worked out by hand.
 
+use crate::case::Case;
 use crate::directory::set_bit;
 use crate::hex;
 use crate::record::{compose, device_owner_body, target_body, Verb};
+use crate::rules::LONGEST_REPLY;
 use crate::tables::{fresh_bytes, CREDENTIAL_COUNT};
 use crate::tables::{Access, Connection, Credential, Row, State, Stored, Subject, Tables, Uuid, Wildcards};
 
@@ -11,8 +13,15 @@ pub struct Example {
     pub name: &'static str,
     pub tables: Stored,
     pub record: Vec<u8>,
+    pub room: usize,
     pub answer: u8,
     pub permission: u8,
+}
+
+impl Example {
+    pub fn case(&self) -> Case {
+        Case { room: self.room, ..Case::new(&self.tables, &self.record) }
+    }
 }
 
 /// The UUID of sixteen equal bytes.
@@ -54,7 +63,7 @@ pub fn refusals() -> Vec<Example> {
     let full =
         Tables { credentials: (1..=24).map(|number| credential(number, uuid(0x22))).collect(), ..Tables::fresh() };
     let eleven = "11".repeat(16);
-    let rows: [(Stored, String); 14] = [
+    let rows: [(Stored, String); 15] = [
         (claims_25, "22 00 00 00".into()),
         (fresh, "40 80 00".into()),
         (fresh, "A2 00 00 00".into()),
@@ -69,6 +78,7 @@ pub fn refusals() -> Vec<Example> {
         (fresh, "40 40 00 00 60".into()),
         (fresh, "60 80 00 00 00 05".into()),
         (full.bytes(), format!("40 80 00 00 00 19 {eleven} 00 00 04")),
+        (full.bytes(), "20 80 00 00".into()),
     ];
     (1..)
         .zip(rows)
@@ -76,6 +86,8 @@ pub fn refusals() -> Vec<Example> {
             name: "refusal",
             tables,
             record: hex::literal(&record),
+            // One short of the last example's reply.
+            room: 16 + 24 * 21 - 1,
             answer,
             permission: 0,
         })
@@ -86,7 +98,7 @@ pub fn refusals() -> Vec<Example> {
 pub fn wrong_readings() -> Vec<Example> {
     let mut examples = Vec::new();
     let mut add = |name, tables: &Tables, record, answer, permission| {
-        examples.push(Example { name, tables: tables.bytes(), record, answer, permission });
+        examples.push(Example { name, tables: tables.bytes(), record, room: LONGEST_REPLY, answer, permission });
     };
 
     let two = with_access(State::Rfnop, vec![access(1, ANON, 1, 0, &[8]), access(2, ANON, 4, 0, &[8])]);
@@ -134,7 +146,7 @@ pub fn wrong_readings() -> Vec<Example> {
 pub fn decided() -> Vec<Example> {
     let mut examples = Vec::new();
     let mut add = |name, tables: &Tables, record, answer, permission| {
-        examples.push(Example { name, tables: tables.bytes(), record, answer, permission });
+        examples.push(Example { name, tables: tables.bytes(), record, room: LONGEST_REPLY, answer, permission });
     };
     let fresh = Tables::fresh();
 
@@ -221,7 +233,7 @@ mod tests {
 
     fn check(examples: Vec<Example>) {
         for example in examples {
-            let outcome = judge(&example.tables, &example.record);
+            let outcome = judge(&example.case());
             let shown = format!("{}: {}", example.name, hex::write(&example.record));
             assert_eq!(outcome.answer, example.answer, "{shown}");
             assert_eq!(outcome.permission, example.permission, "{shown}");
@@ -233,9 +245,9 @@ mod tests {
     }
 
     #[test]
-    fn fourteen_refusals() {
+    fn every_refusal() {
         let examples = refusals();
-        assert_eq!(examples.len(), 14);
+        assert_eq!(examples.len(), 15);
         check(examples);
     }
 

@@ -1,10 +1,11 @@
 //! Random tables and records. The same seed gives the same ones.
 
+use crate::case::Case;
 use crate::directory::{self, DIRECTORY};
 use crate::examples;
 use crate::random::Random;
 use crate::record::{compose, device_owner_body, target_body, Header, Verb, HEADER, LONGEST};
-use crate::rules::{effective_permission, judge, Sender};
+use crate::rules::{effective_permission, judge, Sender, LONGEST_REPLY};
 use crate::run::LONGEST_RUN;
 use crate::spoil;
 use crate::systematic;
@@ -303,6 +304,23 @@ pub fn record(random: &mut Random, style: Style, present: &Stored) -> Vec<u8> {
     }
 }
 
+/// The longest buffer that is lent.
+pub const MOST_ROOM: usize = 1000;
+
+/// The length of a buffer for this case, chosen with its reply in view.
+pub fn room(random: &mut Random, case: &Case) -> usize {
+    let fits = judge(&Case { room: LONGEST_REPLY, ..case.clone() }).reply.len();
+    match random.below(20) {
+        0..=4 if fits > 0 => fits,
+        5..=8 if fits > 0 => fits - 1,
+        9 if fits > 0 => fits + 1,
+        10 | 11 if fits > 0 => random.below(fits),
+        0..=13 => 0,
+        14..=17 => random.between(LONGEST_REPLY, MOST_ROOM),
+        _ => random.between(0, MOST_ROOM),
+    }
+}
+
 /// A record without its sender.
 struct Wish {
     verb: Verb,
@@ -407,7 +425,7 @@ fn set_device_owner(owner: Option<Uuid>) -> Wish {
 }
 
 fn read_security(random: &mut Random) -> Wish {
-    Wish::new(random.pick(&[Verb::Retrieve, Verb::Observe]), random.below(4) as u8, Vec::new())
+    Wish::new(random.weighted(&[(4, Verb::Retrieve), (1, Verb::Observe)]), random.below(4) as u8, Vec::new())
 }
 
 fn application(random: &mut Random) -> Wish {
@@ -448,7 +466,7 @@ fn purposeful(random: &mut Random, tables: &Tables) -> Wish {
     let steps: &[(usize, Step)] = match tables.state {
         State::Rfotm if tables.credentials.is_empty() => &[(8, Credential), (1, Access), (1, Read)],
         State::Rfotm if !tables.owned() => {
-            &[(25, Credential), (20, Access), (20, Claim), (15, RowOwner), (4, DeleteRow), (4, Read), (2, Target(0))]
+            &[(25, Credential), (20, Access), (20, Claim), (15, RowOwner), (4, DeleteRow), (8, Read), (2, Target(0))]
         }
         State::Rfotm => &[
             (20, Credential),
@@ -457,7 +475,7 @@ fn purposeful(random: &mut Random, tables: &Tables) -> Wish {
             (5, Claim),
             (2, GiveUp),
             (4, DeleteRow),
-            (4, Read),
+            (8, Read),
             (25, Target(2)),
             (1, Target(0)),
         ],
@@ -466,12 +484,12 @@ fn purposeful(random: &mut Random, tables: &Tables) -> Wish {
             (35, Access),
             (12, DeleteRow),
             (1, DeleteAll),
-            (6, Read),
+            (10, Read),
             (9, Target(3)),
             (3, Target(4)),
             (1, Target(0)),
         ],
-        State::Rfnop => &[(85, Use), (9, Read), (4, Target(2)), (2, Target(4)), (1, Target(0))],
+        State::Rfnop => &[(85, Use), (12, Read), (4, Target(2)), (2, Target(4)), (1, Target(0))],
         State::Sreset => &[
             (15, RowOwner),
             (12, Claim),
@@ -479,7 +497,7 @@ fn purposeful(random: &mut Random, tables: &Tables) -> Wish {
             (10, Access),
             (6, DeleteRow),
             (2, DeleteAll),
-            (5, Read),
+            (8, Read),
             (20, Target(2)),
             (2, Target(0)),
         ],
@@ -574,13 +592,14 @@ pub enum Part {
 
 /// Shows `records` cases to `visit`: first the systematic ones, then random
 /// sessions. `visit` gives the tables afterwards.
-pub fn walk(seed: u64, records: u64, mut visit: impl FnMut(Part, &Stored, &[u8]) -> Stored) {
+pub fn walk(seed: u64, records: u64, mut visit: impl FnMut(Part, &Case) -> Stored) {
     let left = walk_groups(seed, records, &mut visit);
     walk_sessions(seed, left, &mut visit);
 }
 
 /// The systematic cases, up to `records`; gives how many are left.
-fn walk_groups(seed: u64, records: u64, visit: &mut impl FnMut(Part, &Stored, &[u8]) -> Stored) -> u64 {
+fn walk_groups(seed: u64, records: u64, visit: &mut impl FnMut(Part, &Case) -> Stored) -> u64 {
+    let mut random = Random::part(seed, 4);
     let mut left = records;
     for group in systematic::groups(seed) {
         for record in &group.records {
@@ -588,22 +607,25 @@ fn walk_groups(seed: u64, records: u64, visit: &mut impl FnMut(Part, &Stored, &[
                 return 0;
             }
             left -= 1;
-            visit(Part::Systematic(group.name), &group.tables, record);
+            let mut case = Case::new(&group.tables, record);
+            case.room = group.room.unwrap_or_else(|| room(&mut random, &case));
+            visit(Part::Systematic(group.name), &case);
         }
     }
     left
 }
 
 /// Random sessions, `left` records in all.
-fn walk_sessions(seed: u64, mut left: u64, visit: &mut impl FnMut(Part, &Stored, &[u8]) -> Stored) {
+fn walk_sessions(seed: u64, mut left: u64, visit: &mut impl FnMut(Part, &Case) -> Stored) {
     let mut random = Random::part(seed, 1);
     while left > 0 {
         let session = session(&mut random);
         let mut tables = session.tables;
         for _ in 0..left.min(session.records as u64) {
             left -= 1;
-            let record = record(&mut random, session.style, &tables);
-            tables = visit(Part::Random(session.style), &tables, &record);
+            let mut case = Case::new(&tables, &record(&mut random, session.style, &tables));
+            case.room = room(&mut random, &case);
+            tables = visit(Part::Random(session.style), &case);
         }
     }
 }
@@ -680,7 +702,7 @@ fn fill_run(random: &mut Random, input: &mut Vec<u8>, bytes: usize) {
             1 => vec![0x22; random.between(257, 400)],
             _ => record(random, style, &tables),
         };
-        tables = judge(&tables, &record).tables;
+        tables = judge(&Case::new(&tables, &record)).tables;
         append(input, &record);
     }
 }
@@ -693,26 +715,33 @@ fn append(input: &mut Vec<u8>, record: &[u8]) {
 #[cfg(test)]
 mod tests {
     use super::*;
-    use crate::histogram::Histogram;
+    use crate::histogram::{Histogram, Replies};
+    use crate::rules::LAST_ANSWER;
     use crate::run;
 
     #[test]
     fn every_answer_occurs_often() {
         let mut systematic = Histogram::new();
-        walk_groups(1, u64::MAX, &mut |_, tables, record| {
-            let outcome = judge(tables, record);
-            systematic.add(record, &outcome);
+        walk_groups(1, u64::MAX, &mut |_, case| {
+            let outcome = judge(case);
+            systematic.add(case, &outcome);
             outcome.tables
         });
         let mut random = Histogram::new();
-        walk_sessions(1, 40_000, &mut |_, tables, record| {
-            let outcome = judge(tables, record);
-            random.add(record, &outcome);
+        walk_sessions(1, 40_000, &mut |_, case| {
+            let outcome = judge(case);
+            random.add(case, &outcome);
             outcome.tables
         });
-        for answer in 0..=14 {
+        for answer in 0..=LAST_ANSWER as usize {
             assert!(systematic.answers[answer] >= 50, "systematic {answer}: {systematic}");
             assert!(random.answers[answer] >= 200, "random {answer}: {random}");
+        }
+        for histogram in [systematic, random] {
+            let Replies { exact, to_spare, one_too_short, no_buffer, otherwise_too_short } = histogram.replies;
+            for count in [exact, to_spare, one_too_short, no_buffer, otherwise_too_short] {
+                assert!(count >= 100, "{histogram}");
+            }
         }
     }
 
@@ -720,9 +749,9 @@ mod tests {
     fn the_same_seed_gives_the_same() {
         let digest = |seed| {
             let mut sum = 0u64;
-            walk_sessions(seed, 5_000, &mut |_, tables, record| {
-                let outcome = judge(tables, record);
-                for &byte in record.iter().chain(&outcome.tables) {
+            walk_sessions(seed, 5_000, &mut |_, case| {
+                let outcome = judge(case);
+                for &byte in case.record.iter().chain(&outcome.reply).chain(&outcome.tables) {
                     sum = sum.rotate_left(5).wrapping_add(byte.into());
                 }
                 outcome.tables
@@ -735,9 +764,9 @@ mod tests {
 
     #[test]
     fn the_rules_keep_tables_sound() {
-        walk_sessions(2, 30_000, &mut |_, tables, record| {
-            let outcome = judge(tables, record);
-            assert_eq!(Tables::read(tables).is_ok(), Tables::read(&outcome.tables).is_ok());
+        walk_sessions(2, 30_000, &mut |_, case| {
+            let outcome = judge(case);
+            assert_eq!(Tables::read(&case.tables).is_ok(), Tables::read(&outcome.tables).is_ok());
             outcome.tables
         });
     }
@@ -746,9 +775,9 @@ mod tests {
     fn exactly_so_many_records() {
         for records in [0, 1, 40, 100_000] {
             let mut seen = 0;
-            walk(3, records, |_, tables, _| {
+            walk(3, records, |_, case| {
                 seen += 1;
-                *tables
+                case.tables
             });
             assert_eq!(seen, records);
         }

@@ -1,16 +1,28 @@
-//! How often each answer came, and what was permitted.
+//! How often each answer came, what was permitted, and how the replies fitted.
 
 use std::fmt;
 
+use crate::case::Case;
 use crate::directory::DIRECTORY;
 use crate::record::{Header, Verb, HEADER};
-use crate::rules::{Outcome, LAST_ANSWER};
+use crate::rules::{judge, Outcome, Refusal, LAST_ANSWER, LONGEST_REPLY};
 
 #[derive(Clone, Default)]
 pub struct Histogram {
     pub answers: [u64; LAST_ANSWER as usize + 1],
     /// Permitted records by resource (as in the directory) and verb.
     permitted: [[u64; 5]; DIRECTORY.len()],
+    pub replies: Replies,
+}
+
+/// Records that have a reply, by the lent buffer.
+#[derive(Clone, Default)]
+pub struct Replies {
+    pub exact: u64,
+    pub to_spare: u64,
+    pub one_too_short: u64,
+    pub no_buffer: u64,
+    pub otherwise_too_short: u64,
 }
 
 impl Histogram {
@@ -18,8 +30,23 @@ impl Histogram {
         Histogram::default()
     }
 
-    pub fn add(&mut self, record: &[u8], outcome: &Outcome) {
+    pub fn add(&mut self, case: &Case, outcome: &Outcome) {
+        let record = &case.record;
         self.answers[outcome.answer as usize] += 1;
+        if outcome.answer == Refusal::BufferTooShort as u8 {
+            let fits = judge(&Case { room: LONGEST_REPLY, ..case.clone() }).reply.len();
+            match case.room {
+                0 => self.replies.no_buffer += 1,
+                room if room + 1 == fits => self.replies.one_too_short += 1,
+                _ => self.replies.otherwise_too_short += 1,
+            }
+        } else if !outcome.reply.is_empty() {
+            if case.room == outcome.reply.len() {
+                self.replies.exact += 1;
+            } else {
+                self.replies.to_spare += 1;
+            }
+        }
         if outcome.answer == 0 && record.len() >= HEADER {
             let header = Header::read(record);
             let resource = DIRECTORY.iter().position(|resource| resource.number == header.resource);
@@ -54,6 +81,11 @@ impl fmt::Display for Histogram {
             }
             writeln!(out)?;
         }
-        Ok(())
+        let Replies { exact, to_spare, one_too_short, no_buffer, otherwise_too_short } = self.replies;
+        writeln!(out, "replies: {exact} fit exactly, {to_spare} with room to spare")?;
+        writeln!(
+            out,
+            "         {one_too_short} lack one byte, {no_buffer} have no buffer, {otherwise_too_short} lack more"
+        )
     }
 }

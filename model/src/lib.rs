@@ -1,5 +1,6 @@
 //! A second model of the terminal's access rules, written from the scope paper
-//! alone, and the means to compare the proved library with it.
+//! and the change requests alone, and the means to compare the proved library
+//! with it.
 
 // Only calls of the linked library are unsafe.
 #![deny(unsafe_code)]

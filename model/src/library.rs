@@ -2,7 +2,7 @@
 
 use std::ops::Range;
 
-use crate::rules;
+use crate::case::{Case, Seen, BEHIND};
 use crate::tables::{self, Stored};
 
 #[repr(C)]
@@ -24,6 +24,7 @@ pub struct Outcome {
     pub permission: u8,
     pub start: usize,
     pub length: usize,
+    pub reply: usize,
     pub tables: Tables,
 }
 
@@ -33,7 +34,7 @@ const _: () = assert!(size_of::<Tables>() == tables::SIZE);
 extern "C" {
     fn tillerclover_fresh() -> Tables;
     fn tillerclover_clear(t: Tables) -> Tables;
-    fn tillerclover_judge(t: Tables, record: *const u8, len: usize) -> Outcome;
+    fn tillerclover_judge(t: Tables, record: *const u8, length: usize, reply: *mut u8, room: usize) -> Outcome;
 }
 
 impl Tables {
@@ -79,18 +80,22 @@ pub fn clear(stored: &Stored) -> Stored {
 
 /// One call, as a C program makes it.
 #[inline]
-pub fn decide(tables: &Tables, record: &[u8]) -> Outcome {
-    // The pointer and the length are those of a living slice.
-    unsafe { tillerclover_judge(*tables, record.as_ptr(), record.len()) }
+pub fn decide(tables: &Tables, record: &[u8], reply: &mut [u8]) -> Outcome {
+    // The pointers and the lengths are those of living slices.
+    unsafe { tillerclover_judge(*tables, record.as_ptr(), record.len(), reply.as_mut_ptr(), reply.len()) }
 }
 
 /// The same in the model's terms.
-pub fn judge(stored: &Stored, record: &[u8]) -> rules::Outcome {
-    let outcome = decide(&Tables::from_bytes(stored), record);
-    rules::Outcome {
+pub fn judge(case: &Case) -> Seen {
+    // The buffer is longer than what is lent of it.
+    let mut buffer = Case::pattern(case.room + BEHIND);
+    let outcome = decide(&Tables::from_bytes(&case.tables), &case.record, &mut buffer[..case.room]);
+    Seen {
         answer: outcome.answer,
         permission: outcome.permission,
-        payload: outcome.start..outcome.start + outcome.length,
+        payload: outcome.start..outcome.start.saturating_add(outcome.length),
+        reply: outcome.reply,
+        buffer,
         tables: outcome.tables.bytes(),
     }
 }

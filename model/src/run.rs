@@ -1,5 +1,6 @@
 //! A whole run: records behind their lengths, from fresh tables, to text.
 
+use crate::case::Case;
 use crate::rules::judge;
 use crate::tables::{fresh_bytes, STATE};
 
@@ -16,7 +17,7 @@ pub fn text(input: &[u8]) -> String {
             text.push_str("cut\n");
             break;
         };
-        let outcome = judge(&tables, record);
+        let outcome = judge(&Case::new(&tables, record));
         tables = outcome.tables;
         place += 1;
         text.push_str(&format!("{place} {} {} {}\n", outcome.answer, outcome.permission, tables[STATE]));

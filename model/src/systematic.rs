@@ -16,6 +16,14 @@ pub struct Group {
     pub name: &'static str,
     pub tables: Stored,
     pub records: Vec<Vec<u8>>,
+    /// The length of the lent buffer; None when it is drawn for each record.
+    pub room: Option<usize>,
+}
+
+impl Group {
+    fn new(name: &'static str, tables: &Tables, records: Vec<Vec<u8>>) -> Group {
+        Group { name, tables: tables.bytes(), records, room: None }
+    }
 }
 
 // The senders of the tables below: 0 for nobody, and these rows.
@@ -41,6 +49,7 @@ pub fn groups(seed: u64) -> Vec<Group> {
     owners(&mut groups);
     near_misses(&mut groups);
     places(&mut groups, &mut random);
+    replies(&mut groups, &mut random);
     soundness(&mut groups, &mut random);
     groups
 }
@@ -84,7 +93,8 @@ fn flips(record: &[u8], from: usize) -> Vec<Vec<u8>> {
 
 fn hand_worked(groups: &mut Vec<Group>) {
     for example in examples::all() {
-        groups.push(Group { name: "worked by hand", tables: example.tables, records: vec![example.record] });
+        let records = vec![example.record];
+        groups.push(Group { name: "worked by hand", tables: example.tables, records, room: Some(example.room) });
     }
 }
 
@@ -114,7 +124,7 @@ fn lengths(groups: &mut Vec<Group>) {
                 }
             }
         }
-        groups.push(Group { name: "lengths", tables: tables.bytes(), records });
+        groups.push(Group::new("lengths", tables, records));
     }
 }
 
@@ -154,7 +164,7 @@ fn headers(groups: &mut Vec<Group>) {
                 }
             }
         }
-        groups.push(Group { name: "headers", tables: tables.bytes(), records });
+        groups.push(Group::new("headers", tables, records));
     }
 }
 
@@ -172,7 +182,7 @@ fn body_lengths(groups: &mut Vec<Group>) {
                 }
             }
         }
-        groups.push(Group { name: "body lengths", tables: tables.bytes(), records });
+        groups.push(Group::new("body lengths", &tables, records));
     }
 }
 
@@ -188,7 +198,7 @@ fn targets(groups: &mut Vec<Group>) {
                 (0..=255).step_by(step).map(move |byte| compose(Verb::Update, 1, sender, &[byte]))
             })
             .collect();
-        groups.push(Group { name: "targets", tables: tables.bytes(), records });
+        groups.push(Group::new("targets", &tables, records));
     }
 }
 
@@ -206,7 +216,7 @@ fn credential_bodies(groups: &mut Vec<Group>) {
             body[20] = last;
             records.push(compose(Verb::Update, 2, sender, &body));
         }
-        groups.push(Group { name: "credential bodies", tables: tables.bytes(), records });
+        groups.push(Group::new("credential bodies", tables, records));
     }
 }
 
@@ -227,7 +237,7 @@ fn access_bodies(groups: &mut Vec<Group>) {
                 records.push(compose(Verb::Update, 3, sender, &body));
             }
         }
-        groups.push(Group { name: "access bodies", tables: tables.bytes(), records });
+        groups.push(Group::new("access bodies", tables, records));
     }
 }
 
@@ -253,7 +263,7 @@ fn owner_bodies(groups: &mut Vec<Group>) {
                 }
             }
         }
-        groups.push(Group { name: "owner bodies", tables: tables.bytes(), records });
+        groups.push(Group::new("owner bodies", &tables, records));
     }
 }
 
@@ -292,7 +302,7 @@ fn access_rows(groups: &mut Vec<Group>) {
                 tables.accesses.insert(0, access(2, Subject::Uuid(uuid(0x56)), 31, 7, &[0, 1, 2, 3]));
             }
             turn += 1;
-            groups.push(Group { name: "access rows", tables: tables.bytes(), records: records.clone() });
+            groups.push(Group::new("access rows", &tables, records.clone()));
         }
     }
 }
@@ -317,7 +327,7 @@ fn owners(groups: &mut Vec<Group>) {
                     }
                 }
             }
-            groups.push(Group { name: "owners", tables: tables.bytes(), records });
+            groups.push(Group::new("owners", &tables, records));
         }
     }
 }
@@ -325,7 +335,7 @@ fn owners(groups: &mut Vec<Group>) {
 /// Values that differ from the fitting one in a single bit, at each place.
 fn near_misses(groups: &mut Vec<Group>) {
     let mut add = |tables: &Tables, records| {
-        groups.push(Group { name: "near misses", tables: tables.bytes(), records });
+        groups.push(Group::new("near misses", tables, records));
     };
     let base = || Tables { accesses: Vec::new(), row_owners: [None; 4], ..stages().swap_remove(3) };
     let fits: u128 = uuid(0x22).get();
@@ -406,8 +416,53 @@ fn places(groups: &mut Vec<Group>, random: &mut Random) {
             for target in 0..=4 {
                 records.push(compose(Verb::Update, 1, sender, &target_body(target)));
             }
-            groups.push(Group { name: "places", tables: tables.bytes(), records });
+            groups.push(Group::new("places", &tables, records));
         }
+    }
+}
+
+/// Every security resource read with buffers of many lengths.
+fn replies(groups: &mut Vec<Group>, random: &mut Random) {
+    let mut add = |tables: &Tables, senders: &[u16], rooms: &[usize]| {
+        let mut records = Vec::new();
+        for &sender in senders {
+            for resource in 0..4 {
+                records.push(compose(Verb::Retrieve, resource, sender, &[]));
+                records.push(compose(Verb::Observe, resource, sender, &[]));
+                records.push(compose(Verb::Retrieve, resource, sender, &[0]));
+            }
+            records.push(compose(Verb::Retrieve, 8, sender, &[1, 2]));
+            records.push(compose(Verb::Update, 1, sender, &target_body(0)));
+            records.push(compose(Verb::Delete, 2, sender, &[]));
+        }
+        for &room in rooms {
+            groups.push(Group { room: Some(room), ..Group::new("replies", tables, records.clone()) });
+        }
+    };
+    let lengths = |tables: &Tables| {
+        let credentials = 16 + tables.credentials.len() * Credential::LENGTH;
+        let accesses = 16 + tables.accesses.len() * Access::LENGTH;
+        [17, 33, credentials, accesses].into_iter().flat_map(|fits| [fits - 1, fits, fits + 1])
+    };
+    for tables in stages() {
+        let sender = if tables.owned() { OWNER } else { 0 };
+        let rooms: Vec<usize> = lengths(&tables).chain([0, 1, 15, 100, 1000]).collect();
+        add(&tables, &[sender, FOREMAN], &rooms);
+    }
+    // Each count of rows, each with its own exact room.
+    for rows in 0..=32 {
+        let mut tables = Tables::fresh();
+        for number in 0..rows {
+            tables.accesses.push(Access { number: 0x0300 - number, ..generate::access(random, &[]) });
+            if tables.credentials.len() < Credential::CAPACITY {
+                tables.credentials.push(Credential { number: 0x0200 - number, ..generate::credential(random, &[]) });
+            }
+        }
+        for owner in &mut tables.row_owners {
+            *owner = Some(generate::uuid(random));
+        }
+        let rooms: Vec<usize> = lengths(&tables).skip(6).chain([0, 911, 912]).collect();
+        add(&tables, &[0], &rooms);
     }
 }
 
@@ -415,7 +470,7 @@ fn places(groups: &mut Vec<Group>, random: &mut Random) {
 fn soundness(groups: &mut Vec<Group>, random: &mut Random) {
     let probes = || vec![compose(Verb::Retrieve, 1, 0, &[]), compose(Verb::Retrieve, 8, OWNER, &[1]), vec![]];
     let one_probe = || vec![compose(Verb::Retrieve, 2, OWNER, &[])];
-    let mut add = |tables, records| groups.push(Group { name: "soundness", tables, records });
+    let mut add = |tables, records| groups.push(Group { name: "soundness", tables, records, room: None });
 
     // Every fault on tables of many kinds.
     for (_, fault) in TABLE_FAULTS {

@@ -2,19 +2,21 @@
 //!
 //! Entries follow one another, each behind a tag byte:
 //! 0: tables (1,484 bytes), from now on the current ones;
-//! 1: a record behind its length (16 bits), then answer, permission (a byte
-//!    each), payload start and payload length (16 bits each; start 0 when the
-//!    length is 0); the tables afterwards are the current ones;
+//! 1: a record behind its length (16 bits), the length of the lent buffer (16
+//!    bits), then answer, permission (a byte each), payload start and payload
+//!    length (16 bits each; start 0 when the length is 0), the reply behind its
+//!    length (16 bits); the tables afterwards are the current ones;
 //! 2: tables (1,484 bytes) that the current ones must equal.
 //! Numbers of 16 bits have their high byte first.
 
+use crate::case::Case;
 use crate::directory::DIRECTORY;
 use crate::examples;
 use crate::generate::{self, Style};
 use crate::histogram::Histogram;
 use crate::random::Random;
 use crate::record::{compose, Verb};
-use crate::rules::judge;
+use crate::rules::{judge, LONGEST_REPLY};
 use crate::spoil::{ACCESS_FAULTS, CREDENTIAL_FAULTS, TABLE_FAULTS};
 use crate::tables::{fresh_bytes, Access, Credential, Row, State, Stored, Tables, ACCESSES, CREDENTIALS, SIZE};
 
@@ -51,10 +53,11 @@ impl Vectors {
         };
         for example in examples::all() {
             vectors.set_tables(&example.tables);
-            vectors.record(&example.record);
+            vectors.record(&example.record, example.room);
         }
         vectors.check();
         vectors.headers();
+        vectors.replies(&mut random);
         vectors.faults(&mut random);
         vectors.sessions(&mut random, limit);
         vectors
@@ -69,17 +72,26 @@ impl Vectors {
         }
     }
 
-    fn record(&mut self, record: &[u8]) {
-        let outcome = judge(&self.current.expect("tables come first"), record);
+    /// The record as a case, with a buffer that fits any reply.
+    fn case(&self, record: &[u8]) -> Case {
+        Case::new(&self.current.expect("tables come first"), record)
+    }
+
+    fn record(&mut self, record: &[u8], room: usize) {
+        let case = Case { room, ..self.case(record) };
+        let outcome = judge(&case);
         let length = outcome.payload.len() as u16;
         let start = if length == 0 { 0 } else { outcome.payload.start as u16 };
         self.bytes.push(RECORD);
         self.bytes.extend((record.len() as u16).to_be_bytes());
         self.bytes.extend(record);
+        self.bytes.extend((room as u16).to_be_bytes());
         self.bytes.extend([outcome.answer, outcome.permission]);
         self.bytes.extend(start.to_be_bytes());
         self.bytes.extend(length.to_be_bytes());
-        self.histogram.add(record, &outcome);
+        self.bytes.extend((outcome.reply.len() as u16).to_be_bytes());
+        self.bytes.extend(&outcome.reply);
+        self.histogram.add(&case, &outcome);
         self.records += 1;
         self.current = Some(outcome.tables);
         self.unchecked += 1;
@@ -111,9 +123,28 @@ impl Vectors {
                     for &sender in senders {
                         let mut record = compose(Verb::Create, resource.number, sender, &[]);
                         record[0] |= verb << 5;
-                        self.record(&record);
+                        self.record(&record, LONGEST_REPLY);
                     }
                 }
+            }
+        }
+        self.check();
+    }
+
+    /// Replies of every resource, with buffers that just fit and just don't.
+    fn replies(&mut self, random: &mut Random) {
+        let full = Tables { state: State::Rfotm, device_owner: None, ..generate::full_sound(random) };
+        let (credentials, accesses) = rows(random);
+        let small = Tables { credentials, accesses, ..Tables::fresh() };
+        for tables in [full, small] {
+            self.set_tables(&tables.bytes());
+            for resource in 0..4 {
+                let record = compose(Verb::Retrieve, resource, 0, &[]);
+                let fits = judge(&self.case(&record)).reply.len();
+                for room in [fits, fits - 1, 0, fits + 1] {
+                    self.record(&record, room);
+                }
+                self.record(&compose(Verb::Observe, resource, 0, &[]), 0);
             }
         }
         self.check();
@@ -148,7 +179,7 @@ impl Vectors {
             self.set_tables(&stored);
             for style in [Style::Purposeful, Style::Mixed, Style::Noise] {
                 let record = generate::record(random, style, &stored);
-                self.record(&record);
+                self.record(&record, random.below(40));
             }
         }
         self.check();
@@ -156,10 +187,10 @@ impl Vectors {
 
     /// Random sessions from fresh, sound and full tables in turn.
     fn sessions(&mut self, random: &mut Random, limit: usize) {
-        // Room for new tables, a few longest records and a last check.
-        let room = 3 * SIZE + 2000;
+        // For new tables, a longest record and reply, and a last check.
+        let spare = 3 * SIZE + 2000;
         let mut turn = 0;
-        while self.bytes.len() + room < limit {
+        while self.bytes.len() + spare < limit {
             let start = match turn % 3 {
                 0 => fresh_bytes(),
                 1 => generate::full_sound(random).bytes(),
@@ -168,14 +199,15 @@ impl Vectors {
             turn += 1;
             self.set_tables(&start);
             for _ in 0..random.between(60, 160) {
-                if self.bytes.len() + room >= limit {
+                if self.bytes.len() + spare >= limit {
                     break;
                 }
                 let style = random.weighted(&[(45, Style::Purposeful), (35, Style::Mixed), (20, Style::Damaged)]);
                 let record = generate::record(random, style, &self.current.expect("set above"));
-                // Long records would use up the room.
-                if record.len() <= 40 || random.chance(15) {
-                    self.record(&record);
+                // Long records and replies would use up the file.
+                let case = self.case(&record);
+                if (record.len() <= 40 || random.chance(15)) && (judge(&case).reply.len() <= 90 || random.chance(10)) {
+                    self.record(&record, generate::room(random, &case));
                 }
             }
         }
@@ -221,12 +253,16 @@ mod tests {
                 RECORD => {
                     let length = number(take(2).unwrap());
                     let record = take(length).unwrap();
-                    let outcome = judge(&current.unwrap(), record);
+                    let room = number(take(2).unwrap());
+                    let outcome = judge(&Case { room, ..Case::new(&current.unwrap(), record) });
                     assert_eq!(take(2).unwrap(), [outcome.answer, outcome.permission]);
                     let start = number(take(2).unwrap());
                     let length = number(take(2).unwrap());
                     assert_eq!(length, outcome.payload.len());
                     assert_eq!(start, if length == 0 { 0 } else { 4 });
+                    let length = number(take(2).unwrap());
+                    assert!(length <= room);
+                    assert_eq!(take(length).unwrap(), outcome.reply);
                     current = Some(outcome.tables);
                     records += 1;
                 }

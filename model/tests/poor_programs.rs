@@ -1,50 +1,89 @@
 //! Programs that only look right are told apart from the rules.
 
-use model::case::same;
+use model::case::{Case, Seen};
 use model::generate::walk;
-use model::rules::{judge, Outcome};
-use model::tables::{fresh_bytes, Stored};
+use model::tables::fresh_bytes;
 
-/// What a program makes of tables and a record, given what is right.
-type Program = fn(&Stored, &[u8], Outcome) -> Outcome;
+/// What a program makes of a case, given what is right.
+type Program = fn(&Case, Seen) -> Seen;
 
-fn refused(answer: u8, tables: &Stored) -> Outcome {
-    Outcome { answer, permission: 0, payload: 0..0, tables: *tables }
+fn refused(answer: u8, case: &Case) -> Seen {
+    let buffer = Case::pattern(case.room + model::case::BEHIND);
+    Seen { answer, permission: 0, payload: 0..0, reply: 0, buffer, tables: case.tables }
 }
 
-fn alters(tables: &Stored, right: &Outcome) -> bool {
-    right.answer == 0 && right.tables != *tables
+fn alters(case: &Case, right: &Seen) -> bool {
+    right.answer == 0 && right.tables != case.tables
 }
 
-const PROGRAMS: [(&str, Program); 10] = [
-    ("turns all away", |tables, _, _| refused(8, tables)),
-    ("permits all", |tables, _, right| if right.answer == 0 { right } else { refused(0, tables) }),
-    ("never alters the tables", |tables, _, right| Outcome { tables: *tables, ..right }),
-    ("obeys the first record only", |tables, _, right| {
-        if *tables == fresh_bytes() {
+const PROGRAMS: [(&str, Program); 16] = [
+    ("turns all away", |case, _| refused(8, case)),
+    ("permits all", |case, right| if right.answer == 0 { right } else { refused(0, case) }),
+    ("never alters the tables", |case, right| Seen { tables: case.tables, ..right }),
+    ("obeys the first record only", |case, right| {
+        if case.tables == fresh_bytes() {
             right
         } else {
-            Outcome { tables: *tables, ..right }
+            Seen { tables: case.tables, ..right }
         }
     }),
-    ("says 13 to every change", |tables, _, right| if alters(tables, &right) { refused(13, tables) } else { right }),
-    ("says 14 to every change", |tables, _, right| if alters(tables, &right) { refused(14, tables) } else { right }),
-    ("never says 13", |tables, _, right| if right.answer == 13 { refused(0, tables) } else { right }),
-    ("never says 14", |tables, _, right| if right.answer == 14 { refused(0, tables) } else { right }),
-    ("passes no payload on", |_, _, right| Outcome { payload: 0..0, ..right }),
-    ("reports the permission afterwards", |_, record, right| match right.answer {
-        0 => Outcome { permission: judge(&right.tables, record).permission, ..right },
+    ("says 13 to every change", |case, right| if alters(case, &right) { refused(13, case) } else { right }),
+    ("says 14 to every change", |case, right| if alters(case, &right) { refused(14, case) } else { right }),
+    ("never says 13", |case, right| if right.answer == 13 { refused(0, case) } else { right }),
+    ("never says 14", |case, right| if right.answer == 14 { refused(0, case) } else { right }),
+    ("passes no payload on", |_, right| Seen { payload: 0..0, ..right }),
+    ("reports the permission afterwards", |case, right| match right.answer {
+        0 => Seen { permission: Case { tables: right.tables, ..case.clone() }.expected().permission, ..right },
         _ => right,
+    }),
+    ("says 15 when the reply just fits", |case, right| {
+        if right.reply > 0 && right.reply == case.room {
+            refused(15, case)
+        } else {
+            right
+        }
+    }),
+    ("writes as much as fits", |case, right| match right.answer {
+        15 => {
+            let whole = Case { room: 1000, ..case.clone() }.expected();
+            let mut seen = refused(15, case);
+            seen.buffer[..case.room].copy_from_slice(&whole.buffer[..case.room]);
+            seen
+        }
+        _ => right,
+    }),
+    ("clears the buffer behind the reply", |case, mut right| {
+        right.buffer[right.reply..case.room].fill(0);
+        right
+    }),
+    ("reports a length and writes nothing", |case, right| {
+        let untouched = refused(0, case).buffer;
+        Seen { buffer: untouched, ..right }
+    }),
+    ("replies to an OBSERVE", |case, right| {
+        if right.answer == 0 && case.record[0] >> 5 == 4 {
+            let mut record = case.record.clone();
+            record[0] ^= 0xA0;
+            Case { record, ..case.clone() }.expected()
+        } else {
+            right
+        }
+    }),
+    ("leaves the row owner out", |_, mut right| {
+        if right.reply >= 16 {
+            right.reply -= 16;
+        }
+        right
     }),
 ];
 
 #[test]
 fn poor_programs_are_found() {
     let mut found = [0; PROGRAMS.len()];
-    walk(1, 130_000, |_, tables, record| {
-        let right = judge(tables, record);
+    walk(1, 130_000, |_, case| {
+        let right = case.expected();
         for (count, (_, program)) in found.iter_mut().zip(PROGRAMS) {
-            if !same(&right, &program(tables, record, right.clone())) {
+            if !right.same(&program(case, right.clone())) {
                 *count += 1;
             }
         }

@@ -8,19 +8,26 @@ use effect::apply;
 use fields::after;
 use fields::record::resource_of;
 use form::check_form;
+use form::refuse_if;
 use format::action::action_of;
 use permission::effective;
+use reading::put_reply;
+use reading::reply_length;
 use request::check_request;
 use rules::directory::resource_row;
 use rules::Check;
 use rules::Judgement;
 use rules::Tables;
 ghost use mathlib.Core.Path.{_≡_};
-ghost use Rattle.rules.specs.Checks.{numberOf};
+ghost use lib.Dec.{ltb};
+ghost use lib.ListN.{length};
+ghost use Rattle.rules.specs.Record.{asked};
+ghost use Rattle.rules.specs.Reading.{filled};
+ghost use Rattle.rules.specs.Checks.{numberOf, refuseIf};
 ghost use Rattle.rules.specs.Tables.{cleared};
-ghost use Rattle.rules.specs.Outcome.{outcome, judgementOf, refusal, payloadAt};
+ghost use Rattle.rules.specs.Outcome.{outcome, replyTo, judgementOf, refusal, payloadAt};
 
-// A refusal hands the tables back as they are, with permission 0.
+// A refusal hands the tables back as they are, with permission 0 and no reply.
 fn refused(t: Tables, c: Check) -> Judgement
     ensures { λ r. ⌜ r ≡ refusal t (numberOf c) ⌝ }
 {
@@ -28,20 +35,30 @@ fn refused(t: Tables, c: Check) -> Judgement
         Check::Pass => Judgement {
             answer: 0,
             permission: 0,
+            length: 0,
             tables: t,
         },
         Check::Refuse(n) => Judgement {
             answer: n,
             permission: 0,
+            length: 0,
             tables: t,
         },
     }
 }
 
-// What becomes of a record: the answer, the permission and the tables afterwards.
-// Rules out: a judge that refuses every record with 8; one that answers and never alters the tables.
-pub fn judge(t: Tables, record: &[u8]) -> Judgement
-    ensures { λ r. ⌜ r ≡ judgementOf (outcome t (now («record» .entry))) ⌝ }
+// The reply does not fit the room that the buffer has.
+fn check_room(room: usize, length: usize) -> Check
+    ensures { λ c. ⌜ c ≡ refuseIf 15 (ltb room length) ⌝ }
+{
+    refuse_if(15, room < length)
+}
+
+// What becomes of a record: the answer, the permission, the length of the reply and the tables afterwards; the reply fills the lent buffer.
+// Rules out: a judge that refuses every record with 8; one that answers and never alters the tables; a byte written on a refusal.
+pub fn judge(t: Tables, record: &[u8], reply: &mut [u8]) -> Judgement
+    ensures said { λ r. ⌜ r ≡ judgementOf (outcome t (asked (now («record» .entry)) (length (now (reply .entry))))) ⌝ }
+    ensures buffer { λ _. ⌜ now (reply .exit) ≡ filled (now (reply .entry)) (replyTo t (asked (now («record» .entry)) (length (now (reply .entry)))) .contents) ⌝ }
 {
     let c = check_form(t, record);
     let Check::Pass = c else {
@@ -53,10 +70,17 @@ pub fn judge(t: Tables, record: &[u8]) -> Judgement
     let Check::Pass = c else {
         return refused(t, c);
     };
+    let length = reply_length(t, record);
+    let c = check_room(reply.len(), length);
+    let Check::Pass = c else {
+        return refused(t, c);
+    };
+    put_reply(reply, t, record);
     let next = apply(t, a, record);
     Judgement {
         answer: 0,
         permission: permission,
+        length: length,
         tables: next,
     }
 }

@@ -15,7 +15,7 @@ use Rattle.text.specs.Text.{ascii, decimal}
 use Rattle.text.specs.Buffer.{written, largest, Puts}
 use Rattle.text.proofs.Decimals.{decimal-length}
 use Rattle.text.proofs.Buffers.{puts-then, puts-length, Writing, writing-start, writing-step, writing-end}
-use Rattle.report.specs.Run.{header, line, lineFor, cut, lengthOf, firstOf, restOf, isCut, linesFrom, lines, runText}
+use Rattle.report.specs.Run.{lent, header, line, lineFor, cut, lengthOf, firstOf, restOf, isCut, linesFrom, lines, runText}
 use Rattle.report.specs.Room.{LineFits, LinesFit, Whole}
 
 -- ---- a line
@@ -67,7 +67,7 @@ module _ {s o : List ℕ} {at : ℕ} {out : List ℕ} {p : ℕ} {t : Tables} {re
   -- one step of the definition
   step : 0 < length rest
       → linesFrom (i .steps) t place rest
-      ≡ cond (isCut rest) cut (lineFor t place (firstOf rest) ++ linesFrom (i .steps - 1) (tablesAfter t (firstOf rest)) (place + 1) (restOf rest))
+      ≡ cond (isCut rest) cut (lineFor t place (firstOf rest) ++ linesFrom (i .steps - 1) (tablesAfter t (lent (firstOf rest))) (place + 1) (restOf rest))
   unfolding linesFrom
   step h =
       let k : i .steps ≡ suc (i .steps - 1) = omega (arith, i .enough) in
@@ -89,7 +89,7 @@ module _ {s o : List ℕ} {at : ℕ} {out : List ℕ} {p : ℕ} {t : Tables} {re
 
   -- a record, and what the judge says of it
   pub run-turn : {out′ : List ℕ} {r : ℕ} {rest′ : List ℕ} {j : Judgement} → 0 < length rest → 2 + lengthOf rest ≤ length rest
-      → j ≡ judgementOf (outcome t (firstOf rest)) → rest′ ≡ restOf rest
+      → j ≡ judgementOf (outcome t (lent (firstOf rest))) → rest′ ≡ restOf rest
       → Puts out p (line place (j .answer) (j .permission) (j .tables .state)) out′ r
       → LineFits place (j .answer) (j .permission) (j .tables .state)
       → Running s o at out′ r (j .tables) rest′ (place + 1)

@@ -8,6 +8,7 @@ use lib.ListN.{length, take, drop}
 use Rattle.text.specs.Text.{ascii, decimal}
 use Rattle.rules.specs.declared.Tables.{Tables}
 use Rattle.rules.specs.Bits.{bits}
+use Rattle.rules.specs.Record.{Request, asked}
 use Rattle.rules.specs.Tables.{fresh}
 use Rattle.rules.specs.Outcome.{replyTo, tablesAfter}
 
@@ -19,9 +20,13 @@ unfoldable pub line : ℕ → ℕ → ℕ → ℕ → List ℕ
 line place answer permission state =
     decimal place ++ ascii " " ++ decimal answer ++ ascii " " ++ decimal permission ++ ascii " " ++ decimal state ++ ascii "\n"
 
+-- each record is lent a buffer that fits any reply
+abbrev pub lent : List ℕ → Request
+lent r = asked r 912
+
 -- of a record that is judged on the tables t
 abbrev pub lineFor : Tables → ℕ → List ℕ → List ℕ
-lineFor t place r = line place (replyTo t r .answer) (replyTo t r .permission) (tablesAfter t r .state)
+lineFor t place r = line place (replyTo t (lent r) .answer) (replyTo t (lent r) .permission) (tablesAfter t (lent r) .state)
 
 unfoldable pub cut : List ℕ
 cut = ascii "cut\n"
@@ -46,7 +51,7 @@ linesFrom zero t place s = []
 linesFrom (suc k) t place s =
     cond (eqb (length s) 0) []
     (cond (isCut s) cut
-    (lineFor t place (firstOf s) ++ linesFrom k (tablesAfter t (firstOf s)) (place + 1) (restOf s)))
+    (lineFor t place (firstOf s) ++ linesFrom k (tablesAfter t (lent (firstOf s))) (place + 1) (restOf s)))
 
 -- from fresh tables; a record takes at least two bytes, so as many steps as there are bytes are enough
 unfoldable pub lines : List ℕ → List ℕ

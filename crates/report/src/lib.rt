@@ -1,5 +1,6 @@
 // The text of a run: the input is cut into records after 16-bit lengths, and a line for each is written into a lent buffer.
 // Each record is judged on the tables that the one before handed back.
+use rules::Judgement;
 use rules::Tables;
 use text::put;
 use text::put_byte;
@@ -10,7 +11,8 @@ ghost use Prim.Native.Nat.{min};
 ghost use lib.ListN.{length};
 ghost use Rattle.text.specs.Text.{decimal};
 ghost use Rattle.text.specs.Buffer.{written, Puts, Counts};
-ghost use Rattle.report.specs.Run.{line, cut, lines, runText};
+ghost use Rattle.rules.specs.Outcome.{outcome, judgementOf};
+ghost use Rattle.report.specs.Run.{lent, line, cut, lines, runText};
 ghost use Rattle.report.specs.Room.{LineFits, LinesFit, Whole};
 
 // A number in decimal, and the byte after it.
@@ -37,6 +39,14 @@ fn put_cut(out: &mut [u8], at: usize) -> usize
     put(out, at, b"cut\n")
 }
 
+// Judges a record with a buffer that fits any reply.
+fn judge_one(t: Tables, record: &[u8]) -> Judgement
+    ensures { λ r. ⌜ r ≡ judgementOf (outcome t (lent (now («record» .entry)))) ⌝ }
+{
+    let mut reply = [0u8; 912];
+    judge::judge(t, record, &mut reply)
+}
+
 // The lines of a run, from fresh tables.
 fn put_lines(out: &mut [u8], at: usize, input: &[u8]) -> usize
     ensures { λ r. ⌜ Puts (now (out .entry)) at (lines (now (input .entry))) (now (out .exit)) r ⌝ }
@@ -51,7 +61,7 @@ fn put_lines(out: &mut [u8], at: usize, input: &[u8]) -> usize
         if rest.len() < end {
             return put_cut(out, p);
         }
-        let j = judge::judge(t, &rest[2..end]);
+        let j = judge_one(t, &rest[2..end]);
         let next = j.tables;
         p = put_line(out, p, place, j.answer, j.permission, next.state);
         t = next;

@@ -4,10 +4,13 @@ use Prim.Native.Nat.{ℕ}
 use mathlib.Core.Path.{_≡_, refl, ap, ap₂, _∙_}
 use mathlib.Core.Bool.{Bool}
 use mathlib.Core.List.{List, [], _∷_, map}
+use lib.ListN.{length, take, drop}
+use lib.Seq.{take-at}
 use Rattle.rules.specs.declared.Tables.{Tables}
 use Rattle.rules.specs.declared.Judgement.{Judgement}
-use Rattle.rules.specs.Record.{Sender}
+use Rattle.rules.specs.Record.{Request, asked, Sender}
 use Rattle.rules.specs.Outcome.{Reply, outcome, judgementOf, payloadAt, replyTo, tablesAfter}
+use Rattle.rules.specs.Reading.{filled}
 use Rattle.rules.specs.Run.{replies, final, Along, kept, keptOf}
 use Rattle.rules.specs.Isolation.{Premise, isOthers}
 use Rattle.rules.proofs.Refusals.{payload-is}
@@ -15,69 +18,97 @@ use Rattle.rules.proofs.Isolated.{isolation}
 
 -- ---- what the calls of a run gave
 
--- one call of `judge`, and of `payload` with its answer
+-- one call of `judge` with a lent buffer, which it leaves behind, and of `payload` with its answer
 pub record Call : Type 0 where
+  pub lent : List ℕ
   pub judgement : Judgement
+  pub buffer : List ℕ
   pub payload : List ℕ
 
 abbrev pub told : Call → Reply
-told c = record { answer = c .judgement .answer; permission = c .judgement .permission; payload = c .payload }
+told c = record {
+  answer = c .judgement .answer;
+  permission = c .judgement .permission;
+  payload = c .payload;
+  contents = take (c .judgement .length) (c .buffer);
+}
 
--- each call met the contracts, the first on the tables t and each later one on the tables handed back last
-abbrev pub Built : Tables → List (List ℕ) → List Call → Type 0
+-- what a call meets, on the tables t, for the request q
+pub record Meets (t : Tables) (q : Request) (c : Call) : Type 0 where
+  pub room : length (c .lent) ≡ q .room
+  pub judges : c .judgement ≡ judgementOf (outcome t q)
+  pub fills : c .buffer ≡ filled (c .lent) (replyTo t q .contents)
+  pub passes : c .payload ≡ payloadAt (c .judgement .answer) (q .bytes)
+
+-- the first call on the tables t, and each later one on the tables handed back last
+abbrev pub Built : Tables → List Request → List Call → Type 0
 Built t [] [] = Unit {0}
 Built t [] (c ∷ cs) = ⊥
-Built t (r ∷ rs) [] = ⊥
-Built t (r ∷ rs) (c ∷ cs) = (c .judgement ≡ judgementOf (outcome t r)) × (c .payload ≡ payloadAt (c .judgement .answer) r) × Built (c .judgement .tables) rs cs
+Built t (q ∷ qs) [] = ⊥
+Built t (q ∷ qs) (c ∷ cs) = Meets t q c × Built (c .judgement .tables) qs cs
 
 -- the tables handed back last
 abbrev pub handedBack : Tables → List Call → Tables
 handedBack t [] = t
 handedBack t (c ∷ cs) = handedBack (c .judgement .tables) cs
 
-told-is : (t : Tables) (r : List ℕ) (c : Call) → c .judgement ≡ judgementOf (outcome t r) → c .payload ≡ payloadAt (c .judgement .answer) r → told c ≡ replyTo t r
-told-is t r c j p = rw (p, j, payload-is t r)
+filled-start : (buffer reply : List ℕ) → take (length reply) (filled buffer reply) ≡ reply
+unfolding filled
+filled-start buffer reply = take-at reply (drop (length reply) buffer) (length reply) refl
 
-built-same : (t : Tables) (rs : List (List ℕ)) (cs : List Call) → Built t rs cs → (map told cs ≡ replies replyTo tablesAfter t rs) × (handedBack t cs ≡ final tablesAfter t rs)
+told-is : (t : Tables) (q : Request) (c : Call) → Meets t q c → told c ≡ replyTo t q
+told-is t q c m = rw (m .passes, m .fills, m .judges, payload-is t q, filled-start (c .lent) (replyTo t q .contents))
+
+built-same : (t : Tables) (qs : List Request) (cs : List Call) → Built t qs cs → (map told cs ≡ replies replyTo tablesAfter t qs) × (handedBack t cs ≡ final tablesAfter t qs)
 built-same t [] [] b = (refl, refl)
 built-same t [] (c ∷ cs) b = absurd b
-built-same t (r ∷ rs) [] b = absurd b
-built-same t (r ∷ rs) (c ∷ cs) b =
-    let next : c .judgement .tables ≡ tablesAfter t r = ap (λ (j : Judgement). j .tables) (b .0) in
-    let more = built-same (c .judgement .tables) rs cs (b .2) in (
-      ap₂ (λ (x : Reply) (xs : List Reply). x ∷ xs) (told-is t r c (b .0) (b .1)) (more .0 ∙ ap (λ (s : Tables). replies replyTo tablesAfter s rs) next),
-      more .1 ∙ ap (λ (s : Tables). final tablesAfter s rs) next,
+built-same t (q ∷ qs) [] b = absurd b
+built-same t (q ∷ qs) (c ∷ cs) b =
+    let next : c .judgement .tables ≡ tablesAfter t q = ap (λ (j : Judgement). j .tables) (b .0 .judges) in
+    let more = built-same (c .judgement .tables) qs cs (b .1) in (
+      ap₂ (λ (x : Reply) (xs : List Reply). x ∷ xs) (told-is t q c (b .0)) (more .0 ∙ ap (λ (s : Tables). replies replyTo tablesAfter s qs) next),
+      more .1 ∙ ap (λ (s : Tables). final tablesAfter s qs) next,
     )
 
--- demand 3: record by record the others' numbers, permissions and payload bytes, and at the end the tables
+-- demand 3: record by record the others' numbers, permissions, payload bytes and replies, and at the end the tables
 pub built-isolation :
-    (chosen : Sender → Bool) (t : Tables) (rs : List (List ℕ)) (cs : List Call)
-    → Built t rs cs
-    → Along tablesAfter (Premise chosen) t (kept (isOthers chosen) rs)
-    → (keptOf (isOthers chosen) rs (map told cs) ≡ replies replyTo tablesAfter t (kept (isOthers chosen) rs))
-    × (handedBack t cs ≡ final tablesAfter t (kept (isOthers chosen) rs))
-built-isolation chosen t rs cs built premise =
-    let same = built-same t rs cs built in
-    let apart = isolation chosen t rs premise in
-    (ap (keptOf (isOthers chosen) rs) (same .0) ∙ apart .0, same .1 ∙ apart .1)
+    (chosen : Sender → Bool) (t : Tables) (qs : List Request) (cs : List Call)
+    → Built t qs cs
+    → Along tablesAfter (Premise chosen) t (kept (isOthers chosen) qs)
+    → (keptOf (isOthers chosen) qs (map told cs) ≡ replies replyTo tablesAfter t (kept (isOthers chosen) qs))
+    × (handedBack t cs ≡ final tablesAfter t (kept (isOthers chosen) qs))
+built-isolation chosen t qs cs built premise =
+    let same = built-same t qs cs built in
+    let apart = isolation chosen t qs premise in
+    (ap (keptOf (isOthers chosen) qs) (same .0) ∙ apart .0, same .1 ∙ apart .1)
 
--- ---- of any function that meets the contracts
+-- ---- of any functions that meet the contracts
 
-module _ (judge : Tables → List ℕ → Judgement) (payload : List ℕ → ℕ → List ℕ)
-    (judges : (t : Tables) (r : List ℕ) → judge t r ≡ judgementOf (outcome t r))
+-- a record and the buffer lent with it
+pub record Handed : Type 0 where
+  pub bytes : List ℕ
+  pub lent : List ℕ
+
+abbrev pub request : Handed → Request
+request h = asked (h .bytes) (length (h .lent))
+
+module _ (judge : Tables → Handed → Judgement) (buffer : Tables → Handed → List ℕ) (payload : List ℕ → ℕ → List ℕ)
+    (judges : (t : Tables) (h : Handed) → judge t h ≡ judgementOf (outcome t (request h)))
+    (fills : (t : Tables) (h : Handed) → buffer t h ≡ filled (h .lent) (replyTo t (request h) .contents))
     (passes : (r : List ℕ) (n : ℕ) → payload r n ≡ payloadAt n r) where
   -- the calls of a run
-  abbrev pub calls : Tables → List (List ℕ) → List Call
+  abbrev pub calls : Tables → List Handed → List Call
   calls t [] = []
-  calls t (r ∷ rs) = record { judgement = judge t r; payload = payload r (judge t r .answer) } ∷ calls (judge t r .tables) rs
+  calls t (h ∷ hs) = record { lent = h .lent; judgement = judge t h; buffer = buffer t h; payload = payload (h .bytes) (judge t h .answer) } ∷ calls (judge t h .tables) hs
 
-  pub calls-built : (t : Tables) (rs : List (List ℕ)) → Built t rs (calls t rs)
+  pub calls-built : (t : Tables) (hs : List Handed) → Built t (map request hs) (calls t hs)
   calls-built t [] = tt
-  calls-built t (r ∷ rs) = (judges t r, passes r (judge t r .answer), calls-built (judge t r .tables) rs)
+  calls-built t (h ∷ hs) =
+      (record { room = refl; judges = judges t h; fills = fills t h; passes = passes (h .bytes) (judge t h .answer) }, calls-built (judge t h .tables) hs)
 
   pub function-isolation :
-      (chosen : Sender → Bool) (t : Tables) (rs : List (List ℕ))
-      → Along tablesAfter (Premise chosen) t (kept (isOthers chosen) rs)
-      → (keptOf (isOthers chosen) rs (map told (calls t rs)) ≡ replies replyTo tablesAfter t (kept (isOthers chosen) rs))
-      × (handedBack t (calls t rs) ≡ final tablesAfter t (kept (isOthers chosen) rs))
-  function-isolation chosen t rs premise = built-isolation chosen t rs (calls t rs) (calls-built t rs) premise
+      (chosen : Sender → Bool) (t : Tables) (hs : List Handed)
+      → Along tablesAfter (Premise chosen) t (kept (isOthers chosen) (map request hs))
+      → (keptOf (isOthers chosen) (map request hs) (map told (calls t hs)) ≡ replies replyTo tablesAfter t (kept (isOthers chosen) (map request hs)))
+      × (handedBack t (calls t hs) ≡ final tablesAfter t (kept (isOthers chosen) (map request hs)))
+  function-isolation chosen t hs premise = built-isolation chosen t (map request hs) (calls t hs) (calls-built t hs) premise

@@ -13,12 +13,13 @@ use Rattle.rules.specs.declared.Tables.{Tables}
 use Rattle.rules.specs.declared.Table.the-variants.{Creds, Aces}
 use Rattle.rules.specs.Bits.{bit, bits, word}
 use Rattle.rules.specs.Directory.{resourceOf, someSecurity}
-use Rattle.rules.specs.Record.{Sender, unauthenticated, partner, sender, payloadOf}
+use Rattle.rules.specs.Record.{Request, asked, Sender, unauthenticated, partner, sender, payloadOf}
 use Rattle.rules.specs.Bodies.{nil, isNil, ownerBody, stateBody, credStorable, setKnown, subjectStorable, aceStorable}
 use Rattle.rules.specs.Tables.{rowsIn, withRows, rowsSound, headSound, sound, fresh, rowOwner}
 use Rattle.rules.specs.Permission.{has, subjectFits, resourceFits, rowFits, gives, names, isOwner, byOwner, byNoOwner, effectiveOf, effective, permission}
 use Rattle.rules.specs.Action.{ifAllowed, updateDoxm, updatePstat, updateRows, updateAction, deleteRows, deleteAction, readAction, securityAction, action}
 use Rattle.rules.specs.States.{writeAllowed, moveListed, moveAllowed}
+use Rattle.rules.specs.Reading.{ownBody, rowBytes, contents, reads, replyOf, tooShort}
 use Rattle.rules.specs.Checks.{badLength, noVerb, zeroBitSet, mismatch, unknownResource, noCredential, notPermitted, offered, notOffered, verdict}
 use Rattle.rules.specs.Outcome.{Reply, outcomeAt, outcome, withOwner, withState, entered, replyTo, tablesAfter}
 use Rattle.rules.specs.Run.{replies, final, Along, kept, keptOf}
@@ -28,17 +29,21 @@ use Rattle.rules.proofs.Isolated.{isolation}
 
 -- `unfolding definitions` opens all that its own line names
 definitions : Unit {0}
-unfolding ones onesIn rowsOf joined packed allZero same hasKey numberedAs placeFrom firstRow some every without distinctNumbers stored unionOf withRow bit bits has resourceOf word sender payloadOf nil isNil ownerBody stateBody credStorable setKnown subjectStorable aceStorable rowsIn rowsSound headSound sound fresh rowOwner subjectFits resourceFits rowFits gives names isOwner byOwner byNoOwner effectiveOf permission ifAllowed updateDoxm updatePstat updateRows updateAction deleteRows deleteAction readAction securityAction action writeAllowed moveListed moveAllowed badLength noVerb zeroBitSet mismatch unknownResource noCredential notPermitted offered notOffered verdict entered outcomeAt outcome
+unfolding ones onesIn rowsOf joined packed allZero same hasKey numberedAs placeFrom firstRow some every without distinctNumbers stored unionOf withRow bit bits has resourceOf word sender payloadOf nil isNil ownerBody stateBody credStorable setKnown subjectStorable aceStorable rowsIn rowsSound headSound sound fresh rowOwner subjectFits resourceFits rowFits gives names isOwner byOwner byNoOwner effectiveOf permission ownBody rowBytes contents reads replyOf tooShort ifAllowed updateDoxm updatePstat updateRows updateAction deleteRows deleteAction readAction securityAction action writeAllowed moveListed moveAllowed badLength noVerb zeroBitSet mismatch unknownResource noCredential notPermitted offered notOffered verdict entered outcomeAt outcome
 definitions = tt
 
+-- a record with a buffer that fits any reply
+abbrev lent : List ℕ → Request
+lent r = asked r 912
+
 abbrev answer : Tables → List ℕ → ℕ
-answer t r = replyTo t r .answer
+answer t r = replyTo t (lent r) .answer
 
 -- sixteen bytes 11
-uuid : List ℕ
+pub uuid : List ℕ
 uuid = replicate 16 0x11
 
-credRow : ℕ → Row
+pub credRow : ℕ → Row
 credRow n = 0 ∷ n ∷ (uuid ++ (0 ∷ 0 ∷ 4 ∷ []))
 
 -- n rows, numbered from n down to 1
@@ -101,10 +106,10 @@ workedRun =
     ∷ []
 
 -- a line of the run: answer, permission, state afterwards
-pub line : Tables → List ℕ → List ℕ
-line t r = replyTo t r .answer ∷ replyTo t r .permission ∷ tablesAfter t r .state ∷ []
+pub line : Tables → Request → List ℕ
+line t q = replyTo t q .answer ∷ replyTo t q .permission ∷ tablesAfter t q .state ∷ []
 
-pub worked : replies line tablesAfter fresh workedRun ≡ (0 ∷ 31 ∷ 1 ∷ []) ∷ (0 ∷ 31 ∷ 1 ∷ []) ∷ (8 ∷ 0 ∷ 1 ∷ []) ∷ (0 ∷ 31 ∷ 2 ∷ []) ∷ (12 ∷ 0 ∷ 2 ∷ []) ∷ []
+pub worked : replies line tablesAfter fresh (map lent workedRun) ≡ (0 ∷ 31 ∷ 1 ∷ []) ∷ (0 ∷ 31 ∷ 1 ∷ []) ∷ (8 ∷ 0 ∷ 1 ∷ []) ∷ (0 ∷ 31 ∷ 2 ∷ []) ∷ (12 ∷ 0 ∷ 2 ∷ []) ∷ []
 unfolding definitions line workedRun uuid credRow
 worked = refl
 
@@ -167,9 +172,26 @@ pub crowded : Tables
 crowded = withState (withOwner (withRows Creds (withRows Aces fresh (aceRows 32)) (credRows 24)) 1 uuid) 3
 
 -- RETRIEVE of resource 8 by the owner's credential 5
-pub crowded-read : replyTo crowded (0x32 ∷ 0x00 ∷ 0x00 ∷ 0x05 ∷ 0x77 ∷ []) ≡ record { answer = 0; permission = 2; payload = 0x77 ∷ [] }
+pub crowded-read : replyTo crowded (lent (0x32 ∷ 0x00 ∷ 0x00 ∷ 0x05 ∷ 0x77 ∷ [])) ≡ record { answer = 0; permission = 2; payload = 0x77 ∷ []; contents = [] }
 unfolding definitions crowded aceRows aceRow weight credRows credRow uuid
 crowded-read = refl
+
+-- ---- reading back (U1): the replies of the four security resources to the owner, and the length that just fits
+
+pub reply : ℕ → List ℕ → List ℕ
+reply room r = let o = replyTo owned5 (asked r room) in o .answer ∷ o .contents
+
+pub replies-read :
+    reply 33 (0x30 ∷ 0x00 ∷ 0x00 ∷ 0x05 ∷ [])
+    ∷ reply 17 (0x30 ∷ 0x40 ∷ 0x00 ∷ 0x05 ∷ [])
+    ∷ reply 37 (0x30 ∷ 0x80 ∷ 0x00 ∷ 0x05 ∷ [])
+    ∷ reply 36 (0x30 ∷ 0x80 ∷ 0x00 ∷ 0x05 ∷ [])
+    ∷ reply 16 (0x30 ∷ 0xc0 ∷ 0x00 ∷ 0x05 ∷ [])
+    ∷ reply 0 (0x90 ∷ 0xc0 ∷ 0x00 ∷ 0x05 ∷ [])
+    ∷ []
+    ≡ (0 ∷ 0x80 ∷ (uuid ++ nil)) ∷ (0 ∷ 0x40 ∷ nil) ∷ (0 ∷ (nil ++ credRow 5)) ∷ (15 ∷ []) ∷ (0 ∷ nil) ∷ (0 ∷ []) ∷ []
+unfolding definitions owned5 uuid credRow reply
+replies-read = refl
 
 -- ---- demand 3 is not empty: partner 7, a haulier who may read resource 8, is chosen, and the unauthenticated senders with it
 
@@ -184,19 +206,20 @@ chosen7 unauthenticated = true
 chosen7 (partner n) = eqb n 7
 
 -- the chosen try to write, and read resource 8; the owner, partner 5, goes to state 2, stores a credential and goes back to state 3
-pub yardRun : List (List ℕ)
+pub yardRun : List Request
 yardRun =
-    (0x50 ∷ 0xc0 ∷ 0x00 ∷ 0x07 ∷ aceRow 9 0 31 0 weight haulier)
+    map lent
+    ((0x50 ∷ 0xc0 ∷ 0x00 ∷ 0x07 ∷ aceRow 9 0 31 0 weight haulier)
     ∷ (0x50 ∷ 0x40 ∷ 0x00 ∷ 0x05 ∷ 0x40 ∷ [])
     ∷ (0x60 ∷ 0x80 ∷ 0x00 ∷ 0x00 ∷ [])
     ∷ (0x50 ∷ 0x80 ∷ 0x00 ∷ 0x05 ∷ credRow 9)
     ∷ (0x50 ∷ 0x80 ∷ 0x00 ∷ 0x07 ∷ credRow 9)
     ∷ (0x50 ∷ 0x40 ∷ 0x00 ∷ 0x05 ∷ 0x60 ∷ [])
     ∷ (0x32 ∷ 0x00 ∷ 0x00 ∷ 0x07 ∷ 0x01 ∷ [])
-    ∷ []
+    ∷ [])
 
 -- everybody's answers: the chosen get 8 for each write, and their read is served
-pub yard-answers : replies answer tablesAfter yard yardRun ≡ 8 ∷ 0 ∷ 8 ∷ 0 ∷ 8 ∷ 0 ∷ 0 ∷ []
+pub yard-answers : replies (λ t q. replyTo t q .answer) tablesAfter yard yardRun ≡ 8 ∷ 0 ∷ 8 ∷ 0 ∷ 8 ∷ 0 ∷ 0 ∷ []
 unfolding definitions owned5 serving aceRow weight none connected uuid credRow haulier yard yardRun
 yard-answers = refl
 

@@ -1,5 +1,5 @@
 -- Theorem, demand 3 over the rules: what the chosen senders send changes nothing for the others, nor the tables at the end.
--- One claim over the whole list, from 'The others alone'; the premise is read along the others' run.
+-- One claim over the whole list, from 'The others alone'; the premise is read along the others' run. Each request has its buffer's length.
 use Prim.Native.Nat.{ℕ}
 use mathlib.Core.Path.{_≡_, refl, sym, ap, _∙_}
 use mathlib.Core.Bool.{Bool, true, false, _||_, true≢false}
@@ -13,7 +13,7 @@ use Rattle.rules.specs.declared.Check.the-variants.{Pass, Refuse}
 use Rattle.rules.specs.declared.Action.{Action}
 use Rattle.rules.specs.Lookup.{lookup}
 use Rattle.rules.specs.Directory.{isSecurity}
-use Rattle.rules.specs.Record.{Sender, verb, resource, body, sender}
+use Rattle.rules.specs.Record.{Request, Sender, verb, resource, body, sender}
 use Rattle.rules.specs.Tables.{sound}
 use Rattle.rules.specs.Action.{action, securityAction, readAction}
 use Rattle.rules.specs.Checks.{checks, verdict, notPermitted}
@@ -56,30 +56,30 @@ effect-same t r p lacks h =
     (λ _. refl)
 
 -- a record leaves the tables as they are, where its permission on a security resource alters nothing
-pub unchanged-at : (t : Tables) (p : ℕ) (r : List ℕ) → (sound t ≡ true → isSecurity (resource r) ≡ true → alters p ≡ false) → outcomeAt t p r .tables ≡ t
+pub unchanged-at : (t : Tables) (p : ℕ) (q : Request) → (sound t ≡ true → isSecurity (resource (q .bytes)) ≡ true → alters p ≡ false) → outcomeAt t p q .tables ≡ t
 unfolding outcomeAt notPermitted
-unchanged-at t p r lacks = go (verdict (checks t p r)) refl
+unchanged-at t p q lacks = go (verdict (checks t p q)) refl
   where
-    go : (c : Check) → verdict (checks t p r) ≡ c → outcomeOf t p r c .tables ≡ t
-    go Pass e = effect-same t r p (lacks (not-false (sound t) (passed (checks t p r) e 1))) (not-false _ (passed (checks t p r) e 8))
+    go : (c : Check) → verdict (checks t p q) ≡ c → outcomeOf t p (q .bytes) c .tables ≡ t
+    go Pass e = effect-same t (q .bytes) p (lacks (not-false (sound t) (passed (checks t p q) e 1))) (not-false _ (passed (checks t p q) e 8))
     go (Refuse n) e = refl
 
 -- so does a chosen sender's record
-pub unchanged : (chosen : Sender → Bool) (t : Tables) (r : List ℕ) → chosen (sender r) ≡ true → Premise chosen t → tablesAfter t r ≡ t
+pub unchanged : (chosen : Sender → Bool) (t : Tables) (q : Request) → chosen (sender (q .bytes)) ≡ true → Premise chosen t → tablesAfter t q ≡ t
 unfolding outcome permission
-unchanged chosen t r c premise = unchanged-at t (permission t r) r (λ s sec. effective-lacks chosen t (sender r) (resource r) (premise s) c sec)
+unchanged chosen t q c premise = unchanged-at t (permission t (q .bytes)) q (λ s sec. effective-lacks chosen t (sender (q .bytes)) (resource (q .bytes)) (premise s) c sec)
 
 -- demand 3
 pub isolation :
-    (chosen : Sender → Bool) (t : Tables) (rs : List (List ℕ))
-    → Along tablesAfter (Premise chosen) t (kept (isOthers chosen) rs)
-    → (keptOf (isOthers chosen) rs (replies replyTo tablesAfter t rs) ≡ replies replyTo tablesAfter t (kept (isOthers chosen) rs))
-    × (final tablesAfter t rs ≡ final tablesAfter t (kept (isOthers chosen) rs))
-isolation chosen t rs premise =
-    simulation replyTo tablesAfter (isOthers chosen) (Premise chosen) (λ s b. s ≡ b) silent alike t t rs premise refl
+    (chosen : Sender → Bool) (t : Tables) (qs : List Request)
+    → Along tablesAfter (Premise chosen) t (kept (isOthers chosen) qs)
+    → (keptOf (isOthers chosen) qs (replies replyTo tablesAfter t qs) ≡ replies replyTo tablesAfter t (kept (isOthers chosen) qs))
+    × (final tablesAfter t qs ≡ final tablesAfter t (kept (isOthers chosen) qs))
+isolation chosen t qs premise =
+    simulation replyTo tablesAfter (isOthers chosen) (Premise chosen) (λ s b. s ≡ b) silent alike t t qs premise refl
   where
-    silent : (s b : Tables) (r : List ℕ) → isOthers chosen r ≡ false → Premise chosen b → s ≡ b → tablesAfter s r ≡ b
-    silent s b r o p e = ap (λ (x : Tables). tablesAfter x r) e ∙ unchanged chosen b r (not-false (chosen (sender r)) o) p
+    silent : (s b : Tables) (q : Request) → isOthers chosen q ≡ false → Premise chosen b → s ≡ b → tablesAfter s q ≡ b
+    silent s b q o p e = ap (λ (x : Tables). tablesAfter x q) e ∙ unchanged chosen b q (not-false (chosen (sender (q .bytes))) o) p
 
-    alike : (s b : Tables) (r : List ℕ) → isOthers chosen r ≡ true → Premise chosen b → s ≡ b → (replyTo s r ≡ replyTo b r) × (tablesAfter s r ≡ tablesAfter b r)
-    alike s b r o p e = (ap (λ (x : Tables). replyTo x r) e, ap (λ (x : Tables). tablesAfter x r) e)
+    alike : (s b : Tables) (q : Request) → isOthers chosen q ≡ true → Premise chosen b → s ≡ b → (replyTo s q ≡ replyTo b q) × (tablesAfter s q ≡ tablesAfter b q)
+    alike s b q o p e = (ap (λ (x : Tables). replyTo x q) e, ap (λ (x : Tables). tablesAfter x q) e)

@@ -1,4 +1,4 @@
--- The laws of the definitions, and the theorems over them: Refusals, SoundKept, Isolated, Built, Examples.
+-- The laws of the definitions, and the theorems over them: Refusals, SoundKept, ReadBack, Isolated, Built, Examples.
 pub mod Bools
 pub mod BitLaws
 pub mod RecordLaws
@@ -11,6 +11,7 @@ pub mod Refusals
 pub mod Simulation
 pub mod PermissionLaws
 pub mod SoundKept
+pub mod ReadBack
 pub mod Isolated
 pub mod Built
 pub mod Examples

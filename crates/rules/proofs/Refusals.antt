@@ -1,5 +1,5 @@
 -- Theorems, demand 1: each record has exactly one outcome, permitted or the first of the numbered refusals that applies.
--- A refusal hands back the same tables, permission 0 and the empty payload.
+-- A refusal hands back the same tables, permission 0, the empty payload and no reply.
 use Prim.Native.Nat.{ℕ, zero, suc}
 use native.Mathlib.Omega.{arith}
 use mathlib.Core.Path.{_≡_, refl, sym, ap, _∙_}
@@ -11,7 +11,7 @@ use Rattle.rules.specs.Tables.{sound}
 use Rattle.rules.specs.declared.Tables.{Tables}
 use Rattle.rules.specs.declared.Check.{Check}
 use Rattle.rules.specs.declared.Check.the-variants.{Pass, Refuse}
-use Rattle.rules.specs.Record.{payloadOf}
+use Rattle.rules.specs.Record.{Request, payloadOf}
 use Rattle.rules.specs.Permission.{permission}
 use Rattle.rules.specs.Checks.{checks, verdict}
 use Rattle.rules.specs.Outcome.{Outcome, outcome, outcomeAt, outcomeOf, payloadAt, replyTo, tablesAfter}
@@ -20,8 +20,8 @@ use Rattle.rules.proofs.Bools.{contradiction}
 -- ---- the order of the list
 
 -- the checks stand in the order of their numbers
-pub in-order : (t : Tables) (p : ℕ) (r : List ℕ) → map (λ e. e .0) (checks t p r) ≡ 1 ∷ 2 ∷ 3 ∷ 4 ∷ 5 ∷ 6 ∷ 7 ∷ 8 ∷ 9 ∷ 10 ∷ 11 ∷ 12 ∷ 13 ∷ 14 ∷ []
-in-order t p r = refl
+pub in-order : (t : Tables) (p : ℕ) (q : Request) → map (λ e. e .0) (checks t p q) ≡ 1 ∷ 2 ∷ 3 ∷ 4 ∷ 5 ∷ 6 ∷ 7 ∷ 8 ∷ 9 ∷ 10 ∷ 11 ∷ 12 ∷ 13 ∷ 14 ∷ 15 ∷ []
+in-order t p q = refl
 
 -- no check of the list applies
 abbrev pub noneApplies : List (ℕ × Bool) → Bool
@@ -88,44 +88,44 @@ refused-number ((m, false) ∷ es) n d e = go (eqb m 0) d (λ h. refused-number 
 -- ---- of a record
 
 -- answer 0: no check applies
-pub permitted-is : (t : Tables) (r : List ℕ) → replyTo t r .answer ≡ 0 → noneApplies (checks t (permission t r) r) ≡ true
+pub permitted-is : (t : Tables) (q : Request) → replyTo t q .answer ≡ 0 → noneApplies (checks t (permission t (q .bytes)) q) ≡ true
 unfolding outcome outcomeAt
-permitted-is t r = go (verdict (checks t (permission t r) r)) refl
+permitted-is t q = go (verdict (checks t (permission t (q .bytes)) q)) refl
   where
-    go : (c : Check) → verdict (checks t (permission t r) r) ≡ c → outcomeOf t (permission t r) r c .reply .answer ≡ 0 → noneApplies (checks t (permission t r) r) ≡ true
-    go Pass e a = permitted-none (checks t (permission t r) r) e
-    go (Refuse n) e a = contradiction (eq-eqb n 0 a) (refused-number (checks t (permission t r) r) n refl e)
+    go : (c : Check) → verdict (checks t (permission t (q .bytes)) q) ≡ c → outcomeOf t (permission t (q .bytes)) (q .bytes) c .reply .answer ≡ 0 → noneApplies (checks t (permission t (q .bytes)) q) ≡ true
+    go Pass e a = permitted-none (checks t (permission t (q .bytes)) q) e
+    go (Refuse n) e a = contradiction (eq-eqb n 0 a) (refused-number (checks t (permission t (q .bytes)) q) n refl e)
 
 -- any other answer: that check applies, and none before it
-pub refused-is : (t : Tables) (r : List ℕ) (n : ℕ) → replyTo t r .answer ≡ suc n → FirstOf (suc n) (checks t (permission t r) r)
+pub refused-is : (t : Tables) (q : Request) (n : ℕ) → replyTo t q .answer ≡ suc n → FirstOf (suc n) (checks t (permission t (q .bytes)) q)
 unfolding outcome outcomeAt
-refused-is t r n = go (verdict (checks t (permission t r) r)) refl
+refused-is t q n = go (verdict (checks t (permission t (q .bytes)) q)) refl
   where
-    go : (c : Check) → verdict (checks t (permission t r) r) ≡ c → outcomeOf t (permission t r) r c .reply .answer ≡ suc n → FirstOf (suc n) (checks t (permission t r) r)
+    go : (c : Check) → verdict (checks t (permission t (q .bytes)) q) ≡ c → outcomeOf t (permission t (q .bytes)) (q .bytes) c .reply .answer ≡ suc n → FirstOf (suc n) (checks t (permission t (q .bytes)) q)
     go Pass e a = absurd (omega arith)
-    go (Refuse m) e a = refused-first (checks t (permission t r) r) (suc n) (e ∙ ap (λ (k : ℕ). Refuse k) a)
+    go (Refuse m) e a = refused-first (checks t (permission t (q .bytes)) q) (suc n) (e ∙ ap (λ (k : ℕ). Refuse k) a)
 
 -- ---- a refusal
 
--- any answer but 0 goes with permission 0, the empty payload and the same tables
-pub refusal-is : (t : Tables) (r : List ℕ) (n : ℕ) → replyTo t r .answer ≡ suc n → outcome t r ≡ record { reply = record { answer = suc n; permission = 0; payload = [] }; tables = t }
+-- any answer but 0 goes with permission 0, the empty payload, no reply and the same tables
+pub refusal-is : (t : Tables) (q : Request) (n : ℕ) → replyTo t q .answer ≡ suc n → outcome t q ≡ record { reply = record { answer = suc n; permission = 0; payload = []; contents = [] }; tables = t }
 unfolding outcome outcomeAt
-refusal-is t r n = go (verdict (checks t (permission t r) r))
+refusal-is t q n = go (verdict (checks t (permission t (q .bytes)) q))
   where
-    go : (c : Check) → outcomeOf t (permission t r) r c .reply .answer ≡ suc n → outcomeOf t (permission t r) r c ≡ record { reply = record { answer = suc n; permission = 0; payload = [] }; tables = t }
+    go : (c : Check) → outcomeOf t (permission t (q .bytes)) (q .bytes) c .reply .answer ≡ suc n → outcomeOf t (permission t (q .bytes)) (q .bytes) c ≡ record { reply = record { answer = suc n; permission = 0; payload = []; contents = [] }; tables = t }
     go Pass e = absurd (omega arith)
     go (Refuse m) e = rw e
 
 -- the payload is the one that the answer gives
-pub payload-is : (t : Tables) (r : List ℕ) → payloadAt (replyTo t r .answer) r ≡ replyTo t r .payload
+pub payload-is : (t : Tables) (q : Request) → payloadAt (replyTo t q .answer) (q .bytes) ≡ replyTo t q .payload
 unfolding payloadAt outcome outcomeAt
-payload-is t r = go (verdict (checks t (permission t r) r)) refl
+payload-is t q = go (verdict (checks t (permission t (q .bytes)) q)) refl
   where
-    go : (c : Check) → verdict (checks t (permission t r) r) ≡ c → let o = outcomeOf t (permission t r) r c .reply in cond (eqb (o .answer) 0) (payloadOf r) [] ≡ o .payload
+    go : (c : Check) → verdict (checks t (permission t (q .bytes)) q) ≡ c → let o = outcomeOf t (permission t (q .bytes)) (q .bytes) c .reply in cond (eqb (o .answer) 0) (payloadOf (q .bytes)) [] ≡ o .payload
     go Pass e = refl
-    go (Refuse n) e = rw (refused-number (checks t (permission t r) r) n refl e)
+    go (Refuse n) e = rw (refused-number (checks t (permission t (q .bytes)) q) n refl e)
 
 -- tables that are not sound: each record gets 1, and they are handed back as they are
-pub unsound-refused : (t : Tables) (r : List ℕ) → sound t ≡ false → outcome t r ≡ record { reply = record { answer = 1; permission = 0; payload = [] }; tables = t }
+pub unsound-refused : (t : Tables) (q : Request) → sound t ≡ false → outcome t q ≡ record { reply = record { answer = 1; permission = 0; payload = []; contents = [] }; tables = t }
 unfolding outcome outcomeAt verdict
-unsound-refused t r e = rw e
+unsound-refused t q e = rw e

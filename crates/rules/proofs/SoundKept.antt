@@ -18,7 +18,7 @@ use Rattle.rules.specs.declared.Check.the-variants.{Pass, Refuse}
 use Rattle.rules.specs.declared.Action.{Action}
 use Rattle.rules.specs.declared.Action.the-variants.{Serve, Read, SetRowOwner, SetOwner, SetState, Store, Remove, Malformed}
 use Rattle.rules.specs.Lookup.{lookup}
-use Rattle.rules.specs.Record.{body}
+use Rattle.rules.specs.Record.{Request, body}
 use Rattle.rules.specs.Bodies.{nil, isNil}
 use Rattle.rules.specs.Tables.{stride, capacity, storable, count, bytes, rows, rowsIn, withRows, rowsSound, headSound, sound, fresh}
 use Rattle.rules.specs.Action.{action}
@@ -123,24 +123,24 @@ effect-sound t b (Remove k at) h v w g f =
 effect-sound t b Malformed h v w g f = h
 
 -- at any permission
-pub sound-kept-at : (t : Tables) (p : ℕ) (r : List ℕ) → sound t ≡ true → sound (outcomeAt t p r .tables) ≡ true
+pub sound-kept-at : (t : Tables) (p : ℕ) (q : Request) → sound t ≡ true → sound (outcomeAt t p q .tables) ≡ true
 unfolding outcomeAt
-sound-kept-at t p r h = go (verdict (checks t p r)) refl
+sound-kept-at t p q h = go (verdict (checks t p q)) refl
   where
-    go : (c : Check) → verdict (checks t p r) ≡ c → sound (outcomeOf t p r c .tables) ≡ true
+    go : (c : Check) → verdict (checks t p q) ≡ c → sound (outcomeOf t p (q .bytes) c .tables) ≡ true
     go Pass e =
-        effect-sound t (body r) (action r) h (action-valid r)
-        (not-false _ (passed (checks t p r) e 11))
-        (passed (checks t p r) e 12)
-        (passed (checks t p r) e 14)
+        effect-sound t (body (q .bytes)) (action (q .bytes)) h (action-valid (q .bytes))
+        (not-false _ (passed (checks t p q) e 11))
+        (passed (checks t p q) e 12)
+        (passed (checks t p q) e 14)
     go (Refuse n) e = h
 
 -- a record leaves sound tables sound
-pub sound-kept : (t : Tables) (r : List ℕ) → sound t ≡ true → sound (tablesAfter t r) ≡ true
+pub sound-kept : (t : Tables) (q : Request) → sound t ≡ true → sound (tablesAfter t q) ≡ true
 unfolding outcome
-sound-kept t r h = sound-kept-at t (permission t r) r h
+sound-kept t q h = sound-kept-at t (permission t (q .bytes)) q h
 
 -- and so does a run of records
-pub run-sound : (t : Tables) (rs : List (List ℕ)) → sound t ≡ true → sound (final tablesAfter t rs) ≡ true
+pub run-sound : (t : Tables) (qs : List Request) → sound t ≡ true → sound (final tablesAfter t qs) ≡ true
 run-sound t [] h = h
-run-sound t (r ∷ rs) h = run-sound (tablesAfter t r) rs (sound-kept t r h)
+run-sound t (q ∷ qs) h = run-sound (tablesAfter t q) qs (sound-kept t q h)

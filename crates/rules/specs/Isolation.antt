@@ -3,13 +3,12 @@
 use Prim.Native.Nat.{ℕ}
 use mathlib.Core.Path.{_≡_}
 use mathlib.Core.Bool.{Bool, true, false, not, _&&_, _||_}
-use mathlib.Core.List.{List}
 use lib.Dec.{eqb}
 use Rattle.rows.specs.Rows.{Row, some}
 use Rattle.rules.specs.declared.Tables.{Tables}
 use Rattle.rules.specs.declared.Table.the-variants.{Creds, Aces}
 use Rattle.rules.specs.Directory.{someSecurity}
-use Rattle.rules.specs.Record.{Sender, sender}
+use Rattle.rules.specs.Record.{Request, Sender, sender}
 use Rattle.rules.specs.Bodies.{acePermission}
 use Rattle.rules.specs.Tables.{rows, sound}
 use Rattle.rules.specs.Permission.{C, U, D, has, credentialIn, connectionOf, subjectFits, resourceFits, isOwner}
@@ -41,5 +40,5 @@ abbrev pub Premise : (Sender → Bool) → Tables → Type 0
 Premise chosen t = sound t ≡ true → Harmless chosen t
 
 -- the record is one of the others'
-abbrev pub isOthers : (Sender → Bool) → List ℕ → Bool
-isOthers chosen r = not (chosen (sender r))
+abbrev pub isOthers : (Sender → Bool) → Request → Bool
+isOthers chosen q = not (chosen (sender (q .bytes)))

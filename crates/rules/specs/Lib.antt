@@ -8,6 +8,7 @@ pub mod Tables
 pub mod Permission
 pub mod Action
 pub mod States
+pub mod Reading
 pub mod Checks
 pub mod Outcome
 pub mod Run

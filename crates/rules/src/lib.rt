@@ -114,10 +114,10 @@ pub enum Action {
     Malformed,
 }
 
-// What is said of a record: the answer's number, the permission and the tables afterwards.
-#[repr(C)]
+// What is said of a record: the answer's number, the permission, the length of the reply in the lent buffer, and the tables afterwards.
 pub struct Judgement {
     pub answer: u8,
     pub permission: u8,
+    pub length: usize,
     pub tables: Tables,
 }

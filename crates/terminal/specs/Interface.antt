@@ -1,5 +1,5 @@
 -- An outcome as C sees it: the payload as its start and length within the record.
--- A payload follows the header's four bytes; of none, both are 0.
+-- A payload follows the header's four bytes; of none, both are 0. The reply's bytes stand in the lent buffer.
 use Prim.Native.Nat.{ℕ}
 use mathlib.Core.Bool.{cond}
 use lib.Dec.{eqb}
@@ -16,5 +16,6 @@ exported o = record {
   permission = o .reply .permission;
   start = startOf (length (o .reply .payload));
   length = length (o .reply .payload);
+  reply = length (o .reply .contents);
   tables = o .tables;
 }

@@ -1,18 +1,22 @@
 // The C interface: one call each of the library, declared in include/tillerclover.h.
-// Tables pass by value, a record as a pointer and a length; the payload goes out as a start and a length within the record.
+// Tables pass by value, a record and a buffer as a pointer and a length each; the payload goes out as a start and a length within the record.
 use rules::Tables;
 ghost use mathlib.Core.Path.{_≡_};
 ghost use Rattle.rules.specs.Tables.{fresh, cleared};
-ghost use Rattle.rules.specs.Outcome.{outcome};
+ghost use lib.ListN.{length};
+ghost use Rattle.rules.specs.Record.{asked};
+ghost use Rattle.rules.specs.Reading.{filled};
+ghost use Rattle.rules.specs.Outcome.{outcome, replyTo};
 ghost use Rattle.terminal.specs.Interface.{exported, startOf};
 
-// What becomes of a record. Without a payload both its start and its length are 0.
+// What becomes of a record. Without a payload both its start and its length are 0; `reply` is the length written to the lent buffer.
 #[repr(C)]
 pub struct Outcome {
     pub answer: u8,
     pub permission: u8,
     pub start: usize,
     pub length: usize,
+    pub reply: usize,
     pub tables: Tables,
 }
 
@@ -42,12 +46,13 @@ fn start_of(length: usize) -> usize
 }
 
 // Judges a record.
-// Rules out: the payload of a refused record; the tables of another record.
+// Rules out: the payload of a refused record; the tables of another record; a byte of the buffer changed behind the reply.
 #[no_mangle]
-pub extern "C" fn tillerclover_judge(t: Tables, record: &[u8]) -> Outcome
-    ensures { λ r. ⌜ r ≡ exported (outcome t (now («record» .entry))) ⌝ }
+pub extern "C" fn tillerclover_judge(t: Tables, record: &[u8], reply: &mut [u8]) -> Outcome
+    ensures said { λ r. ⌜ r ≡ exported (outcome t (asked (now («record» .entry)) (length (now (reply .entry))))) ⌝ }
+    ensures buffer { λ _. ⌜ now (reply .exit) ≡ filled (now (reply .entry)) (replyTo t (asked (now («record» .entry)) (length (now (reply .entry)))) .contents) ⌝ }
 {
-    let j = judge::judge(t, record);
+    let j = judge::judge(t, record, reply);
     let next = j.tables;
     let answer = j.answer;
     let length = judge::payload(record, answer).len();
@@ -56,6 +61,7 @@ pub extern "C" fn tillerclover_judge(t: Tables, record: &[u8]) -> Outcome
         permission: j.permission,
         start: start_of(length),
         length: length,
+        reply: j.length,
         tables: next,
     }
 }

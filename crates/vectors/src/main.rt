@@ -3,6 +3,7 @@
 use fields::after;
 use fields::part;
 use fields::word;
+use rules::Judgement;
 use rules::Tables;
 
 // What is held from entry to entry.
@@ -86,7 +87,12 @@ fn differing(p: Progress) -> Progress {
 
 // The byte at an index, or 0.
 fn byte_at(s: &[u8], i: usize) -> u8 {
-    if i < s.len() { s[i] } else { 0 }
+    byte_or(s, i, 0)
+}
+
+// The byte at an index, or another one.
+fn byte_or(s: &[u8], i: usize, other: u8) -> u8 {
+    if i < s.len() { s[i] } else { other }
 }
 
 // Bytes of the first entry, its tag among them; 0 where the tag is not known.
@@ -94,10 +100,17 @@ fn entry_size(s: &[u8]) -> usize {
     let tag = byte_at(s, 0);
     match tag {
         0 => 1485,
-        1 => 9 + word(after(s, 1)) as usize,
+        1 => record_size(s),
         2 => 1485,
         _ => 0,
     }
+}
+
+// Tag, length and bytes of the record, room, answer, permission, payload start and length, length and bytes of the reply.
+fn record_size(s: &[u8]) -> usize {
+    let length = word(after(s, 1)) as usize;
+    let reply = word(after(after(s, 11), length)) as usize;
+    13 + length + reply
 }
 
 fn entry_done(p: Progress, s: &[u8]) -> Progress {
@@ -127,24 +140,44 @@ fn reached(p: Progress, bytes: &[u8]) -> Progress {
     }
 }
 
-// Judges the record behind its length, and compares the outcome with the one behind the record.
+// Judges the record behind its length with a buffer of the room behind it, and compares the outcome with the one that follows.
 fn judged(p: Progress, s: &[u8]) -> Progress {
     let length = word(s) as usize;
     let record = part(s, 2, length);
-    let expected = after(after(s, 2), length);
+    let behind = after(after(s, 2), length);
+    let expected = after(behind, 2);
+    let mut buffer = [165u8; 1000];
     let t = p.tables;
-    let j = judge::judge(t, record);
+    let j = judge_within(t, record, &mut buffer, word(behind) as usize);
     let answer = j.answer;
     let payload = judge::payload(record, answer);
     let t = j.tables;
     let mut next = p;
     next.tables = t;
     next.records = more(p.records);
-    if same_outcome(answer, j.permission, payload, record, expected) {
+    if same_outcome(answer, j.permission, payload, record, expected)
+        & same_reply(j.length, &buffer, after(expected, 6))
+    {
         next
     } else {
         differing(next)
     }
+}
+
+// Judges a record with the first `room` bytes of the buffer, or all where it has fewer.
+fn judge_within(t: Tables, record: &[u8], buffer: &mut [u8], room: usize) -> Judgement {
+    if buffer.len() < room {
+        return judge::judge(t, record, buffer);
+    }
+    judge::judge(t, record, &mut buffer[..room])
+}
+
+// Whether the reply is the one behind its length, and the buffer is as before behind it.
+fn same_reply(length: usize, buffer: &[u8], expected: &[u8]) -> bool {
+    let reply = part(expected, 2, word(expected) as usize);
+    let mut filled = [165u8; 1000];
+    fill(&mut filled, reply);
+    (length == reply.len()) & rows::same_bytes(buffer, &filled)
 }
 
 // Whether an outcome is the one of these bytes: answer, permission, payload start and payload length.
@@ -184,11 +217,11 @@ fn tables_of(bytes: &[u8]) -> Tables {
     }
 }
 
-// Puts the first bytes over all of `out`.
+// Puts the bytes over the first ones of `out`.
 fn fill(out: &mut [u8], bytes: &[u8]) {
     let mut i = 0;
     while i < out.len() {
-        out[i] = byte_at(bytes, i);
+        out[i] = byte_or(bytes, i, out[i]);
         i += 1;
     }
 }

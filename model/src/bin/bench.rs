@@ -5,14 +5,14 @@ use std::fs;
 use std::hint::black_box;
 use std::time::Instant;
 
-use model::case::same;
+use model::case::Case as Put;
 use model::examples::{access, credential, uuid, AUTH};
 use model::generate::{record, session};
 use model::library::{self, Tables as Given};
 use model::options::{Options, Program};
 use model::random::Random;
 use model::record::{compose, Verb, RETRIEVE_BIT, UPDATE_BIT};
-use model::rules::judge;
+use model::rules::{judge, LONGEST_REPLY};
 use model::tables::{Access, Credential, Row, State, Stored, Subject, Tables, STATE};
 
 const PROGRAM: Program = Program {
@@ -94,33 +94,37 @@ fn row(number: u16) -> Access {
     access(number, subject, RETRIEVE_BIT, 0, &[8, 12])
 }
 
+/// A buffer that fits any reply.
+type Reply = [u8; LONGEST_REPLY];
+const EMPTY: Reply = [0; LONGEST_REPLY];
+
 /// Tables and a record, with the answer it is to get.
 struct Case {
     name: &'static str,
     what: &'static str,
-    stored: Stored,
+    put: Put,
     given: Given,
-    record: Vec<u8>,
 }
 
 impl Case {
     fn new(name: &'static str, what: &'static str, stored: Stored, record: Vec<u8>, answer: u8) -> Case {
-        let (expected, found) = (judge(&stored, &record), library::judge(&stored, &record));
-        if expected.answer != answer || !same(&expected, &found) {
+        let put = Put::new(&stored, &record);
+        let (expected, found) = (put.expected(), library::judge(&put));
+        if expected.answer != answer || !expected.same(&found) {
             PROGRAM.stop(format!(
                 "{name} is to be answered with {answer}: the model says {}, the library {}",
                 expected.answer, found.answer
             ));
         }
-        Case { name, what, given: Given::from_bytes(&stored), stored, record }
+        Case { name, what, put, given: Given::from_bytes(&stored) }
     }
 
-    fn ask_library(&self) {
-        black_box(library::decide(black_box(&self.given), black_box(&self.record)));
+    fn ask_library(&self, reply: &mut Reply) {
+        black_box(library::decide(black_box(&self.given), black_box(&self.put.record), black_box(reply)));
     }
 
     fn ask_model(&self) {
-        black_box(judge(black_box(&self.stored), black_box(&self.record)));
+        black_box(judge(black_box(&self.put)));
     }
 }
 
@@ -201,11 +205,12 @@ fn nanoseconds(calls: u32, mut call: impl FnMut()) -> f64 {
 
 /// The least of the repetitions, since other programs on the machine only ever add time. Each repetition goes
 /// through all cases, so that a slow while does not fall on one case alone.
-fn measure<C>(cases: &[C], repetitions: u64, library: impl Fn(&C), model: impl Fn(&C)) -> Vec<Times> {
+fn measure<C>(cases: &[C], repetitions: u64, library: impl Fn(&C, &mut Reply), model: impl Fn(&C)) -> Vec<Times> {
+    let mut reply = EMPTY;
     let mut least = vec![Times { library: f64::INFINITY, model: f64::INFINITY }; cases.len()];
     for _ in 0..repetitions {
         for (case, least) in cases.iter().zip(&mut least) {
-            least.library = least.library.min(nanoseconds(LIBRARY_CALLS, || library(case)));
+            least.library = least.library.min(nanoseconds(LIBRARY_CALLS, || library(case, &mut reply)));
             least.model = least.model.min(nanoseconds(MODEL_CALLS, || model(case)));
         }
     }
@@ -246,9 +251,10 @@ fn repeat(options: &Options, name: &str) {
     let Some(case) = cases.iter().find(|case| case.name == name) else {
         PROGRAM.stop(format!("no case '{name}' with {} tables", rows.name));
     };
+    let mut reply = EMPTY;
     for _ in 0..calls {
         if side == 0 {
-            case.ask_library();
+            case.ask_library(&mut reply);
         } else {
             case.ask_model();
         }
@@ -260,7 +266,7 @@ fn decisions(repetitions: u64) {
     println!("tables  case       library       model  ratio  soundness  what");
     let cases: Vec<(Rows, Case)> =
         Rows::KINDS.iter().flat_map(|&rows| cases(rows).into_iter().map(move |case| (rows, case))).collect();
-    let times = measure(&cases, repetitions, |(_, case)| case.ask_library(), |(_, case)| case.ask_model());
+    let times = measure(&cases, repetitions, |(_, case), reply| case.ask_library(reply), |(_, case)| case.ask_model());
     for ((rows, case), time) in cases.iter().zip(&times) {
         // A record that is refused for its length costs the soundness test, the call and the copies.
         let soundness = cases
@@ -285,27 +291,27 @@ const MIXED: usize = 1000;
 /// Random sessions, so that no branch is always taken the same way.
 fn mixed(repetitions: u64) {
     let mut random = Random::new(1);
-    let mut cases: Vec<(Stored, Given, Vec<u8>)> = Vec::new();
+    let mut cases: Vec<(Put, Given)> = Vec::new();
     while cases.len() < MIXED {
         let session = session(&mut random);
         let mut stored = session.tables;
         for _ in 0..session.records {
-            let record = record(&mut random, session.style, &stored);
-            let next = judge(&stored, &record).tables;
-            cases.push((stored, Given::from_bytes(&stored), record));
+            let put = Put::new(&stored, &record(&mut random, session.style, &stored));
+            let next = judge(&put).tables;
+            cases.push((put, Given::from_bytes(&stored)));
             stored = next;
         }
     }
     let count = cases.len() as f64;
     let all = [cases];
-    let library = |cases: &Vec<(Stored, Given, Vec<u8>)>| {
-        for (_, given, record) in cases {
-            black_box(library::decide(given, record));
+    let library = |cases: &Vec<(Put, Given)>, reply: &mut Reply| {
+        for (put, given) in cases {
+            black_box(library::decide(given, &put.record, reply));
         }
     };
-    let model = |cases: &Vec<(Stored, Given, Vec<u8>)>| {
-        for (stored, _, record) in cases {
-            black_box(judge(stored, record));
+    let model = |cases: &Vec<(Put, Given)>| {
+        for (put, _) in cases {
+            black_box(judge(put));
         }
     };
     let time = measure(&all, repetitions.div_ceil(10), library, model)[0];
@@ -327,7 +333,7 @@ fn growth(repetitions: u64) {
             (rows, Case::new("read", "", rows.ownerless().bytes(), record, 0))
         })
         .collect();
-    let times = measure(&cases, repetitions, |(_, case)| case.ask_library(), |_| {});
+    let times = measure(&cases, repetitions, |(_, case), reply| case.ask_library(reply), |_| {});
     let mut before = None;
     for ((rows, _), time) in cases.iter().zip(&times) {
         let held = rows.credentials + rows.accesses;
@@ -363,6 +369,7 @@ struct Painted([u8; STACK]);
 
 struct Call<'a> {
     case: &'a Case,
+    reply: Reply,
     /// Where the caller's frame stands.
     above: usize,
 }
@@ -372,20 +379,20 @@ extern "C" fn call(argument: *mut c_void) -> *mut c_void {
     let call = unsafe { &mut *argument.cast::<Call>() };
     let mark = 0u8;
     call.above = black_box(&raw const mark) as usize;
-    ask(call.case);
+    ask(call.case, &mut call.reply);
     std::ptr::null_mut()
 }
 
 #[inline(never)]
-fn ask(case: &Case) {
-    case.ask_library();
+fn ask(case: &Case, reply: &mut Reply) {
+    case.ask_library(reply);
 }
 
 /// Bytes of stack below the caller that one decision wrote to.
 fn depth(case: &Case) -> usize {
     // A vector, so that the paint is not on a stack itself.
     let mut stack: Vec<Painted> = Vec::with_capacity(1);
-    let mut arguments = Call { case, above: 0 };
+    let mut arguments = Call { case, reply: EMPTY, above: 0 };
     let bytes = stack.spare_capacity_mut()[0].as_mut_ptr().cast::<u8>();
     // The stack is this function's until the thread is joined.
     unsafe {

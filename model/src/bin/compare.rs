@@ -1,23 +1,24 @@
 //! Compares the proved library with the model, record by record.
 
-use model::case::{describe, field, first_change, same, shrink, Case};
+use model::case::{field, first_change, shrink, Case, Seen};
 use model::generate::{any_bytes, walk};
 use model::histogram::Histogram;
 use model::library;
 use model::options::Program;
 use model::random::Random;
-use model::rules::{judge, Outcome};
+use model::rules::judge;
 use model::tables::{fresh_bytes, Stored};
 
 const PROGRAM: Program = Program {
     name: "compare",
     help: "\
 compare [--records N] [--seed S] [--trace]
-compare --replay HEX_TABLES:HEX_RECORD
+compare --replay HEX_TABLES:HEX_RECORD:ROOM
 
 Judges the same records on the same tables by the library and by the model,
-and compares answer, permission, payload and every byte of the tables; fresh
-tables and the clear button too.
+and compares answer, permission, payload, length of the reply, every byte of
+the lent buffer (and some behind it) and every byte of the tables; fresh tables
+and the clear button too.
 
   --records N   so many records (default 300000)
   --seed S      another choice of records (default 1)
@@ -75,7 +76,7 @@ fn compare(records: u64, seed: u64, trace: bool) -> u64 {
         }
         if !clear_shown {
             clear_shown = true;
-            let case = Case { tables: *tables, record: Vec::new() };
+            let case = Case { room: 0, ..Case::new(tables, &[]) };
             let small = shrink(case, |case| !clears(&case.tables));
             let place = first_change(&library::clear(&small.tables), &fresh_bytes());
             println!("the clear button leaves {}", place.map_or("no difference".into(), field));
@@ -91,20 +92,20 @@ fn compare(records: u64, seed: u64, trace: bool) -> u64 {
     let mut histogram = Histogram::new();
     let mut shown: Vec<(u8, u8)> = Vec::new();
     let mut judged = 0;
-    walk(seed, records, |_, tables, record| {
+    walk(seed, records, |_, case| {
         if trace {
-            println!("{}", Case { tables: *tables, record: record.to_vec() }.line());
+            println!("{}", case.line());
         }
-        let expected = judge(tables, record);
-        let found = library::judge(tables, record);
-        histogram.add(record, &expected);
-        if !same(&expected, &found) {
+        let outcome = judge(case);
+        histogram.add(case, &outcome);
+        let expected = Seen::new(outcome, case.room);
+        let found = library::judge(case);
+        if !expected.same(&found) {
             differences += 1;
             let pair = (expected.answer, found.answer);
             if shown.len() < SHOWN && !shown.contains(&pair) {
                 shown.push(pair);
-                let case = Case { tables: *tables, record: record.to_vec() };
-                let small = shrink(case, |case| differs_so(case, pair));
+                let small = shrink(case.clone(), |case| differs_so(case, pair));
                 println!("a difference, made as small as it goes:");
                 show_case(&small);
                 show_command(&small);
@@ -112,7 +113,7 @@ fn compare(records: u64, seed: u64, trace: bool) -> u64 {
         }
         judged += 1;
         if judged % RECORDS_BETWEEN_CLEARS == 0 {
-            differences += check_clear(tables);
+            differences += check_clear(&case.tables);
         }
         expected.tables
     });
@@ -125,21 +126,24 @@ fn clears(tables: &Stored) -> bool {
     library::clear(tables) == fresh_bytes()
 }
 
-fn outcomes(case: &Case) -> (Outcome, Outcome) {
-    (judge(&case.tables, &case.record), library::judge(&case.tables, &case.record))
+fn outcomes(case: &Case) -> (Seen, Seen) {
+    (case.expected(), library::judge(case))
 }
 
 /// Whether the case differs with just these two answers.
 fn differs_so(case: &Case, pair: (u8, u8)) -> bool {
     let (expected, found) = outcomes(case);
-    (expected.answer, found.answer) == pair && !same(&expected, &found)
+    (expected.answer, found.answer) == pair && !expected.same(&found)
 }
 
 fn show_case(case: &Case) {
     let (expected, found) = outcomes(case);
     println!("{}", case.line());
-    println!("  model:   {}", describe(&expected, &case.tables));
-    println!("  library: {}", describe(&found, &case.tables));
+    println!("  model:   {}", expected.describe(&case.tables));
+    println!("  library: {}", found.describe(&case.tables));
+    if let Some(place) = first_change(&expected.buffer, &found.buffer) {
+        println!("  the buffers afterwards differ first at byte {place}");
+    }
     if let Some(place) = first_change(&expected.tables, &found.tables) {
         println!("  the tables afterwards differ first at {}", field(place));
     }
@@ -154,7 +158,7 @@ fn show_command(case: &Case) {
 fn replay(case: &Case) -> u64 {
     show_case(case);
     let (expected, found) = outcomes(case);
-    let mut differences = u64::from(!same(&expected, &found));
+    let mut differences = u64::from(!expected.same(&found));
     if let Some(place) = first_change(&library::fresh(), &fresh_bytes()) {
         println!("  fresh tables differ at {}", field(place));
         differences += 1;

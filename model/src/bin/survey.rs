@@ -29,8 +29,8 @@ fn main() {
 
     let mut parts: Vec<(String, Histogram)> = Vec::new();
     let mut whole = Histogram::new();
-    walk(seed, records, |part, tables, record| {
-        let outcome = judge(tables, record);
+    walk(seed, records, |part, case| {
+        let outcome = judge(case);
         let name = match part {
             Part::Systematic(name) => name.to_string(),
             Part::Random(style) => format!("random, {style:?}").to_lowercase(),
@@ -39,8 +39,8 @@ fn main() {
             parts.push((name, Histogram::new()));
             parts.len() - 1
         });
-        parts[place].1.add(record, &outcome);
-        whole.add(record, &outcome);
+        parts[place].1.add(case, &outcome);
+        whole.add(case, &outcome);
         outcome.tables
     });
 

@@ -1,43 +1,58 @@
--- `judge`: the two groups of checks are the whole list, and a permitted record's effect is the definition's.
+-- `judge`: the three groups of checks are the whole list, and a permitted record's effect and reply are the definition's.
 use mathlib.Core.Path.{_≡_, refl, sym, ap, _∙_}
 use mathlib.Core.Bool.{true, false}
-use mathlib.Core.List.{List}
+use mathlib.Core.List.{List, _++_}
 use Prim.Native.Nat.{ℕ, _≤_}
-use borrow.Author.Tests.{not-false}
+use borrow.Author.Tests.{not-false, ltb-false}
 use denote.Ref.{now}
 use lib.ListN.{length}
+use Rattle.text.specs.Buffer.{written, Puts}
+use Rattle.text.proofs.Buffers.{written-start, puts-length}
 use Rattle.rules.specs.declared.Tables.{Tables}
 use Rattle.rules.specs.declared.Check.{Check}
 use Rattle.rules.specs.declared.Check.the-variants.{Pass, Refuse}
 use Rattle.rules.specs.declared.Judgement.{Judgement}
-use Rattle.rules.specs.declared.Action.{Action}
-use Rattle.rules.specs.declared.Table.the-variants.{Creds, Aces}
-use Rattle.rules.specs.Record.{body}
+use Rattle.rules.specs.Record.{Request, asked, body}
 use Rattle.rules.specs.Tables.{sound}
-use Rattle.rules.specs.Action.{action}
-use Rattle.rules.specs.Checks.{verdict, numberOf, formChecks, requestChecks, checks}
 use Rattle.rules.specs.Permission.{permission}
-use Rattle.rules.specs.Outcome.{outcome, outcomeAt, judgementOf, refusal, effect}
-use Rattle.rules.proofs.CheckLaws.{stop-all, skip-all}
+use Rattle.rules.specs.Action.{action}
+use Rattle.rules.specs.Reading.{replyOf, tooShort, filled}
+use Rattle.rules.specs.Checks.{verdict, numberOf, formChecks, requestChecks, roomChecks, checks}
+use Rattle.rules.specs.Outcome.{outcome, outcomeAt, outcomeOf, replyTo, judgementOf, refusal, effect}
+use Rattle.rules.proofs.CheckLaws.{stop-all, skip-all, last, not-applied}
 use Rattle.rules.proofs.Answers.{passed}
 use borrow.Author.Needs.{needs}
 use Rattle.judge.proofs.judge.Statement.{statement}
 use Rattle.judge.proofs.judge.Tie as tie
 
-module _ (t : Tables) (r : List ℕ) where
-  -- a refusal
-  turned : (c : Check) (n : ℕ) → c ≡ Refuse n → c ≡ verdict (checks t (permission t r) r) → refusal t (numberOf c) ≡ judgementOf (outcome t r)
-  unfolding outcome outcomeAt
-  turned c n e v = rw (← v, e)
+module _ (t : Tables) (q : Request) where
+  -- the buffer after a verdict
+  abbrev held : List ℕ → Check → List ℕ
+  held b c = filled b (outcomeOf t (permission t (q .bytes)) (q .bytes) c .reply .contents)
 
-  -- a permit
-  let-through : (p : ℕ) (next : Tables) → p ≡ permission t r → Pass ≡ verdict (checks t (permission t r) r) → next ≡ effect t (body r) (action r)
-      → record { answer = 0; permission = p; tables = next } ≡ judgementOf (outcome t r)
+  -- a refusal: what is said, and the buffer stays
+  turned : (c : Check) (n : ℕ) (j : Judgement) (b : List ℕ) → c ≡ Refuse n → c ≡ verdict (checks t (permission t (q .bytes)) q) → j ≡ refusal t (numberOf c)
+      → (j ≡ judgementOf (outcome t q)) × (b ≡ filled b (replyTo t q .contents))
+  unfolding outcome outcomeAt filled
+  turned c n j b e v r = (r ∙ rw (← v, e), ap (held b) (sym e ∙ v))
+
+  -- a permit: what is said, and the buffer holds the reply
+  let-through : (p l : ℕ) (next : Tables) (b b′ : List ℕ) → p ≡ permission t (q .bytes) → l ≡ length (replyOf t (q .bytes)) → Pass ≡ verdict (checks t (permission t (q .bytes)) q)
+      → next ≡ effect t (body (q .bytes)) (action (q .bytes)) → b′ ≡ filled b (replyOf t (q .bytes))
+      → (record { answer = 0; permission = p; length = l; tables = next } ≡ judgementOf (outcome t q)) × (b′ ≡ filled b (replyTo t q .contents))
   unfolding outcome outcomeAt
-  let-through p next e v f = rw (← v, e, f)
+  let-through p l next b b′ e k v f g = (rw (← v, e, k, f), g ∙ ap (held b) v)
+
+-- a reply that fits fills the buffer from its start
+fills : (b b′ s : List ℕ) (r : ℕ) → length s ≤ length b → Puts b 0 s b′ r → b′ ≡ filled b s
+unfolding filled
+fills b b′ s r h p = p .buffer ∙ written-start b s h
 
 abbrev start : tie.After-enum-told → tie.Start
-start c = c .before .before .before .before
+start c = c .before .before .before .before .before
+
+abbrev request : tie.Start → Request
+request s = asked (now (s .args .«record»)) (length (now (s .args .reply)))
 
 -- what the first seven checks let pass
 is-sound : (c : tie.After-enum-told) → sound (start c .args .t) ≡ true
@@ -46,16 +61,20 @@ is-sound c = let s = start c in not-false _ (passed (formChecks (s .args .t) (no
 returns : tie.Need-returns
 returns c =
     let told = c .before in
-    let s = told .before .before .before .before in
-    c .refused .ensures
-    ∙ turned (s .args .t) (now (s .args .«record»)) _ _ (told .enum-told2 .given .1) (stop-all (formChecks (s .args .t) (now (s .args .«record»))) _ _ (told .before .before .check-form .ensures) (told .enum-told2 .given .1))
+    let s = told .before .before .before .before .before in
+    let r = now (s .args .«record») in
+    let form = formChecks (s .args .t) r in
+    turned (s .args .t) (request s) _ _ _ _ (told .enum-told2 .given .1)
+    (stop-all (form ++ requestChecks (s .args .t) (permission (s .args .t) r) r (action r)) _ _ (stop-all form _ _ (told .before .before .check-form .ensures) (told .enum-told2 .given .1)) (told .enum-told2 .given .1))
+    (c .refused .ensures)
 
 check-request-requires : tie.Need-check-request-requires
 check-request-requires c κs = (is-sound (c .before .before), c .action-of .ensures)
 
--- the verdict of the other checks is the whole list's
-whole : (c : tie.After-check-request) → let s = start (c .before .before .before) in c .check-request .result ≡ verdict (checks (s .args .t) (permission (s .args .t) (now (s .args .«record»))) (now (s .args .«record»)))
-whole c =
+-- the verdict of the checks up to 14
+fourteen : (c : tie.After-check-request) → let s = start (c .before .before .before) in let r = now (s .args .«record») in
+    c .check-request .result ≡ verdict (formChecks (s .args .t) r ++ requestChecks (s .args .t) (permission (s .args .t) r) r (action r))
+fourteen c =
     let p = c .before .before .before in
     let s = start p in
     skip-all (formChecks (s .args .t) (now (s .args .«record»))) _ (p .before .before .check-form .ensures) (p .enum-told .given .1)
@@ -66,21 +85,67 @@ returns-2 c =
     let told = c .before in
     let call = told .before .before in
     let s = start (call .before .before .before) in
-    c .refused2 .ensures ∙ turned (s .args .t) (now (s .args .«record»)) _ _ (told .enum-told4 .given .1) (whole call)
+    let r = now (s .args .«record») in
+    turned (s .args .t) (request s) _ _ _ _ (told .enum-told4 .given .1)
+    (stop-all (formChecks (s .args .t) r ++ requestChecks (s .args .t) (permission (s .args .t) r) r (action r)) _ _ (fourteen call) (told .enum-told4 .given .1))
+    (c .refused2 .ensures)
 
-apply-requires : tie.Need-apply-requires
-apply-requires c κs =
-    let call = c .before .before in
+-- back from the check of the room
+abbrev before-room : tie.After-check-room → tie.After-check-request
+before-room c = c .before .before .before .before
+
+room-checked : (c : tie.After-check-room) → let s = start (before-room c .before .before .before) in
+    c .check-room .result ≡ verdict (roomChecks (s .args .t) (request s))
+unfolding tooShort
+room-checked c = last _ _ (rw (← c .before .reply-length .ensures) (c .check-room .ensures))
+
+-- the verdict of the whole list
+whole : (c : tie.After-check-room) → let s = start (before-room c .before .before .before) in
+    c .check-room .result ≡ verdict (checks (s .args .t) (permission (s .args .t) (now (s .args .«record»))) (request s))
+whole c =
+    let call = before-room c in
     let s = start (call .before .before .before) in
-    (is-sound (call .before .before .before), call .before .action-of .ensures, passed (requestChecks (s .args .t) (call .before .before .effective .result) (now (s .args .«record»)) (call .before .action-of .result)) (sym (call .check-request .ensures) ∙ c .enum-told3 .given .1) 14)
+    let r = now (s .args .«record») in
+    skip-all (formChecks (s .args .t) r ++ requestChecks (s .args .t) (permission (s .args .t) r) r (action r)) _ (fourteen call) (c .before .before .enum-told3 .given .1) (room-checked c)
 
 returns-3 : tie.Need-returns-3
 returns-3 c =
     let told = c .before in
-    let call = told .before .before in
+    let room = told .before .before in
+    let s = start (before-room room .before .before .before) in
+    turned (s .args .t) (request s) _ _ _ _ (told .enum-told6 .given .1) (whole room) (c .refused3 .ensures)
+
+-- the place after the check of the room
+abbrev fitted : tie.After-put-reply → tie.After-enum-told5
+fitted c = c .before .before
+
+reply-fits : (c : tie.After-enum-told5) → let s = start (before-room (c .before .before) .before .before .before) in
+    length (replyOf (s .args .t) (now (s .args .«record»))) ≤ length (now (s .args .reply))
+unfolding tooShort
+reply-fits c =
+    let room = c .before .before in
+    let s = start (before-room room .before .before .before) in
+    ltb-false _ _ (passed (roomChecks (s .args .t) (request s)) (sym (room-checked room) ∙ c .enum-told5 .given .1) 15)
+
+apply-requires : tie.Need-apply-requires
+apply-requires c κs =
+    let call = before-room (fitted (c .before .before) .before .before) in
     let s = start (call .before .before .before) in
-    let-through (s .args .t) (now (s .args .«record»)) _ _ (call .before .before .effective .ensures) (sym (told .enum-told3 .given .1) ∙ whole call)
+    (is-sound (call .before .before .before), call .before .action-of .ensures, passed (requestChecks (s .args .t) (call .before .before .effective .result) (now (s .args .«record»)) (call .before .action-of .result)) (sym (call .check-request .ensures) ∙ (fitted (c .before .before) .before .before .before .before .enum-told3 .given .1)) 14)
+
+same-length : tie.Need-same-length
+same-length c = puts-length (c .before .before .before .put-reply .ensures)
+
+returns-4 : tie.Need-returns-4
+returns-4 c =
+    let wrote = c .before .before .before in
+    let fit = fitted wrote in
+    let room = fit .before .before in
+    let call = before-room room in
+    let s = start (call .before .before .before) in
+    let-through (s .args .t) (request s) _ _ _ _ _ (call .before .before .effective .ensures) (room .before .reply-length .ensures) (sym (fit .enum-told5 .given .1) ∙ whole room)
     (c .apply .ensures ∙ ap (effect (s .args .t) (body (now (s .args .«record»)))) (call .before .action-of .ensures))
+    (fills _ _ _ _ (reply-fits fit) (wrote .put-reply .ensures))
 
 pub judge-spec : {M : Type 1} → statement M
 judge-spec =
@@ -89,5 +154,7 @@ judge-spec =
     (λ c κs. search needs) (λ c. search needs) (λ c. search needs) (λ c κs. search needs) returns
     (λ c κs. search needs) (λ c κs. search needs) check-request-requires
     (λ c. search needs) (λ c. search needs) (λ c κs. search needs) returns-2
-    apply-requires
-    returns-3)
+    (λ c κs. search needs) (λ c κs. search needs) (λ c. search needs) (λ c. search needs) (λ c κs. search needs) returns-3
+    (λ c κs. search needs) apply-requires
+    same-length
+    returns-4)

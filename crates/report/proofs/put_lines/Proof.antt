@@ -49,7 +49,7 @@ loop-again c =
     let test = c .before .before .before .before .before .before .before .before in
     let l = test .before .before .before .loop in
     let e = long (test .before) in
-    let judged = rw (e, add-sub-cancel-left) at (c .before .before .before .before .before .before .judge .ensures) in
+    let judged = rw (e, add-sub-cancel-left) at (c .before .before .before .before .before .before .judge-one .ensures) in
     run-turn (l .inv) (test .before .before .loop-test .taken) (rw e at (test .if1 .left)) judged
     (rw e (take-rest (2 + lengthOf (l .rest .now)) (l .rest .now))) (line .0) (line .1)
 

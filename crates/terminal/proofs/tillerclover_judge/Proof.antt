@@ -6,6 +6,7 @@ use lib.ListN.{length}
 use borrow.Author.Needs.{needs}
 use Rattle.rules.specs.declared.Tables.{Tables}
 use Rattle.rules.specs.declared.Judgement.{Judgement}
+use Rattle.rules.specs.Record.{Request}
 use Rattle.rules.specs.Outcome.{outcome, judgementOf, payloadAt}
 use Rattle.rules.proofs.Refusals.{payload-is}
 use Rattle.terminal.specs.declared.Outcome.{Outcome}
@@ -13,15 +14,21 @@ use Rattle.terminal.specs.Interface.{exported, startOf}
 use Rattle.terminal.proofs.tillerclover_judge.Statement.{statement}
 use Rattle.terminal.proofs.tillerclover_judge.Tie as tie
 
-told : (t : Tables) (r : List ℕ) (j : Judgement) (p : List ℕ) (s : ℕ) → j ≡ judgementOf (outcome t r) → p ≡ payloadAt (j .answer) r → s ≡ startOf (length p)
-    → record { answer = j .answer; permission = j .permission; start = s; length = length p; tables = j .tables } ≡ exported (outcome t r)
-told t r j p s e f g = rw (g, f, e, payload-is t r)
+told : (t : Tables) (q : Request) (j : Judgement) (p : List ℕ) (s : ℕ) → j ≡ judgementOf (outcome t q) → p ≡ payloadAt (j .answer) (q .bytes) → s ≡ startOf (length p)
+    → record { answer = j .answer; permission = j .permission; start = s; length = length p; reply = j .length; tables = j .tables } ≡ exported (outcome t q)
+told t q j p s e f g = rw (g, f, e, payload-is t q)
+
+-- back to the call of the judge
+abbrev call : tie.After-start-of → tie.After-judge
+call c = c .before .before .before .before .before
 
 returns : tie.Need-returns
-returns c = told _ _ _ _ _ (c .before .before .before .judge .ensures) (c .before .payload .ensures) (c .start-of .ensures)
+returns c =
+    let said = call c .judge .ensures in
+    (told _ _ _ _ _ (said .0) (c .before .payload .ensures) (c .start-of .ensures), said .1)
 
 pub tillerclover-judge-spec : {M : Type 1} → statement M
 tillerclover-judge-spec =
     tie.close
     (tie.spec
-    (λ c κs. search needs) (λ c κs. search needs) (λ c κs. search needs) returns)
+    (λ c κs. search needs) (λ c κs. search needs) (λ c κs. search needs) (λ c. search needs) returns)

@@ -14,7 +14,7 @@ abbrev μ-loop : tie.MeasureT-loop
 μ-loop out₀ bytes i₀ out i = length out₀ - i
 
 loop-again : tie.Need-loop-again Inv-loop μ-loop
-loop-again c = let l = c .before .before .loop in (search needs, length-set (l .out) (l .i) (c .byte-at .result) ∙ l .inv .1)
+loop-again c = let l = c .before .before .before .loop in (search needs, length-set (l .out) (l .i) (c .byte-or .result) ∙ l .inv .1)
 
 pub fill-spec : {M : Type 1} → statement M
 fill-spec =
@@ -22,6 +22,6 @@ fill-spec =
     (tie.spec
     Inv-loop
     μ-loop
-    (λ c. search needs) (λ c κs. search needs) (λ c. search needs) (λ c. search needs)
+    (λ c. search needs) (λ c. search needs) (λ c κs. search needs) (λ c. search needs) (λ c. search needs)
     (λ c. search needs) loop-again
     (λ c. search needs) (λ c. search needs))

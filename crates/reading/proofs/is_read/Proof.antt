@@ -1,0 +1,15 @@
+-- `is_read`: test by test.
+use Rattle.rules.specs.Reading.{reads}
+use borrow.Author.Needs.{needs}
+use Rattle.reading.proofs.is_read.Statement.{statement}
+use Rattle.reading.proofs.is_read.Tie as tie
+
+returns : tie.Need-returns
+unfolding reads
+returns c = cc
+
+pub is-read-spec : {M : Type 1} → statement M
+is-read-spec =
+    tie.close
+    (tie.spec
+    (λ c κs. search needs) (λ c. search needs) (λ c κs. search needs) (λ c κs. search needs) returns)

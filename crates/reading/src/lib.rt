@@ -1,0 +1,117 @@
+// Reading the tables back: the reply to a RETRIEVE of a security resource, its length and its bytes.
+// The resource's own body, its row owner, and its rows in table order.
+use fields::held;
+use fields::part;
+use fields::record::resource_of;
+use fields::record::verb_of;
+use rules::directory::resource_row;
+use rules::Tables;
+use text::put;
+use text::put_byte;
+ghost use mathlib.Core.Path.{_≡_};
+ghost use Prim.Native.Nat.{_≤_};
+ghost use lib.ListN.{length};
+ghost use Rattle.text.specs.Buffer.{Puts};
+ghost use Rattle.rules.specs.Reading.{ownBody, rowBytes, contents, reads, replyOf};
+
+// Whether the record asks for a reply.
+fn is_read(record: &[u8]) -> bool
+    ensures { λ r. ⌜ r ≡ reads (now («record» .entry)) ⌝ }
+{
+    let e = resource_row(resource_of(record) as usize);
+    (verb_of(record) == 1) & e.configuration
+}
+
+// The length of a resource's own body.
+fn own_length(t: Tables, resource: u16) -> usize
+    ensures { λ r. ⌜ (r ≡ length (ownBody t resource)) × (r ≤ 17) ⌝ }
+{
+    match resource {
+        0 => 17,
+        1 => 1,
+        _ => 0,
+    }
+}
+
+// The length of a resource's rows.
+fn rows_length(t: Tables, resource: u16) -> usize
+    ensures { λ r. ⌜ (r ≡ length (rowBytes t resource)) × (r ≤ 896) ⌝ }
+{
+    match resource {
+        2 => held(t.ncreds, 24) * 21,
+        3 => held(t.naces, 32) * 28,
+        _ => 0,
+    }
+}
+
+fn contents_length(t: Tables, resource: u16) -> usize
+    ensures { λ r. ⌜ r ≡ length (contents t resource) ⌝ }
+{
+    let at = resource as usize * 16;
+    let owner = part(&t.rowners, at, 16).len();
+    own_length(t, resource) + owner + rows_length(t, resource)
+}
+
+// The length of the record's reply.
+// Rules out: a length without the row owner; a length for OBSERVE.
+pub fn reply_length(t: Tables, record: &[u8]) -> usize
+    ensures { λ r. ⌜ r ≡ length (replyOf t (now («record» .entry))) ⌝ }
+{
+    if is_read(record) {
+        return contents_length(t, resource_of(record));
+    }
+    0
+}
+
+fn put_owner(out: &mut [u8], at: usize, t: Tables) -> usize
+    ensures { λ r. ⌜ Puts (now (out .entry)) at (ownBody t 0) (now (out .exit)) r ⌝ }
+{
+    let p = put_byte(out, at, t.owned % 2 * 128);
+    put(out, p, &t.devowner)
+}
+
+fn put_own(out: &mut [u8], at: usize, t: Tables, resource: u16) -> usize
+    ensures { λ r. ⌜ Puts (now (out .entry)) at (ownBody t resource) (now (out .exit)) r ⌝ }
+{
+    match resource {
+        0 => put_owner(out, at, t),
+        1 => put_byte(out, at, t.state % 8 * 32),
+        _ => put(out, at, b""),
+    }
+}
+
+fn put_rows(out: &mut [u8], at: usize, t: Tables, resource: u16) -> usize
+    ensures { λ r. ⌜ Puts (now (out .entry)) at (rowBytes t resource) (now (out .exit)) r ⌝ }
+{
+    match resource {
+        2 => {
+            let n = held(t.ncreds, 24) * 21;
+            put(out, at, part(&t.creds, 0, n))
+        }
+        3 => {
+            let n = held(t.naces, 32) * 28;
+            put(out, at, part(&t.aces, 0, n))
+        }
+        _ => put(out, at, b""),
+    }
+}
+
+fn put_contents(out: &mut [u8], t: Tables, resource: u16) -> usize
+    ensures { λ r. ⌜ Puts (now (out .entry)) 0 (contents t resource) (now (out .exit)) r ⌝ }
+{
+    let p = put_own(out, 0, t, resource);
+    let at = resource as usize * 16;
+    let p = put(out, p, part(&t.rowners, at, 16));
+    put_rows(out, p, t, resource)
+}
+
+// Writes the record's reply to the start of the buffer, as far as the buffer goes.
+// Rules out: rows in another order; a byte written for a record that has no reply.
+pub fn put_reply(out: &mut [u8], t: Tables, record: &[u8]) -> usize
+    ensures { λ r. ⌜ Puts (now (out .entry)) 0 (replyOf t (now («record» .entry))) (now (out .exit)) r ⌝ }
+{
+    if is_read(record) {
+        return put_contents(out, t, resource_of(record));
+    }
+    put(out, 0, b"")
+}

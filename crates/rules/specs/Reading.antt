@@ -1,0 +1,40 @@
+-- Reading the tables back (U1): what a permitted RETRIEVE of a security resource fills the lent buffer with.
+-- The resource's own body, its row owner, and its rows in table order; every other record has no reply.
+use Prim.Native.Nat.{ℕ, _*_, _%_}
+use mathlib.Core.Bool.{Bool, _&&_, cond}
+use mathlib.Core.List.{List, [], _∷_, _++_}
+use lib.Dec.{eqb, ltb}
+use lib.ListN.{length, drop}
+use Rattle.rows.specs.Rows.{joined}
+use Rattle.rules.specs.declared.Tables.{Tables}
+use Rattle.rules.specs.declared.Table.the-variants.{Creds, Aces}
+use Rattle.rules.specs.Lookup.{lookup}
+use Rattle.rules.specs.Directory.{isSecurity, doxm, pstat, cred, acl2}
+use Rattle.rules.specs.Record.{verb, resource}
+use Rattle.rules.specs.Tables.{rows, rowOwner}
+
+-- doxm its 17-byte body, owned in the first bit; pstat its one byte with the present state as target, in the first three; cred and acl2 nothing
+unfoldable pub ownBody : Tables → ℕ → List ℕ
+ownBody t n = lookup n ((doxm, t .owned % 2 * 128 ∷ t .devowner) ∷ (pstat, t .state % 8 * 32 ∷ []) ∷ []) []
+
+-- for cred and acl2 all rows, in the form of their bodies
+unfoldable pub rowBytes : Tables → ℕ → List ℕ
+rowBytes t n = lookup n ((cred, joined (rows Creds t)) ∷ (acl2, joined (rows Aces t)) ∷ []) []
+
+unfoldable pub contents : Tables → ℕ → List ℕ
+contents t n = ownBody t n ++ rowOwner t n ++ rowBytes t n
+
+-- RETRIEVE of a security resource; OBSERVE gets no reply
+unfoldable pub reads : List ℕ → Bool
+reads r = eqb (verb r) 1 && isSecurity (resource r)
+
+unfoldable pub replyOf : Tables → List ℕ → List ℕ
+replyOf t r = cond (reads r) (contents t (resource r)) []
+
+-- the buffer is shorter than the reply
+unfoldable pub tooShort : Tables → List ℕ → ℕ → Bool
+tooShort t r room = ltb room (length (replyOf t r))
+
+-- the lent buffer afterwards: the reply, and then what stood there
+unfoldable pub filled : List ℕ → List ℕ → List ℕ
+filled buffer reply = reply ++ drop (length reply) buffer
