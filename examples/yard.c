@@ -35,6 +35,7 @@ static const char *const ANSWERS[] = {
     "no such row",
     "table full",
     "buffer too short for the reply",
+    "no endpoint for the connection",
 };
 
 static const char *const STATES[] = {"RESET", "RFOTM", "RFPRO", "RFNOP", "SRESET"};
@@ -348,7 +349,8 @@ int main(void)
 
     struct record strange = header(TILLERCLOVER_UPDATE, TILLERCLOVER_TARE, 0);
     add(&strange, "100 kg", 6);
-    call(&t, "a stranger writes the tare", strange);
+    call(&t, "a stranger writes the tare in clear", strange);
+    call(&t, "and reads the weight, which has an endpoint", header(TILLERCLOVER_RETRIEVE, TILLERCLOVER_WEIGHT, 0));
     call(&t, "and one with a credential of its own", header(TILLERCLOVER_UPDATE, TILLERCLOVER_TARE, UNKNOWN));
 
     struct record broken = header(TILLERCLOVER_RETRIEVE, TILLERCLOVER_WEIGHT, HAULIER);

@@ -95,7 +95,8 @@ enum tillerclover_permission {
     TILLERCLOVER_MAY_ALL = 31
 };
 
-/* Answers. 1 to 15 are refusals, in the order of the checks: the first that applies is given. */
+/* Answers. 1 to 16 are refusals. The checks are made in this order, and the first that applies is
+ * given: 1 to 7, then 16, then 8 to 15. */
 enum tillerclover_answer {
     TILLERCLOVER_PERMITTED = 0,
     /* the tables are not sound */
@@ -126,7 +127,10 @@ enum tillerclover_answer {
     /* a new row, and its table is full */
     TILLERCLOVER_FULL = 14,
     /* the reply is longer than the buffer lent for it */
-    TILLERCLOVER_NO_ROOM = 15
+    TILLERCLOVER_NO_ROOM = 15,
+    /* this application resource has no endpoint for the connection: none that is secure for
+     * AUTH_CRYPT, none that is unsecure for ANON_CLEAR */
+    TILLERCLOVER_NO_ENDPOINT = 16
 };
 
 /* ---- Structs */

@@ -55,7 +55,7 @@ fn with_access(state: State, accesses: Vec<Access>) -> Tables {
     Tables { accesses, ..owned(state) }
 }
 
-/// One for each refusal, in order.
+/// One for each refusal, in the order of their numbers.
 pub fn refusals() -> Vec<Example> {
     let fresh = fresh_bytes();
     let mut claims_25 = fresh;
@@ -63,7 +63,7 @@ pub fn refusals() -> Vec<Example> {
     let full =
         Tables { credentials: (1..=24).map(|number| credential(number, uuid(0x22))).collect(), ..Tables::fresh() };
     let eleven = "11".repeat(16);
-    let rows: [(Stored, String); 15] = [
+    let rows: [(Stored, String); 16] = [
         (claims_25, "22 00 00 00".into()),
         (fresh, "40 80 00".into()),
         (fresh, "A2 00 00 00".into()),
@@ -79,6 +79,7 @@ pub fn refusals() -> Vec<Example> {
         (fresh, "60 80 00 00 00 05".into()),
         (full.bytes(), format!("40 80 00 00 00 19 {eleven} 00 00 04")),
         (full.bytes(), "20 80 00 00".into()),
+        (fresh, "22 40 00 00".into()),
     ];
     (1..)
         .zip(rows)
@@ -86,7 +87,7 @@ pub fn refusals() -> Vec<Example> {
             name: "refusal",
             tables,
             record: hex::literal(&record),
-            // One short of the last example's reply.
+            // One short of the reply that example 15 would get.
             room: 16 + 24 * 21 - 1,
             answer,
             permission: 0,
@@ -149,6 +150,7 @@ pub fn decided() -> Vec<Example> {
         examples.push(Example { name, tables: tables.bytes(), record, room: LONGEST_REPLY, answer, permission });
     };
     let fresh = Tables::fresh();
+    let taken = owned(State::Rfpro);
 
     add("SRESET keeps an owner", &owned(State::Sreset), compose(Verb::Update, 0, 5, &device_owner_body(None)), 11, 0);
     let other = device_owner_body(Some(uuid(0x77)));
@@ -164,6 +166,13 @@ pub fn decided() -> Vec<Example> {
             add("served in RFNOP only", &closed, compose(Verb::Update, 8, 0, body), 8, 0);
         }
     }
+    let broad = with_access(State::Rfnop, vec![access(1, ANON, 31, 1, &[]), access(2, AUTH, 31, 7, &[])]);
+    add("/tare in clear", &broad, compose(Verb::Update, 9, 0, &[1]), 16, 0);
+    add("/tare encrypted", &broad, compose(Verb::Update, 9, 5, &[1]), 0, 31);
+    add("/display in clear", &broad, compose(Verb::Update, 14, 0, &[1]), 0, 31);
+    add("/display encrypted", &broad, compose(Verb::Update, 14, 5, &[1]), 16, 0);
+    add("endpoint before permission", &taken, compose(Verb::Retrieve, 9, 0, &[]), 16, 0);
+    add("endpoint after credential row", &taken, compose(Verb::Retrieve, 14, 9, &[]), 7, 0);
     add("unknown partner", &fresh, compose(Verb::Retrieve, 0, 9, &[]), 7, 0);
     add("partner 0", &fresh, hex::literal("30 00 00 00"), 5, 0);
     add("row 0", &fresh, compose(Verb::Delete, 2, 0, &[0, 0]), 10, 0);
@@ -247,7 +256,7 @@ mod tests {
     #[test]
     fn every_refusal() {
         let examples = refusals();
-        assert_eq!(examples.len(), 15);
+        assert_eq!(examples.len(), 16);
         check(examples);
     }
 

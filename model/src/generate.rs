@@ -333,15 +333,17 @@ impl Wish {
         Wish { verb, resource, body }
     }
 
-    /// The senders with the permission for it.
+    /// The senders with an endpoint and the permission for it.
     fn permitted(&self, tables: &Tables) -> Vec<u16> {
         let Some(resource) = directory::find(self.resource) else {
             return Vec::new();
         };
-        let may = |sender| effective_permission(tables, sender, resource) & self.verb.needs() != 0;
-        let anon = may(Sender::Unauthenticated).then_some(0);
-        let partners = tables.credentials.iter().filter(|row| may(Sender::Partner(row))).map(Row::number);
-        anon.into_iter().chain(partners).collect()
+        let may = |sender, connection| {
+            resource.takes(connection) && effective_permission(tables, sender, resource) & self.verb.needs() != 0
+        };
+        let anon = may(Sender::Unauthenticated, Connection::AnonClear).then_some(0);
+        let partners = tables.credentials.iter().filter(|row| may(Sender::Partner(row), Connection::AuthCrypt));
+        anon.into_iter().chain(partners.map(Row::number)).collect()
     }
 
     /// From a permitted sender in so many of a hundred cases, if there is one.

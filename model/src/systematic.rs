@@ -50,6 +50,7 @@ pub fn groups(seed: u64) -> Vec<Group> {
     near_misses(&mut groups);
     places(&mut groups, &mut random);
     replies(&mut groups, &mut random);
+    endpoints(&mut groups);
     soundness(&mut groups, &mut random);
     groups
 }
@@ -463,6 +464,31 @@ fn replies(groups: &mut Vec<Group>, random: &mut Random) {
         }
         let rooms: Vec<usize> = lengths(&tables).skip(6).chain([0, 911, 912]).collect();
         add(&tables, &[0], &rooms);
+    }
+}
+
+/// Each verb on each resource by each connection, with broad rows, with rows
+/// for one connection only and with none, in each state.
+fn endpoints(groups: &mut Vec<Group>) {
+    let mut records = Vec::new();
+    for resource in DIRECTORY.iter().map(|resource| resource.number).chain([15]) {
+        for verb in Verb::ALL {
+            for sender in [0, OWNER, HAULIER, MISSING] {
+                for body in [&[][..], &[0x11; 16]] {
+                    records.push(compose(verb, resource, sender, body));
+                }
+            }
+        }
+    }
+    for stage in stages() {
+        for accesses in [
+            vec![access(1, ANON, 31, 7, &[]), access(2, AUTH, 31, 7, &[])],
+            vec![access(1, ANON, 31, 1, &[])],
+            vec![access(2, AUTH, 31, 1, &[])],
+            vec![],
+        ] {
+            groups.push(Group::new("endpoints", &Tables { accesses, ..stage.clone() }, records.clone()));
+        }
     }
 }
 

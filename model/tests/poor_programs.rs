@@ -16,7 +16,7 @@ fn alters(case: &Case, right: &Seen) -> bool {
     right.answer == 0 && right.tables != case.tables
 }
 
-const PROGRAMS: [(&str, Program); 16] = [
+const PROGRAMS: [(&str, Program); 19] = [
     ("turns all away", |case, _| refused(8, case)),
     ("permits all", |case, right| if right.answer == 0 { right } else { refused(0, case) }),
     ("never alters the tables", |case, right| Seen { tables: case.tables, ..right }),
@@ -75,12 +75,18 @@ const PROGRAMS: [(&str, Program); 16] = [
         }
         right
     }),
+    ("never says 16", |case, right| if right.answer == 16 { refused(0, case) } else { right }),
+    ("says 8 before 16", |case, right| if right.answer == 16 { refused(8, case) } else { right }),
+    ("says 16 to security records in clear", |case, right| match case.record[..] {
+        [first, second, ..] if right.answer == 0 && first & 0x1F == 0 && second & 0x3F == 0 => refused(16, case),
+        _ => right,
+    }),
 ];
 
 #[test]
 fn poor_programs_are_found() {
     let mut found = [0; PROGRAMS.len()];
-    walk(1, 130_000, |_, case| {
+    walk(1, 200_000, |_, case| {
         let right = case.expected();
         for (count, (_, program)) in found.iter_mut().zip(PROGRAMS) {
             if !right.same(&program(case, right.clone())) {

@@ -20,7 +20,7 @@ use Rattle.rules.specs.Permission.{has, subjectFits, resourceFits, rowFi
 use Rattle.rules.specs.Action.{ifAllowed, updateDoxm, updatePstat, updateRows, updateAction, deleteRows, deleteAction, readAction, securityAction, action}
 use Rattle.rules.specs.States.{writeAllowed, moveListed, moveAllowed}
 use Rattle.rules.specs.Reading.{ownBody, rowBytes, contents, reads, replyOf, tooShort}
-use Rattle.rules.specs.Checks.{badLength, noVerb, zeroBitSet, mismatch, unknownResource, noCredential, notPermitted, offered, notOffered, verdict}
+use Rattle.rules.specs.Checks.{badLength, noVerb, zeroBitSet, mismatch, unknownResource, noCredential, noEndpoint, notPermitted, offered, notOffered, verdict}
 use Rattle.rules.specs.Outcome.{Reply, outcomeAt, outcome, withOwner, withState, entered, replyTo, tablesAfter}
 use Rattle.rules.specs.Run.{replies, final, Along, kept, keptOf}
 use Rattle.rules.specs.Isolation.{Harmless, Premise, isOthers, namesOwner, rowAlters, mayAlter}
@@ -29,7 +29,7 @@ use Rattle.rules.proofs.Isolated.{isolation}
 
 -- `unfolding definitions` opens all that its own line names
 definitions : Unit {0}
-unfolding ones onesIn rowsOf joined packed allZero same hasKey numberedAs placeFrom firstRow some every without distinctNumbers stored unionOf withRow bit bits has resourceOf word sender payloadOf nil isNil ownerBody stateBody credStorable setKnown subjectStorable aceStorable rowsIn rowsSound headSound sound fresh rowOwner subjectFits resourceFits rowFits gives names isOwner byOwner byNoOwner effectiveOf permission ownBody rowBytes contents reads replyOf tooShort ifAllowed updateDoxm updatePstat updateRows updateAction deleteRows deleteAction readAction securityAction action writeAllowed moveListed moveAllowed badLength noVerb zeroBitSet mismatch unknownResource noCredential notPermitted offered notOffered verdict entered outcomeAt outcome
+unfolding ones onesIn rowsOf joined packed allZero same hasKey numberedAs placeFrom firstRow some every without distinctNumbers stored unionOf withRow bit bits has resourceOf word sender payloadOf nil isNil ownerBody stateBody credStorable setKnown subjectStorable aceStorable rowsIn rowsSound headSound sound fresh rowOwner subjectFits resourceFits rowFits gives names isOwner byOwner byNoOwner effectiveOf permission ownBody rowBytes contents reads replyOf tooShort ifAllowed updateDoxm updatePstat updateRows updateAction deleteRows deleteAction readAction securityAction action writeAllowed moveListed moveAllowed badLength noVerb zeroBitSet mismatch unknownResource noCredential noEndpoint notPermitted offered notOffered verdict entered outcomeAt outcome
 definitions = tt
 
 -- a record with a buffer that fits any reply
@@ -192,6 +192,31 @@ pub replies-read :
     ≡ (0 ∷ 0x80 ∷ (uuid ++ nil)) ∷ (0 ∷ 0x40 ∷ nil) ∷ (0 ∷ (nil ++ credRow 5)) ∷ (15 ∷ []) ∷ (0 ∷ nil) ∷ (0 ∷ []) ∷ []
 unfolding definitions owned5 uuid credRow reply
 replies-read = refl
+
+-- ---- endpoints (U2): RETRIEVE of each application resource, 8 to 14, over connection 1 by the owner and over connection 0
+
+-- everybody may read all that a wildcard reaches
+pub broad : Tables
+broad = serving (aceRow 1 2 2 1 none (connected 0) ∷ aceRow 2 2 2 1 none (connected 1) ∷ [])
+
+pub header-of : ℕ → ℕ → ℕ → List ℕ
+header-of c n k = (0x20 + c * 16 + n / 4) ∷ (n % 4 * 64) ∷ 0x00 ∷ k ∷ []
+
+pub applications : List ℕ
+applications = 8 ∷ 9 ∷ 10 ∷ 11 ∷ 12 ∷ 13 ∷ 14 ∷ []
+
+pub endpoints-secure : map (λ n. answer broad (header-of 1 n 5)) applications ≡ 0 ∷ 0 ∷ 0 ∷ 0 ∷ 0 ∷ 0 ∷ 16 ∷ []
+unfolding definitions broad header-of applications owned5 serving aceRow none connected uuid credRow
+endpoints-secure = refl
+
+pub endpoints-clear : map (λ n. answer broad (header-of 0 n 0)) applications ≡ 0 ∷ 16 ∷ 16 ∷ 16 ∷ 0 ∷ 16 ∷ 0 ∷ []
+unfolding definitions broad header-of applications owned5 serving aceRow none connected uuid credRow
+endpoints-clear = refl
+
+-- security resources are exempt: the four are read over connection 0 in fresh tables; and 16 comes before 8
+pub endpoints-exempt : map (λ n. answer fresh (header-of 0 n 0)) (0 ∷ 1 ∷ 2 ∷ 3 ∷ 9 ∷ 14 ∷ []) ≡ 0 ∷ 0 ∷ 0 ∷ 0 ∷ 16 ∷ 8 ∷ []
+unfolding definitions header-of
+endpoints-exempt = refl
 
 -- ---- demand 3 is not empty: partner 7, a haulier who may read resource 8, is chosen, and the unauthenticated senders with it
 

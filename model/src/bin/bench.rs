@@ -43,6 +43,7 @@ program that counts instructions.
 
 /// A number that no row has.
 const UNUSED: u16 = 999;
+const WEIGHT: u8 = 8;
 const TARE: u8 = 9;
 const CREDENTIALS: u8 = 2;
 const ACCESSES: u8 = 3;
@@ -172,7 +173,8 @@ fn cases(rows: Rows) -> Vec<Case> {
         compose(Verb::Update, TARE, UNUSED, &[]),
         7,
     ));
-    cases.push(Case::new("refuse8", "UPDATE /tare by nobody", ownerless, compose(Verb::Update, TARE, 0, &[]), 8));
+    cases.push(Case::new("refuse8", "UPDATE /weight by nobody", ownerless, compose(Verb::Update, WEIGHT, 0, &[]), 8));
+    cases.push(Case::new("refuse16", "UPDATE /tare by nobody", ownerless, compose(Verb::Update, TARE, 0, &[]), 16));
     if full {
         cases.push(Case::new(
             "refuse14",
