@@ -11,7 +11,7 @@
 
 #include "tillerclover.h"
 
-enum { OWNER = 5, HAULIER = 7, UNKNOWN = 9 };
+enum { OWNER = 5, HAULIER = 7, HAULIER_SPARE = 8, UNKNOWN = 9 };
 
 static const uint8_t OWNER_UUID[TILLERCLOVER_UUID_LENGTH] = {0x5b, 0x0d, 0x3a, 0x64, 0x9c, 0x21, 0x4e, 0x7f,
                                                              0x8a, 0x15, 0x3d, 0xe2, 0x90, 0xc7, 0x46, 0x18};
@@ -103,6 +103,14 @@ static struct record store_cred(unsigned sender, unsigned number, const uint8_t 
     add_byte(&r, 0);
     add_byte(&r, 0);
     add_byte(&r, 1u << 2);
+    return r;
+}
+
+/* Every credential row with this subject. */
+static struct record delete_subject(unsigned sender, const uint8_t uuid[TILLERCLOVER_UUID_LENGTH])
+{
+    struct record r = header(TILLERCLOVER_DELETE, TILLERCLOVER_CRED, sender);
+    add(&r, uuid, TILLERCLOVER_UUID_LENGTH);
     return r;
 }
 
@@ -334,6 +342,7 @@ int main(void)
     call(&t, "and gets its owner", set_owner(0, OWNER_UUID));
     call(&t, "the owner moves it to RFPRO", set_state(OWNER, TILLERCLOVER_RFPRO));
     call(&t, "stores the haulier's credential", store_cred(OWNER, HAULIER, HAULIER_UUID));
+    call(&t, "and a spare one", store_cred(OWNER, HAULIER_SPARE, HAULIER_UUID));
     call(&t, "lets the haulier write the tare", store_ace(OWNER, 1, TILLERCLOVER_MAY_UPDATE, TILLERCLOVER_TARE, HAULIER_UUID));
     call(&t, "and read the weight", store_ace(OWNER, 2, TILLERCLOVER_MAY_RETRIEVE, TILLERCLOVER_WEIGHT, HAULIER_UUID));
     call(&t, "and moves the terminal to RFNOP", set_state(OWNER, TILLERCLOVER_RFNOP));
@@ -361,5 +370,14 @@ int main(void)
     call(&t, "a record with a stray bit", broken);
     broken = store_cred(OWNER, 0, HAULIER_UUID);
     call(&t, "the owner stores a credential with number 0", broken);
+
+    call(&t, "moves the terminal to RFPRO", set_state(OWNER, TILLERCLOVER_RFPRO));
+    call(&t, "removes the haulier", delete_subject(OWNER, HAULIER_UUID));
+    call(&t, "removes it again", delete_subject(OWNER, HAULIER_UUID));
+    print_creds(call(&t, "reads cred back", header(TILLERCLOVER_RETRIEVE, TILLERCLOVER_CRED, OWNER)));
+    call(&t, "and moves the terminal to RFNOP", set_state(OWNER, TILLERCLOVER_RFNOP));
+    call(&t, "the haulier writes the tare", tare);
+    tare.bytes[3] = HAULIER_SPARE;
+    call(&t, "also with the spare credential", tare);
     return 0;
 }

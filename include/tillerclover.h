@@ -122,7 +122,7 @@ enum tillerclover_answer {
     TILLERCLOVER_WRONG_STATE = 11,
     /* the target state is not on the list of moves */
     TILLERCLOVER_BAD_TARGET = 12,
-    /* the row to delete is not there */
+    /* no row has the number or the subject to delete */
     TILLERCLOVER_MISSING = 13,
     /* a new row, and its table is full */
     TILLERCLOVER_FULL = 14,

@@ -176,6 +176,10 @@ pub fn decided() -> Vec<Example> {
     add("unknown partner", &fresh, compose(Verb::Retrieve, 0, 9, &[]), 7, 0);
     add("partner 0", &fresh, hex::literal("30 00 00 00"), 5, 0);
     add("row 0", &fresh, compose(Verb::Delete, 2, 0, &[0, 0]), 10, 0);
+    add("nil subject", &fresh, compose(Verb::Delete, 2, 0, &[0; 16]), 10, 0);
+    add("subject without a row", &fresh, compose(Verb::Delete, 2, 0, &[0x11; 16]), 13, 0);
+    add("subject with a row", &taken, compose(Verb::Delete, 2, 5, &[0x11; 16]), 0, 31);
+    add("subject of access rows", &fresh, compose(Verb::Delete, 3, 0, &[0x11; 16]), 10, 0);
     add("delete all of none", &fresh, compose(Verb::Delete, 2, 0, &[]), 0, 31);
     add("delete all of none", &fresh, compose(Verb::Delete, 3, 0, &[]), 0, 31);
 

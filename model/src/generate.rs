@@ -414,6 +414,21 @@ fn delete_row(random: &mut Random, tables: &Tables, held_percent: usize) -> Wish
     Wish::new(Verb::Delete, resource, row.to_be_bytes().to_vec())
 }
 
+fn delete_subject(random: &mut Random, tables: &Tables, held_percent: usize) -> Wish {
+    let spare_owner = random.chance(85);
+    let others = tables.credentials.iter().map(|row| row.subject);
+    let held: Vec<Uuid> = others.filter(|&subject| !spare_owner || Some(subject) != tables.device_owner).collect();
+    let subject = if !held.is_empty() && random.chance(held_percent) {
+        random.pick(&held)
+    } else if !held.is_empty() && random.chance(30) {
+        // A bit off.
+        Uuid::new(random.pick(&held).get() ^ 1 << random.below(128)).unwrap_or(Uuid::MAX)
+    } else {
+        uuid(random)
+    };
+    Wish::new(Verb::Delete, 2, uuid_bytes(Some(subject)).to_vec())
+}
+
 fn delete_all(random: &mut Random) -> Wish {
     Wish::new(Verb::Delete, random.pick(&[2, 3]), Vec::new())
 }
@@ -447,6 +462,7 @@ fn purposeful(random: &mut Random, tables: &Tables) -> Wish {
         Credential,
         Access,
         DeleteRow,
+        DeleteSubject,
         DeleteAll,
         RowOwner,
         Claim,
@@ -458,18 +474,26 @@ fn purposeful(random: &mut Random, tables: &Tables) -> Wish {
     use Step::*;
     // Now and then out of place.
     if random.chance(4) {
-        return match random.below(4) {
+        return match random.below(5) {
             0 => store_credential(random, tables),
             1 => store_access(random, tables),
             2 => delete_row(random, tables, 30),
+            3 => delete_subject(random, tables, 20),
             _ => target(random.between(1, 4) as u8),
         };
     }
     let steps: &[(usize, Step)] = match tables.state {
         State::Rfotm if tables.credentials.is_empty() => &[(8, Credential), (1, Access), (1, Read)],
-        State::Rfotm if !tables.owned() => {
-            &[(25, Credential), (20, Access), (20, Claim), (15, RowOwner), (4, DeleteRow), (8, Read), (2, Target(0))]
-        }
+        State::Rfotm if !tables.owned() => &[
+            (25, Credential),
+            (20, Access),
+            (20, Claim),
+            (15, RowOwner),
+            (4, DeleteRow),
+            (2, DeleteSubject),
+            (8, Read),
+            (2, Target(0)),
+        ],
         State::Rfotm => &[
             (20, Credential),
             (20, Access),
@@ -477,6 +501,7 @@ fn purposeful(random: &mut Random, tables: &Tables) -> Wish {
             (5, Claim),
             (2, GiveUp),
             (4, DeleteRow),
+            (2, DeleteSubject),
             (8, Read),
             (25, Target(2)),
             (1, Target(0)),
@@ -485,6 +510,7 @@ fn purposeful(random: &mut Random, tables: &Tables) -> Wish {
             (30, Credential),
             (35, Access),
             (12, DeleteRow),
+            (4, DeleteSubject),
             (1, DeleteAll),
             (10, Read),
             (9, Target(3)),
@@ -498,6 +524,7 @@ fn purposeful(random: &mut Random, tables: &Tables) -> Wish {
             (10, Credential),
             (10, Access),
             (6, DeleteRow),
+            (3, DeleteSubject),
             (2, DeleteAll),
             (8, Read),
             (20, Target(2)),
@@ -508,6 +535,7 @@ fn purposeful(random: &mut Random, tables: &Tables) -> Wish {
         Credential => store_credential(random, tables),
         Access => store_access(random, tables),
         DeleteRow => delete_row(random, tables, 90),
+        DeleteSubject => delete_subject(random, tables, 60),
         DeleteAll => delete_all(random),
         RowOwner => {
             let owner = random.chance(80).then(|| held_subject(random, tables));
@@ -543,12 +571,14 @@ fn mixed(random: &mut Random, tables: &Tables) -> Vec<u8> {
         (9, 8),
         (8, 9),
         (3, 10),
+        (8, 11),
     ]) {
         0 => application(random),
         1 => read_security(random),
         2 => store_credential(random, tables),
         3 => store_access(random, tables),
         4 => delete_row(random, tables, 60),
+        11 => delete_subject(random, tables, 40),
         5 => delete_all(random),
         6 => {
             let owner = maybe_uuid(random);
@@ -717,7 +747,7 @@ fn append(input: &mut Vec<u8>, record: &[u8]) {
 #[cfg(test)]
 mod tests {
     use super::*;
-    use crate::histogram::{Histogram, Replies};
+    use crate::histogram::{Histogram, Replies, Subjects};
     use crate::rules::LAST_ANSWER;
     use crate::run;
 
@@ -744,6 +774,8 @@ mod tests {
             for count in [exact, to_spare, one_too_short, no_buffer, otherwise_too_short] {
                 assert!(count >= 100, "{histogram}");
             }
+            let Subjects { several, one, none } = histogram.subjects;
+            assert!(several >= 100 && one >= 100 && none >= 200, "{histogram}");
         }
     }
 

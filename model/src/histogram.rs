@@ -1,11 +1,13 @@
-//! How often each answer came, what was permitted, and how the replies fitted.
+//! How often each answer came, what was permitted, how the replies fitted, and
+//! how many rows the deletes by subject found.
 
 use std::fmt;
 
 use crate::case::Case;
-use crate::directory::DIRECTORY;
+use crate::directory::{Security, DIRECTORY};
 use crate::record::{Header, Verb, HEADER};
 use crate::rules::{judge, Outcome, Refusal, LAST_ANSWER, LONGEST_REPLY};
+use crate::tables::CREDENTIAL_COUNT;
 
 #[derive(Clone, Default)]
 pub struct Histogram {
@@ -13,6 +15,16 @@ pub struct Histogram {
     /// Permitted records by resource (as in the directory) and verb.
     permitted: [[u64; 5]; DIRECTORY.len()],
     pub replies: Replies,
+    pub subjects: Subjects,
+}
+
+/// Deletes by subject, by the rows found.
+#[derive(Clone, Default)]
+pub struct Subjects {
+    pub several: u64,
+    pub one: u64,
+    /// Refused with 13.
+    pub none: u64,
 }
 
 /// Records that have a reply, by the lent buffer.
@@ -47,6 +59,15 @@ impl Histogram {
                 self.replies.to_spare += 1;
             }
         }
+        if record.len() == HEADER + 16 && is_delete_of_credentials(record) {
+            let removed = case.tables[CREDENTIAL_COUNT].wrapping_sub(outcome.tables[CREDENTIAL_COUNT]);
+            match (outcome.answer, removed) {
+                (0, 1) => self.subjects.one += 1,
+                (0, 2..) => self.subjects.several += 1,
+                (answer, _) if answer == Refusal::NoRowToDelete as u8 => self.subjects.none += 1,
+                _ => {}
+            }
+        }
         if outcome.answer == 0 && record.len() >= HEADER {
             let header = Header::read(record);
             let resource = DIRECTORY.iter().position(|resource| resource.number == header.resource);
@@ -59,6 +80,11 @@ impl Histogram {
     pub fn total(&self) -> u64 {
         self.answers.iter().sum()
     }
+}
+
+fn is_delete_of_credentials(record: &[u8]) -> bool {
+    let header = Header::read(record);
+    header.verb == Verb::Delete as u8 && header.resource == Security::Cred as u8
 }
 
 impl fmt::Display for Histogram {
@@ -86,6 +112,8 @@ impl fmt::Display for Histogram {
         writeln!(
             out,
             "         {one_too_short} lack one byte, {no_buffer} have no buffer, {otherwise_too_short} lack more"
-        )
+        )?;
+        let Subjects { several, one, none } = self.subjects;
+        writeln!(out, "subjects to delete: {several} with several rows, {one} with one, {none} with none (13)")
     }
 }

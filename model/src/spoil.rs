@@ -221,7 +221,7 @@ pub fn spoil_body(body: &mut Vec<u8>, random: &mut Random) {
     }
     match body.len() {
         1 => body[0] = if random.chance(50) { random.byte() | 0xA0 } else { body[0] | 1 << random.below(5) },
-        2 => body.fill(0),
+        2 | 16 => body.fill(0),
         17 => match random.below(3) {
             0 => body[0] ^= 0x80,
             1 => body[0] |= 1 << random.below(7),

@@ -51,6 +51,7 @@ pub fn groups(seed: u64) -> Vec<Group> {
     places(&mut groups, &mut random);
     replies(&mut groups, &mut random);
     endpoints(&mut groups);
+    subjects(&mut groups, &mut random);
     soundness(&mut groups, &mut random);
     groups
 }
@@ -489,6 +490,70 @@ fn endpoints(groups: &mut Vec<Group>) {
         ] {
             groups.push(Group::new("endpoints", &Tables { accesses, ..stage.clone() }, records.clone()));
         }
+    }
+}
+
+/// Deletes by subject, with the subject's rows in every pattern of places.
+fn subjects(groups: &mut Vec<Group>, random: &mut Random) {
+    let hauliers = |pattern: &[bool]| {
+        let rows = (0x0120..).zip(pattern).map(|(number, &theirs)| {
+            let subject = if theirs { uuid(0x22) } else { uuid(0x23) };
+            Credential { role: Some(ROLE), ..examples::credential(number, subject) }
+        });
+        rows.collect::<Vec<Credential>>()
+    };
+    let bodies = |sender| {
+        let mut records = Vec::new();
+        for byte in [0x22, 0x23, 0x11, 0x44, 0x00] {
+            records.push(compose(Verb::Delete, 2, sender, &[byte; 16]));
+        }
+        records
+    };
+    // Unowned, where nobody has to stay; then with an owner in front or behind.
+    for pattern in 0..64 {
+        let pattern: Vec<bool> = (0..6).map(|place| pattern >> place & 1 == 1).collect();
+        let credentials = hauliers(&pattern);
+        groups.push(Group::new("subjects", &Tables { credentials, ..Tables::fresh() }, bodies(0)));
+        let state = State::ALL[random.below(4)];
+        let mut tables = owned(state);
+        let place = if random.chance(50) { 0 } else { tables.credentials.len() };
+        let theirs = hauliers(&pattern[..4]);
+        tables.credentials.splice(place..place, theirs);
+        tables.accesses.push(access(1, Subject::Uuid(uuid(0x22)), 31, 1, &[2]));
+        groups.push(Group::new("subjects", &tables, bodies(OWNER)));
+    }
+    for turn in 0..60 {
+        let pattern: Vec<bool> = (0..Credential::CAPACITY)
+            .map(|place| match turn {
+                0 => true,
+                1 => place % 2 == 0,
+                2 => place % 2 == 1,
+                3..=26 => place == turn - 3,
+                27 => place < 12,
+                28 => place >= 12,
+                _ => random.chance(turn),
+            })
+            .collect();
+        let credentials = hauliers(&pattern);
+        groups.push(Group::new("subjects", &Tables { credentials, ..Tables::fresh() }, bodies(0)));
+    }
+    // A bit off, other lengths, other resources, other senders.
+    for tables in stages() {
+        let sender = if tables.owned() { OWNER } else { 0 };
+        let mut records = flips(&compose(Verb::Delete, 2, sender, &[0x22; 16]), 4);
+        for bit in 0..128 {
+            records.push(compose(Verb::Delete, 2, sender, &(1u128 << bit).to_be_bytes()));
+        }
+        for resource in 0..4 {
+            for sender in [0, OWNER, HAULIER, FOREMAN, MISSING] {
+                for length in [15, 16, 17] {
+                    records.push(compose(Verb::Delete, resource, sender, &vec![0x22; length]));
+                    records.push(compose(Verb::Delete, resource, sender, &vec![0x33; length]));
+                    records.push(compose(Verb::Delete, resource, sender, &vec![0; length]));
+                }
+            }
+        }
+        groups.push(Group::new("subjects", &tables, records));
     }
 }
 

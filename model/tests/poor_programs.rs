@@ -2,7 +2,7 @@
 
 use model::case::{Case, Seen};
 use model::generate::walk;
-use model::tables::fresh_bytes;
+use model::tables::{fresh_bytes, read_uuid, Tables};
 
 /// What a program makes of a case, given what is right.
 type Program = fn(&Case, Seen) -> Seen;
@@ -16,7 +16,12 @@ fn alters(case: &Case, right: &Seen) -> bool {
     right.answer == 0 && right.tables != case.tables
 }
 
-const PROGRAMS: [(&str, Program); 19] = [
+/// Whether the case gets as far as the rows of a subject.
+fn deletes_subject(case: &Case, right: &Seen) -> bool {
+    case.record.len() == 20 && case.record[0] & 0xEF == 0x60 && case.record[1] == 0x80 && matches!(right.answer, 0 | 13)
+}
+
+const PROGRAMS: [(&str, Program); 22] = [
     ("turns all away", |case, _| refused(8, case)),
     ("permits all", |case, right| if right.answer == 0 { right } else { refused(0, case) }),
     ("never alters the tables", |case, right| Seen { tables: case.tables, ..right }),
@@ -74,6 +79,26 @@ const PROGRAMS: [(&str, Program); 19] = [
             right.reply -= 16;
         }
         right
+    }),
+    ("deletes no subject", |case, right| if deletes_subject(case, &right) { refused(10, case) } else { right }),
+    ("deletes only the first row of a subject", |case, right| match Tables::read(&case.tables) {
+        Ok(mut tables) if deletes_subject(case, &right) && right.answer == 0 => {
+            let subject = read_uuid(&case.record[4..]);
+            let first = tables.credentials.iter().position(|row| Some(row.subject) == subject);
+            tables.credentials.remove(first.expect("permitted"));
+            Seen { tables: tables.bytes(), ..right }
+        }
+        _ => right,
+    }),
+    ("fills the gap with the last row", |case, right| match Tables::read(&case.tables) {
+        Ok(mut tables) if deletes_subject(case, &right) && right.answer == 0 => {
+            let subject = read_uuid(&case.record[4..]);
+            while let Some(place) = tables.credentials.iter().position(|row| Some(row.subject) == subject) {
+                tables.credentials.swap_remove(place);
+            }
+            Seen { tables: tables.bytes(), ..right }
+        }
+        _ => right,
     }),
     ("never says 16", |case, right| if right.answer == 16 { refused(0, case) } else { right }),
     ("says 8 before 16", |case, right| if right.answer == 16 { refused(8, case) } else { right }),

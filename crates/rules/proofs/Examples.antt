@@ -17,7 +17,7 @@ use Rattle.rules.specs.Record.{Request, asked, Sender, unauthenticated, 
 use Rattle.rules.specs.Bodies.{nil, isNil, ownerBody, stateBody, credStorable, setKnown, subjectStorable, aceStorable}
 use Rattle.rules.specs.Tables.{rowsIn, withRows, rowsSound, headSound, sound, fresh, rowOwner}
 use Rattle.rules.specs.Permission.{has, subjectFits, resourceFits, rowFits, gives, names, isOwner, byOwner, byNoOwner, effectiveOf, effective, permission}
-use Rattle.rules.specs.Action.{ifAllowed, updateDoxm, updatePstat, updateRows, updateAction, deleteRows, deleteAction, readAction, securityAction, action}
+use Rattle.rules.specs.Action.{ifAllowed, updateDoxm, updatePstat, updateRows, updateAction, deleteNumber, deleteAces, deleteCreds, deleteAction, readAction, securityAction, action}
 use Rattle.rules.specs.States.{writeAllowed, moveListed, moveAllowed}
 use Rattle.rules.specs.Reading.{ownBody, rowBytes, contents, reads, replyOf, tooShort}
 use Rattle.rules.specs.Checks.{badLength, noVerb, zeroBitSet, mismatch, unknownResource, noCredential, noEndpoint, notPermitted, offered, notOffered, verdict}
@@ -29,7 +29,7 @@ use Rattle.rules.proofs.Isolated.{isolation}
 
 -- `unfolding definitions` opens all that its own line names
 definitions : Unit {0}
-unfolding ones onesIn rowsOf joined packed allZero same hasKey numberedAs placeFrom firstRow some every without distinctNumbers stored unionOf withRow bit bits has resourceOf word sender payloadOf nil isNil ownerBody stateBody credStorable setKnown subjectStorable aceStorable rowsIn rowsSound headSound sound fresh rowOwner subjectFits resourceFits rowFits gives names isOwner byOwner byNoOwner effectiveOf permission ownBody rowBytes contents reads replyOf tooShort ifAllowed updateDoxm updatePstat updateRows updateAction deleteRows deleteAction readAction securityAction action writeAllowed moveListed moveAllowed badLength noVerb zeroBitSet mismatch unknownResource noCredential noEndpoint notPermitted offered notOffered verdict entered outcomeAt outcome
+unfolding ones onesIn rowsOf joined packed allZero same hasKey numberedAs placeFrom firstRow some every without distinctNumbers stored unionOf withRow bit bits has resourceOf word sender payloadOf nil isNil ownerBody stateBody credStorable setKnown subjectStorable aceStorable rowsIn rowsSound headSound sound fresh rowOwner subjectFits resourceFits rowFits gives names isOwner byOwner byNoOwner effectiveOf permission ownBody rowBytes contents reads replyOf tooShort ifAllowed updateDoxm updatePstat updateRows updateAction deleteNumber deleteAces deleteCreds deleteAction readAction securityAction action writeAllowed moveListed moveAllowed badLength noVerb zeroBitSet mismatch unknownResource noCredential noEndpoint notPermitted offered notOffered verdict entered outcomeAt outcome
 definitions = tt
 
 -- a record with a buffer that fits any reply
@@ -217,6 +217,34 @@ endpoints-clear = refl
 pub endpoints-exempt : map (λ n. answer fresh (header-of 0 n 0)) (0 ∷ 1 ∷ 2 ∷ 3 ∷ 9 ∷ 14 ∷ []) ≡ 0 ∷ 0 ∷ 0 ∷ 0 ∷ 16 ∷ 8 ∷ []
 unfolding definitions header-of
 endpoints-exempt = refl
+
+-- ---- delete by subject (U3): two rows of a haulier between others; the order of the rest is kept
+
+haulierRow : ℕ → Row
+haulierRow n = 0 ∷ n ∷ (replicate 16 0x22 ++ (0 ∷ 0 ∷ 4 ∷ []))
+
+-- state 2, the owner in row 5
+pub several : Tables
+several = withRows Creds owned5 (haulierRow 3 ∷ credRow 5 ∷ haulierRow 4 ∷ credRow 6 ∷ [])
+
+-- DELETE by the owner with this body
+pub deletes : List ℕ → Request
+deletes b = lent (0x70 ∷ 0x80 ∷ 0x00 ∷ 0x05 ∷ b)
+
+pub subject-deleted : tablesAfter several (deletes (replicate 16 0x22)) ≡ withRows Creds several (credRow 5 ∷ credRow 6 ∷ [])
+unfolding definitions several deletes haulierRow owned5 uuid credRow
+subject-deleted = refl
+
+-- a haulier's rows; nobody's; nil; and of acl2, which takes no subject
+pub subject-answers :
+    replyTo several (deletes (replicate 16 0x22)) .answer
+    ∷ replyTo several (deletes (replicate 16 0x33)) .answer
+    ∷ replyTo several (deletes nil) .answer
+    ∷ answer several (0x70 ∷ 0xc0 ∷ 0x00 ∷ 0x05 ∷ replicate 16 0x22)
+    ∷ []
+    ≡ 0 ∷ 13 ∷ 10 ∷ 10 ∷ []
+unfolding definitions several deletes haulierRow owned5 uuid credRow
+subject-answers = refl
 
 -- ---- demand 3 is not empty: partner 7, a haulier who may read resource 8, is chosen, and the unauthenticated senders with it
 

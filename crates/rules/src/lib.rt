@@ -108,7 +108,7 @@ pub enum Action {
     SetState(u8),
     // the body is a row
     Store(Table),
-    // the rows that have the body's bytes from this place on, 0 for the row's number; no bytes: all rows
+    // the rows that have the body's bytes from this place on, 0 for the row's number and 2 for a credential's subject; no bytes: all rows
     Remove(Table, usize),
     // the body has another length, or a forbidden value
     Malformed,
