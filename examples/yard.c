@@ -114,6 +114,14 @@ static struct record delete_subject(unsigned sender, const uint8_t uuid[TILLERCL
     return r;
 }
 
+static struct record delete_ace(unsigned sender, unsigned number)
+{
+    struct record r = header(TILLERCLOVER_DELETE, TILLERCLOVER_ACL2, sender);
+    add_byte(&r, number >> 8);
+    add_byte(&r, number);
+    return r;
+}
+
 /* An access row that gives a UUID one resource. */
 static struct record store_ace(unsigned sender, unsigned number, unsigned permission,
                                enum tillerclover_resource resource, const uint8_t uuid[TILLERCLOVER_UUID_LENGTH])
@@ -192,8 +200,8 @@ static void refused_tables(void)
     tillerclover_tables t = pattern();
     tillerclover_outcome o = judge(t, header(TILLERCLOVER_RETRIEVE, TILLERCLOVER_WEIGHT, 0));
     expect(o.answer == TILLERCLOVER_NOT_SOUND, "tables of any bytes were taken for sound");
-    expect(o.permission == 0 && o.start == 0 && o.length == 0 && o.reply == 0,
-           "a refusal has a permission, a payload or a reply");
+    expect(o.permission == 0 && o.start == 0 && o.length == 0 && o.reply == 0 && o.first == 0 && o.many == 0,
+           "a refusal has a permission, a payload, a reply or places");
     expect(same(&o.tables, &t), "a refusal changed the tables");
 }
 
@@ -238,14 +246,26 @@ static void each_field(void)
     add(&r, "on", 2);
     tillerclover_outcome o = judge(t, r);
     expect(o.answer == TILLERCLOVER_PERMITTED && o.permission == TILLERCLOVER_MAY_ALL, "answer or permission stands elsewhere");
-    expect(o.start == 4 && o.length == 2 && o.reply == 0, "start or length stands elsewhere");
+    expect(o.start == 4 && o.length == 2 && o.reply == 0 && o.first == 0 && o.many == 0, "start or length stands elsewhere");
     expect(same(&o.tables, &expected), "tables stands elsewhere in the outcome");
     o = judge(t, header(TILLERCLOVER_RETRIEVE, TILLERCLOVER_CRED, 100));
     expect(o.answer == TILLERCLOVER_PERMITTED && o.start == 0 && o.length == 0, "answer, start or length stands elsewhere");
-    expect(o.reply == TILLERCLOVER_UUID_LENGTH + sizeof t.creds, "reply stands elsewhere");
+    expect(o.reply == TILLERCLOVER_UUID_LENGTH + sizeof t.creds && o.first == 0 && o.many == 0, "reply stands elsewhere");
     expect(same(&o.tables, &expected), "tables stands elsewhere behind a reply");
     o = judge(t, store_ace(100, 1, 0, TILLERCLOVER_LAMP, OWNER_UUID));
-    expect(o.answer == TILLERCLOVER_WRONG_STATE && o.permission == 0 && o.start == 0 && o.length == 0 && o.reply == 0, "a refusal has other fields");
+    expect(o.answer == TILLERCLOVER_WRONG_STATE && o.permission == 0 && o.start == 0 && o.length == 0 && o.reply == 0 &&
+               o.first == 0 && o.many == 0,
+           "a refusal has other fields");
+
+    /* One row deleted: the caller stores the places that are named, and the count. */
+    t = after(t, set_state(100, TILLERCLOVER_RFPRO));
+    o = judge(t, delete_ace(100, 205));
+    expect(o.answer == TILLERCLOVER_PERMITTED && o.reply == 0, "a row was not deleted");
+    expect(o.first == 5 && o.many == TILLERCLOVER_ACE_CAPACITY - 5, "first or many stands elsewhere");
+    t.naces = o.tables.naces;
+    memcpy(t.aces + o.first * TILLERCLOVER_ACE_LENGTH, o.tables.aces + o.first * TILLERCLOVER_ACE_LENGTH,
+           o.many * TILLERCLOVER_ACE_LENGTH);
+    expect(same(&o.tables, &t), "a delete changed another place");
 }
 
 /* The longest reply in a buffer that just fits, and in one that just does not; the bytes behind it stay. */
@@ -300,6 +320,9 @@ static size_t call(tillerclover_tables *t, const char *what, struct record r)
     }
     if (o.reply != 0) {
         printf(", reply of %zu bytes", o.reply);
+    }
+    if (o.many != 0) {
+        printf(", %zu to store from place %zu", o.many, o.first);
     }
     printf("\n");
     return o.reply;
@@ -374,6 +397,7 @@ int main(void)
     call(&t, "moves the terminal to RFPRO", set_state(OWNER, TILLERCLOVER_RFPRO));
     call(&t, "removes the haulier", delete_subject(OWNER, HAULIER_UUID));
     call(&t, "removes it again", delete_subject(OWNER, HAULIER_UUID));
+    call(&t, "and its first access row", delete_ace(OWNER, 1));
     print_creds(call(&t, "reads cred back", header(TILLERCLOVER_RETRIEVE, TILLERCLOVER_CRED, OWNER)));
     call(&t, "and moves the terminal to RFNOP", set_state(OWNER, TILLERCLOVER_RFNOP));
     call(&t, "the haulier writes the tare", tare);

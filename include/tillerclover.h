@@ -175,6 +175,13 @@ typedef struct tillerclover_outcome {
     /* The reply is the first `reply` bytes of the caller's own buffer; see tillerclover_judge. 0 for
      * every record but a permitted RETRIEVE of a security resource. */
     size_t reply;
+    /* The places of cred or acl2 that a DELETE leaves to store, for memory that wears: `many` rows
+     * from place `first` on, counted from 0. They go from the first deleted row to the last one held
+     * before; each holds another row number than before, 0 when unused, and no other place does. The
+     * count, ncreds or naces, changes as well. Both are 0 for every other record, and for a DELETE
+     * that finds no rows. */
+    size_t first;
+    size_t many;
     /* the tables afterwards: of a refusal those that were handed in, byte for byte */
     tillerclover_tables tables;
 } tillerclover_outcome;
@@ -225,13 +232,15 @@ TILLERCLOVER_ASSERT(offsetof(tillerclover_tables, creds) == 84, "creds");
 TILLERCLOVER_ASSERT(offsetof(tillerclover_tables, aces) == 588, "aces");
 
 TILLERCLOVER_ASSERT(sizeof(size_t) == 8, "the library is for 64 bits");
-TILLERCLOVER_ASSERT(sizeof(tillerclover_outcome) == 1520, "an outcome has 1,520 bytes");
+TILLERCLOVER_ASSERT(sizeof(tillerclover_outcome) == 1536, "an outcome has 1,536 bytes");
 TILLERCLOVER_ASSERT(offsetof(tillerclover_outcome, answer) == 0, "answer");
 TILLERCLOVER_ASSERT(offsetof(tillerclover_outcome, permission) == 1, "permission");
 TILLERCLOVER_ASSERT(offsetof(tillerclover_outcome, start) == 8, "start");
 TILLERCLOVER_ASSERT(offsetof(tillerclover_outcome, length) == 16, "length");
 TILLERCLOVER_ASSERT(offsetof(tillerclover_outcome, reply) == 24, "reply");
-TILLERCLOVER_ASSERT(offsetof(tillerclover_outcome, tables) == 32, "tables");
+TILLERCLOVER_ASSERT(offsetof(tillerclover_outcome, first) == 32, "first");
+TILLERCLOVER_ASSERT(offsetof(tillerclover_outcome, many) == 40, "many");
+TILLERCLOVER_ASSERT(offsetof(tillerclover_outcome, tables) == 48, "tables");
 
 #ifdef __cplusplus
 }

@@ -148,6 +148,9 @@ pub struct Seen {
     pub reply: usize,
     /// The lent buffer afterwards, and `BEHIND` bytes that were not lent.
     pub buffer: Vec<u8>,
+    /// The first place to store after a delete, and how many.
+    pub first: usize,
+    pub many: usize,
     pub tables: Stored,
 }
 
@@ -165,6 +168,8 @@ impl Seen {
             payload: outcome.payload,
             reply: outcome.reply.len(),
             buffer,
+            first: outcome.places.start,
+            many: outcome.places.len(),
             tables: outcome.tables,
         }
     }
@@ -176,6 +181,7 @@ impl Seen {
             && (self.payload == other.payload || self.payload.is_empty() && other.payload.is_empty())
             && self.reply == other.reply
             && self.buffer == other.buffer
+            && (self.first, self.many) == (other.first, other.many)
             && self.tables == other.tables
     }
 
@@ -193,12 +199,15 @@ impl Seen {
         let written = (0..pattern.len()).rev().find(|&place| pattern[place] != self.buffer[place]);
         let written = written.map_or("nothing written".into(), |place| format!("written up to byte {place}"));
         format!(
-            "answer {}, permission {}, payload from {} length {}, reply length {}, {written}, {tables}",
+            "answer {}, permission {}, payload from {} length {}, reply length {}, {written}, \
+             places from {} many {}, {tables}",
             self.answer,
             self.permission,
             self.payload.start,
             self.payload.len(),
-            self.reply
+            self.reply,
+            self.first,
+            self.many
         )
     }
 }

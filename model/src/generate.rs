@@ -747,7 +747,7 @@ fn append(input: &mut Vec<u8>, record: &[u8]) {
 #[cfg(test)]
 mod tests {
     use super::*;
-    use crate::histogram::{Histogram, Replies, Subjects};
+    use crate::histogram::{Histogram, Places, Replies, Subjects};
     use crate::rules::LAST_ANSWER;
     use crate::run;
 
@@ -776,6 +776,8 @@ mod tests {
             }
             let Subjects { several, one, none } = histogram.subjects;
             assert!(several >= 100 && one >= 100 && none >= 200, "{histogram}");
+            let Places { from_first, between, last, none } = histogram.places;
+            assert!(from_first >= 100 && between >= 100 && last >= 100 && none >= 20, "{histogram}");
         }
     }
 

@@ -1,5 +1,5 @@
-//! How often each answer came, what was permitted, how the replies fitted, and
-//! how many rows the deletes by subject found.
+//! How often each answer came, what was permitted, how the replies fitted, how
+//! many rows the deletes by subject found, and which places deletes report.
 
 use std::fmt;
 
@@ -16,6 +16,19 @@ pub struct Histogram {
     permitted: [[u64; 5]; DIRECTORY.len()],
     pub replies: Replies,
     pub subjects: Subjects,
+    pub places: Places,
+}
+
+/// Permitted deletes of security rows, by the places they report.
+#[derive(Clone, Default)]
+pub struct Places {
+    /// From the first on, several.
+    pub from_first: u64,
+    pub between: u64,
+    /// One place, the last held.
+    pub last: u64,
+    /// Nothing was there to delete.
+    pub none: u64,
 }
 
 /// Deletes by subject, by the rows found.
@@ -68,6 +81,14 @@ impl Histogram {
                 _ => {}
             }
         }
+        if outcome.answer == 0 && Header::read(record).verb == Verb::Delete as u8 && outcome.payload.start == 0 {
+            match (outcome.places.start, outcome.places.len()) {
+                (0, 0) => self.places.none += 1,
+                (_, 1) => self.places.last += 1,
+                (0, _) => self.places.from_first += 1,
+                _ => self.places.between += 1,
+            }
+        }
         if outcome.answer == 0 && record.len() >= HEADER {
             let header = Header::read(record);
             let resource = DIRECTORY.iter().position(|resource| resource.number == header.resource);
@@ -114,6 +135,11 @@ impl fmt::Display for Histogram {
             "         {one_too_short} lack one byte, {no_buffer} have no buffer, {otherwise_too_short} lack more"
         )?;
         let Subjects { several, one, none } = self.subjects;
-        writeln!(out, "subjects to delete: {several} with several rows, {one} with one, {none} with none (13)")
+        writeln!(out, "subjects to delete: {several} with several rows, {one} with one, {none} with none (13)")?;
+        let Places { from_first, between, last, none } = self.places;
+        writeln!(
+            out,
+            "places to store: {from_first} from the first on, {between} from between, {last} last, {none} none"
+        )
     }
 }

@@ -25,6 +25,8 @@ pub struct Outcome {
     pub start: usize,
     pub length: usize,
     pub reply: usize,
+    pub first: usize,
+    pub many: usize,
     pub tables: Tables,
 }
 
@@ -96,6 +98,8 @@ pub fn judge(case: &Case) -> Seen {
         payload: outcome.start..outcome.start.saturating_add(outcome.length),
         reply: outcome.reply,
         buffer,
+        first: outcome.first,
+        many: outcome.many,
         tables: outcome.tables.bytes(),
     }
 }

@@ -4,8 +4,9 @@
 //! 0: tables (1,484 bytes), from now on the current ones;
 //! 1: a record behind its length (16 bits), the length of the lent buffer (16
 //!    bits), then answer, permission (a byte each), payload start and payload
-//!    length (16 bits each; start 0 when the length is 0), the reply behind its
-//!    length (16 bits); the tables afterwards are the current ones;
+//!    length (16 bits each; start 0 when the length is 0), length of the reply
+//!    (16 bits), first place to store and how many (a byte each), the reply;
+//!    the tables afterwards are the current ones;
 //! 2: tables (1,484 bytes) that the current ones must equal.
 //! Numbers of 16 bits have their high byte first.
 
@@ -90,6 +91,7 @@ impl Vectors {
         self.bytes.extend(start.to_be_bytes());
         self.bytes.extend(length.to_be_bytes());
         self.bytes.extend((outcome.reply.len() as u16).to_be_bytes());
+        self.bytes.extend([outcome.places.start as u8, outcome.places.len() as u8]);
         self.bytes.extend(&outcome.reply);
         self.histogram.add(&case, &outcome);
         self.records += 1;
@@ -262,6 +264,9 @@ mod tests {
                     assert_eq!(start, if length == 0 { 0 } else { 4 });
                     let length = number(take(2).unwrap());
                     assert!(length <= room);
+                    let places = take(2).unwrap();
+                    assert_eq!(places[0] as usize, outcome.places.start);
+                    assert_eq!(places[1] as usize, outcome.places.len());
                     assert_eq!(take(length).unwrap(), outcome.reply);
                     current = Some(outcome.tables);
                     records += 1;

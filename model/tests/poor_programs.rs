@@ -9,7 +9,7 @@ type Program = fn(&Case, Seen) -> Seen;
 
 fn refused(answer: u8, case: &Case) -> Seen {
     let buffer = Case::pattern(case.room + model::case::BEHIND);
-    Seen { answer, permission: 0, payload: 0..0, reply: 0, buffer, tables: case.tables }
+    Seen { answer, permission: 0, payload: 0..0, reply: 0, buffer, first: 0, many: 0, tables: case.tables }
 }
 
 fn alters(case: &Case, right: &Seen) -> bool {
@@ -21,7 +21,7 @@ fn deletes_subject(case: &Case, right: &Seen) -> bool {
     case.record.len() == 20 && case.record[0] & 0xEF == 0x60 && case.record[1] == 0x80 && matches!(right.answer, 0 | 13)
 }
 
-const PROGRAMS: [(&str, Program); 22] = [
+const PROGRAMS: [(&str, Program); 28] = [
     ("turns all away", |case, _| refused(8, case)),
     ("permits all", |case, right| if right.answer == 0 { right } else { refused(0, case) }),
     ("never alters the tables", |case, right| Seen { tables: case.tables, ..right }),
@@ -99,6 +99,18 @@ const PROGRAMS: [(&str, Program); 22] = [
             Seen { tables: tables.bytes(), ..right }
         }
         _ => right,
+    }),
+    ("reports no places", |_, right| Seen { first: 0, many: 0, ..right }),
+    ("reports the whole table", |_, right| Seen { first: 0, many: right.first + right.many, ..right }),
+    ("reports only the rows that stay", |_, right| Seen { many: right.many.saturating_sub(1), ..right }),
+    ("counts places from 1", |_, right| if right.many > 0 { Seen { first: right.first + 1, ..right } } else { right }),
+    ("reports the first deleted place alone", |_, right| Seen { many: right.many.min(1), ..right }),
+    ("reports a reset as a delete", |case, right| {
+        if alters(case, &right) && right.tables == fresh_bytes() && case.tables[2] > 0 {
+            Seen { many: case.tables[2].into(), ..right }
+        } else {
+            right
+        }
     }),
     ("never says 16", |case, right| if right.answer == 16 { refused(0, case) } else { right }),
     ("says 8 before 16", |case, right| if right.answer == 16 { refused(8, case) } else { right }),

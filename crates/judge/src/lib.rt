@@ -1,6 +1,7 @@
 // The judge of the terminal: for any record beside any tables, exactly one outcome.
 // Entry points: judge, payload and clear. None asks anything of its caller.
 mod effect;
+mod places;
 mod request;
 mod states;
 
@@ -11,6 +12,8 @@ use form::check_form;
 use form::refuse_if;
 use format::action::action_of;
 use permission::effective;
+use places::no_places;
+use places::places_of;
 use reading::put_reply;
 use reading::reply_length;
 use request::check_request;
@@ -27,7 +30,7 @@ ghost use Rattle.rules.specs.Checks.{numberOf, refuseIf};
 ghost use Rattle.rules.specs.Tables.{cleared};
 ghost use Rattle.rules.specs.Outcome.{outcome, replyTo, judgementOf, refusal, payloadAt};
 
-// A refusal hands the tables back as they are, with permission 0 and no reply.
+// A refusal hands the tables back as they are, with permission 0, no reply and no places.
 fn refused(t: Tables, c: Check) -> Judgement
     ensures { λ r. ⌜ r ≡ refusal t (numberOf c) ⌝ }
 {
@@ -36,12 +39,14 @@ fn refused(t: Tables, c: Check) -> Judgement
             answer: 0,
             permission: 0,
             length: 0,
+            places: no_places(),
             tables: t,
         },
         Check::Refuse(n) => Judgement {
             answer: n,
             permission: 0,
             length: 0,
+            places: no_places(),
             tables: t,
         },
     }
@@ -54,7 +59,7 @@ fn check_room(room: usize, length: usize) -> Check
     refuse_if(15, room < length)
 }
 
-// What becomes of a record: the answer, the permission, the length of the reply and the tables afterwards; the reply fills the lent buffer.
+// What becomes of a record: the answer, the permission, the length of the reply, the places to store and the tables afterwards; the reply fills the lent buffer.
 // Rules out: a judge that refuses every record with 8; one that answers and never alters the tables; a byte written on a refusal.
 pub fn judge(t: Tables, record: &[u8], reply: &mut [u8]) -> Judgement
     ensures said { λ r. ⌜ r ≡ judgementOf (outcome t (asked (now («record» .entry)) (length (now (reply .entry))))) ⌝ }
@@ -76,11 +81,13 @@ pub fn judge(t: Tables, record: &[u8], reply: &mut [u8]) -> Judgement
         return refused(t, c);
     };
     put_reply(reply, t, record);
+    let places = places_of(t, a, record);
     let next = apply(t, a, record);
     Judgement {
         answer: 0,
         permission: permission,
         length: length,
+        places: places,
         tables: next,
     }
 }

@@ -31,6 +31,7 @@ told c = record {
   permission = c .judgement .permission;
   payload = c .payload;
   contents = take (c .judgement .length) (c .buffer);
+  places = c .judgement .places;
 }
 
 -- what a call meets, on the tables t, for the request q
@@ -70,7 +71,7 @@ built-same t (q ∷ qs) (c ∷ cs) b =
       more .1 ∙ ap (λ (s : Tables). final tablesAfter s qs) next,
     )
 
--- demand 3: record by record the others' numbers, permissions, payload bytes and replies, and at the end the tables
+-- demand 3: record by record the others' numbers, permissions, payload bytes, replies and places, and at the end the tables
 pub built-isolation :
     (chosen : Sender → Bool) (t : Tables) (qs : List Request) (cs : List Call)
     → Built t qs cs

@@ -8,7 +8,7 @@ use lib.ListN.{replicate}
 use lib.Dec.{eqb}
 use borrow.Author.Tests.{eqb-true, not-true}
 use lib.Count.{ones, onesIn}
-use Rattle.rows.specs.Rows.{Row, rowsOf, joined, packed, allZero, same, hasKey, numberedAs, placeFrom, firstRow, some, every, without, distinctNumbers, stored, unionOf, withRow}
+use Rattle.rows.specs.Rows.{Row, rowsBefore, rowsOf, joined, packed, allZero, same, hasKey, numberedAs, placeFrom, firstRow, some, every, without, distinctNumbers, stored, unionOf, withRow}
 use Rattle.rules.specs.declared.Tables.{Tables}
 use Rattle.rules.specs.declared.Table.the-variants.{Creds, Aces}
 use Rattle.rules.specs.Bits.{bit, bits, word}
@@ -19,6 +19,8 @@ use Rattle.rules.specs.Tables.{rowsIn, withRows, rowsSound, headSound, s
 use Rattle.rules.specs.Permission.{has, subjectFits, resourceFits, rowFits, gives, names, isOwner, byOwner, byNoOwner, effectiveOf, effective, permission}
 use Rattle.rules.specs.Action.{ifAllowed, updateDoxm, updatePstat, updateRows, updateAction, deleteNumber, deleteAces, deleteCreds, deleteAction, readAction, securityAction, action}
 use Rattle.rules.specs.States.{writeAllowed, moveListed, moveAllowed}
+use Rattle.rules.specs.declared.Places.{Places}
+use Rattle.rules.specs.Places.{nowhere, gapOf}
 use Rattle.rules.specs.Reading.{ownBody, rowBytes, contents, reads, replyOf, tooShort}
 use Rattle.rules.specs.Checks.{badLength, noVerb, zeroBitSet, mismatch, unknownResource, noCredential, noEndpoint, notPermitted, offered, notOffered, verdict}
 use Rattle.rules.specs.Outcome.{Reply, outcomeAt, outcome, withOwner, withState, entered, replyTo, tablesAfter}
@@ -29,7 +31,7 @@ use Rattle.rules.proofs.Isolated.{isolation}
 
 -- `unfolding definitions` opens all that its own line names
 definitions : Unit {0}
-unfolding ones onesIn rowsOf joined packed allZero same hasKey numberedAs placeFrom firstRow some every without distinctNumbers stored unionOf withRow bit bits has resourceOf word sender payloadOf nil isNil ownerBody stateBody credStorable setKnown subjectStorable aceStorable rowsIn rowsSound headSound sound fresh rowOwner subjectFits resourceFits rowFits gives names isOwner byOwner byNoOwner effectiveOf permission ownBody rowBytes contents reads replyOf tooShort ifAllowed updateDoxm updatePstat updateRows updateAction deleteNumber deleteAces deleteCreds deleteAction readAction securityAction action writeAllowed moveListed moveAllowed badLength noVerb zeroBitSet mismatch unknownResource noCredential noEndpoint notPermitted offered notOffered verdict entered outcomeAt outcome
+unfolding ones onesIn rowsBefore gapOf rowsOf joined packed allZero same hasKey numberedAs placeFrom firstRow some every without distinctNumbers stored unionOf withRow bit bits has resourceOf word sender payloadOf nil isNil ownerBody stateBody credStorable setKnown subjectStorable aceStorable rowsIn rowsSound headSound sound fresh rowOwner subjectFits resourceFits rowFits gives names isOwner byOwner byNoOwner effectiveOf permission ownBody rowBytes contents reads replyOf tooShort ifAllowed updateDoxm updatePstat updateRows updateAction deleteNumber deleteAces deleteCreds deleteAction readAction securityAction action writeAllowed moveListed moveAllowed badLength noVerb zeroBitSet mismatch unknownResource noCredential noEndpoint notPermitted offered notOffered verdict entered outcomeAt outcome
 definitions = tt
 
 -- a record with a buffer that fits any reply
@@ -172,7 +174,7 @@ pub crowded : Tables
 crowded = withState (withOwner (withRows Creds (withRows Aces fresh (aceRows 32)) (credRows 24)) 1 uuid) 3
 
 -- RETRIEVE of resource 8 by the owner's credential 5
-pub crowded-read : replyTo crowded (lent (0x32 ∷ 0x00 ∷ 0x00 ∷ 0x05 ∷ 0x77 ∷ [])) ≡ record { answer = 0; permission = 2; payload = 0x77 ∷ []; contents = [] }
+pub crowded-read : replyTo crowded (lent (0x32 ∷ 0x00 ∷ 0x00 ∷ 0x05 ∷ 0x77 ∷ [])) ≡ record { answer = 0; permission = 2; payload = 0x77 ∷ []; contents = []; places = nowhere }
 unfolding definitions crowded aceRows aceRow weight credRows credRow uuid
 crowded-read = refl
 
@@ -245,6 +247,23 @@ pub subject-answers :
     ≡ 0 ∷ 13 ∷ 10 ∷ 10 ∷ []
 unfolding definitions several deletes haulierRow owned5 uuid credRow
 subject-answers = refl
+
+-- ---- places (U4): of the same deletes, of one row by its number, of all rows, and of all rows of an empty table
+
+pub at-places : ℕ → ℕ → Places
+at-places first many = record { first = first; many = many }
+
+pub places-told :
+    replyTo several (deletes (replicate 16 0x22)) .places
+    ∷ replyTo several (deletes (0x00 ∷ 0x04 ∷ [])) .places
+    ∷ replyTo several (deletes (0x00 ∷ 0x06 ∷ [])) .places
+    ∷ replyTo several (deletes []) .places
+    ∷ replyTo several (lent (0x70 ∷ 0xc0 ∷ 0x00 ∷ 0x05 ∷ [])) .places
+    ∷ replyTo several (deletes (0x00 ∷ 0x09 ∷ [])) .places
+    ∷ []
+    ≡ at-places 0 4 ∷ at-places 2 2 ∷ at-places 3 1 ∷ at-places 0 4 ∷ nowhere ∷ nowhere ∷ []
+unfolding definitions several deletes haulierRow owned5 uuid credRow at-places
+places-told = refl
 
 -- ---- demand 3 is not empty: partner 7, a haulier who may read resource 8, is chosen, and the unauthenticated senders with it
 

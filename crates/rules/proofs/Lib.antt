@@ -1,4 +1,4 @@
--- The laws of the definitions, and the theorems over them: Refusals, SoundKept, ReadBack, Isolated, Built, Examples.
+-- The laws of the definitions, and the theorems over them: Refusals, SoundKept, ReadBack, Gaps, Isolated, Built, Examples.
 pub mod Bools
 pub mod BitLaws
 pub mod RecordLaws
@@ -12,6 +12,7 @@ pub mod Simulation
 pub mod PermissionLaws
 pub mod SoundKept
 pub mod ReadBack
+pub mod Gaps
 pub mod Isolated
 pub mod Built
 pub mod Examples

@@ -1,5 +1,5 @@
 -- Theorems, demand 1: each record has exactly one outcome, permitted or the first of the numbered refusals that applies.
--- A refusal hands back the same tables, permission 0, the empty payload and no reply.
+-- A refusal hands back the same tables, permission 0, the empty payload, no reply and no places.
 use Prim.Native.Nat.{ℕ, zero, suc}
 use native.Mathlib.Omega.{arith}
 use mathlib.Core.Path.{_≡_, refl, sym, ap, _∙_}
@@ -13,6 +13,7 @@ use Rattle.rules.specs.declared.Check.{Check}
 use Rattle.rules.specs.declared.Check.the-variants.{Pass, Refuse}
 use Rattle.rules.specs.Record.{Request, payloadOf}
 use Rattle.rules.specs.Permission.{permission}
+use Rattle.rules.specs.Places.{nowhere}
 use Rattle.rules.specs.Checks.{checks, verdict}
 use Rattle.rules.specs.Outcome.{Outcome, outcome, outcomeAt, outcomeOf, payloadAt, replyTo, tablesAfter}
 use Rattle.rules.proofs.Bools.{contradiction}
@@ -107,12 +108,12 @@ refused-is t q n = go (verdict (checks t (permission t (q .bytes)) q)) refl
 
 -- ---- a refusal
 
--- any answer but 0 goes with permission 0, the empty payload, no reply and the same tables
-pub refusal-is : (t : Tables) (q : Request) (n : ℕ) → replyTo t q .answer ≡ suc n → outcome t q ≡ record { reply = record { answer = suc n; permission = 0; payload = []; contents = [] }; tables = t }
+-- any answer but 0 goes with permission 0, the empty payload, no reply, no places and the same tables
+pub refusal-is : (t : Tables) (q : Request) (n : ℕ) → replyTo t q .answer ≡ suc n → outcome t q ≡ record { reply = record { answer = suc n; permission = 0; payload = []; contents = []; places = nowhere }; tables = t }
 unfolding outcome outcomeAt
 refusal-is t q n = go (verdict (checks t (permission t (q .bytes)) q))
   where
-    go : (c : Check) → outcomeOf t (permission t (q .bytes)) (q .bytes) c .reply .answer ≡ suc n → outcomeOf t (permission t (q .bytes)) (q .bytes) c ≡ record { reply = record { answer = suc n; permission = 0; payload = []; contents = [] }; tables = t }
+    go : (c : Check) → outcomeOf t (permission t (q .bytes)) (q .bytes) c .reply .answer ≡ suc n → outcomeOf t (permission t (q .bytes)) (q .bytes) c ≡ record { reply = record { answer = suc n; permission = 0; payload = []; contents = []; places = nowhere }; tables = t }
     go Pass e = absurd (omega arith)
     go (Refuse m) e = rw e
 
@@ -126,6 +127,6 @@ payload-is t q = go (verdict (checks t (permission t (q .bytes)) q)) refl
     go (Refuse n) e = rw (refused-number (checks t (permission t (q .bytes)) q) n refl e)
 
 -- tables that are not sound: each record gets 1, and they are handed back as they are
-pub unsound-refused : (t : Tables) (q : Request) → sound t ≡ false → outcome t q ≡ record { reply = record { answer = 1; permission = 0; payload = []; contents = [] }; tables = t }
+pub unsound-refused : (t : Tables) (q : Request) → sound t ≡ false → outcome t q ≡ record { reply = record { answer = 1; permission = 0; payload = []; contents = []; places = nowhere }; tables = t }
 unfolding outcome outcomeAt verdict
 unsound-refused t q e = rw e

@@ -9,6 +9,7 @@ pub mod Permission
 pub mod Action
 pub mod States
 pub mod Reading
+pub mod Places
 pub mod Checks
 pub mod Outcome
 pub mod Run

@@ -114,10 +114,18 @@ pub enum Action {
     Malformed,
 }
 
-// What is said of a record: the answer's number, the permission, the length of the reply in the lent buffer, and the tables afterwards.
+// Places of a table of rows: the first, counted from 0, and how many.
+#[repr(C)]
+pub struct Places {
+    pub first: usize,
+    pub many: usize,
+}
+
+// What is said of a record: the answer's number, the permission, the length of the reply in the lent buffer, the places to store, and the tables afterwards.
 pub struct Judgement {
     pub answer: u8,
     pub permission: u8,
     pub length: usize,
+    pub places: Places,
     pub tables: Tables,
 }

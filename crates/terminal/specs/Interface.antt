@@ -17,5 +17,7 @@ exported o = record {
   start = startOf (length (o .reply .payload));
   length = length (o .reply .payload);
   reply = length (o .reply .contents);
+  first = o .reply .places .first;
+  many = o .reply .places .many;
   tables = o .tables;
 }

@@ -9,7 +9,8 @@ ghost use Rattle.rules.specs.Reading.{filled};
 ghost use Rattle.rules.specs.Outcome.{outcome, replyTo};
 ghost use Rattle.terminal.specs.Interface.{exported, startOf};
 
-// What becomes of a record. Without a payload both its start and its length are 0; `reply` is the length written to the lent buffer.
+// What becomes of a record. Without a payload both its start and its length are 0; `reply` is the length written to the lent buffer;
+// `first` and `many` are the places of the table to store after a DELETE.
 #[repr(C)]
 pub struct Outcome {
     pub answer: u8,
@@ -17,6 +18,8 @@ pub struct Outcome {
     pub start: usize,
     pub length: usize,
     pub reply: usize,
+    pub first: usize,
+    pub many: usize,
     pub tables: Tables,
 }
 
@@ -54,6 +57,7 @@ pub extern "C" fn tillerclover_judge(t: Tables, record: &[u8], reply: &mut [u8])
 {
     let j = judge::judge(t, record, reply);
     let next = j.tables;
+    let places = j.places;
     let answer = j.answer;
     let length = judge::payload(record, answer).len();
     Outcome {
@@ -62,6 +66,8 @@ pub extern "C" fn tillerclover_judge(t: Tables, record: &[u8], reply: &mut [u8])
         start: start_of(length),
         length: length,
         reply: j.length,
+        first: places.first,
+        many: places.many,
         tables: next,
     }
 }

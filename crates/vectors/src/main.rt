@@ -4,6 +4,7 @@ use fields::after;
 use fields::part;
 use fields::word;
 use rules::Judgement;
+use rules::Places;
 use rules::Tables;
 
 // What is held from entry to entry.
@@ -106,11 +107,11 @@ fn entry_size(s: &[u8]) -> usize {
     }
 }
 
-// Tag, length and bytes of the record, room, answer, permission, payload start and length, length and bytes of the reply.
+// Tag, length and bytes of the record, room, answer, permission, payload start and length, length of the reply, first place and how many, the reply.
 fn record_size(s: &[u8]) -> usize {
     let length = word(after(s, 1)) as usize;
     let reply = word(after(after(s, 11), length)) as usize;
-    13 + length + reply
+    15 + length + reply
 }
 
 fn entry_done(p: Progress, s: &[u8]) -> Progress {
@@ -157,6 +158,7 @@ fn judged(p: Progress, s: &[u8]) -> Progress {
     next.records = more(p.records);
     if same_outcome(answer, j.permission, payload, record, expected)
         & same_reply(j.length, &buffer, after(expected, 6))
+        & same_places(j.places, after(expected, 8))
     {
         next
     } else {
@@ -172,12 +174,17 @@ fn judge_within(t: Tables, record: &[u8], buffer: &mut [u8], room: usize) -> Jud
     judge::judge(t, record, &mut buffer[..room])
 }
 
-// Whether the reply is the one behind its length, and the buffer is as before behind it.
+// Whether the reply is the one behind its length and the places, and the buffer is as before behind it.
 fn same_reply(length: usize, buffer: &[u8], expected: &[u8]) -> bool {
-    let reply = part(expected, 2, word(expected) as usize);
+    let reply = part(expected, 4, word(expected) as usize);
     let mut filled = [165u8; 1000];
     fill(&mut filled, reply);
     (length == reply.len()) & rows::same_bytes(buffer, &filled)
+}
+
+// Whether the first place to store and how many are those of these bytes.
+fn same_places(p: Places, expected: &[u8]) -> bool {
+    (p.first == byte_at(expected, 0) as usize) & (p.many == byte_at(expected, 1) as usize)
 }
 
 // Whether an outcome is the one of these bytes: answer, permission, payload start and payload length.

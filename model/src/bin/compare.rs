@@ -17,8 +17,8 @@ compare --replay HEX_TABLES:HEX_RECORD:ROOM
 
 Judges the same records on the same tables by the library and by the model,
 and compares answer, permission, payload, length of the reply, every byte of
-the lent buffer (and some behind it) and every byte of the tables; fresh tables
-and the clear button too.
+the lent buffer (and some behind it), the places to store after a delete and
+every byte of the tables; fresh tables and the clear button too.
 
   --records N   so many records (default 300000)
   --seed S      another choice of records (default 1)

@@ -16,6 +16,8 @@ use Rattle.rules.specs.Record.{Request, asked, body}
 use Rattle.rules.specs.Tables.{sound}
 use Rattle.rules.specs.Permission.{permission}
 use Rattle.rules.specs.Action.{action}
+use Rattle.rules.specs.declared.Places.{Places}
+use Rattle.rules.specs.Places.{placesOf}
 use Rattle.rules.specs.Reading.{replyOf, tooShort, filled}
 use Rattle.rules.specs.Checks.{verdict, numberOf, formChecks, requestChecks, roomChecks, checks}
 use Rattle.rules.specs.Outcome.{outcome, outcomeAt, outcomeOf, replyTo, judgementOf, refusal, effect}
@@ -37,11 +39,11 @@ module _ (t : Tables) (q : Request) where
   turned c n j b e v r = (r ∙ rw (← v, e), ap (held b) (sym e ∙ v))
 
   -- a permit: what is said, and the buffer holds the reply
-  let-through : (p l : ℕ) (next : Tables) (b b′ : List ℕ) → p ≡ permission t (q .bytes) → l ≡ length (replyOf t (q .bytes)) → Pass ≡ verdict (checks t (permission t (q .bytes)) q)
-      → next ≡ effect t (body (q .bytes)) (action (q .bytes)) → b′ ≡ filled b (replyOf t (q .bytes))
-      → (record { answer = 0; permission = p; length = l; tables = next } ≡ judgementOf (outcome t q)) × (b′ ≡ filled b (replyTo t q .contents))
+  let-through : (p l : ℕ) (g : Places) (next : Tables) (b b′ : List ℕ) → p ≡ permission t (q .bytes) → l ≡ length (replyOf t (q .bytes)) → Pass ≡ verdict (checks t (permission t (q .bytes)) q)
+      → g ≡ placesOf t (body (q .bytes)) (action (q .bytes)) → next ≡ effect t (body (q .bytes)) (action (q .bytes)) → b′ ≡ filled b (replyOf t (q .bytes))
+      → (record { answer = 0; permission = p; length = l; places = g; tables = next } ≡ judgementOf (outcome t q)) × (b′ ≡ filled b (replyTo t q .contents))
   unfolding outcome outcomeAt
-  let-through p l next b b′ e k v f g = (rw (← v, e, k, f), g ∙ ap (held b) v)
+  let-through p l g next b b′ e k v n f w = (rw (← v, e, k, n, f), w ∙ ap (held b) v)
 
 -- a reply that fits fills the buffer from its start
 fills : (b b′ s : List ℕ) (r : ℕ) → length s ≤ length b → Puts b 0 s b′ r → b′ ≡ filled b s
@@ -127,23 +129,29 @@ reply-fits c =
     let s = start (before-room room .before .before .before) in
     ltb-false _ _ (passed (roomChecks (s .args .t) (request s)) (sym (room-checked room) ∙ c .enum-told5 .given .1) 15)
 
+places-of-requires : tie.Need-places-of-requires
+places-of-requires c κs =
+    let call = before-room (fitted (c .before .before) .before .before) in
+    (is-sound (call .before .before .before), call .before .action-of .ensures)
+
 apply-requires : tie.Need-apply-requires
 apply-requires c κs =
-    let call = before-room (fitted (c .before .before) .before .before) in
+    let call = before-room (fitted (c .before .before .before) .before .before) in
     let s = start (call .before .before .before) in
-    (is-sound (call .before .before .before), call .before .action-of .ensures, passed (requestChecks (s .args .t) (call .before .before .effective .result) (now (s .args .«record»)) (call .before .action-of .result)) (sym (call .check-request .ensures) ∙ (fitted (c .before .before) .before .before .before .before .enum-told3 .given .1)) 14)
+    (is-sound (call .before .before .before), call .before .action-of .ensures, passed (requestChecks (s .args .t) (call .before .before .effective .result) (now (s .args .«record»)) (call .before .action-of .result)) (sym (call .check-request .ensures) ∙ (fitted (c .before .before .before) .before .before .before .before .enum-told3 .given .1)) 14)
 
 same-length : tie.Need-same-length
-same-length c = puts-length (c .before .before .before .put-reply .ensures)
+same-length c = puts-length (c .before .before .before .before .put-reply .ensures)
 
 returns-4 : tie.Need-returns-4
 returns-4 c =
-    let wrote = c .before .before .before in
+    let wrote = c .before .before .before .before in
     let fit = fitted wrote in
     let room = fit .before .before in
     let call = before-room room in
     let s = start (call .before .before .before) in
-    let-through (s .args .t) (request s) _ _ _ _ _ (call .before .before .effective .ensures) (room .before .reply-length .ensures) (sym (fit .enum-told5 .given .1) ∙ whole room)
+    let-through (s .args .t) (request s) _ _ _ _ _ _ (call .before .before .effective .ensures) (room .before .reply-length .ensures) (sym (fit .enum-told5 .given .1) ∙ whole room)
+    (c .before .places-of .ensures ∙ ap (placesOf (s .args .t) (body (now (s .args .«record»)))) (call .before .action-of .ensures))
     (c .apply .ensures ∙ ap (effect (s .args .t) (body (now (s .args .«record»)))) (call .before .action-of .ensures))
     (fills _ _ _ _ (reply-fits fit) (wrote .put-reply .ensures))
 
@@ -155,6 +163,7 @@ judge-spec =
     (λ c κs. search needs) (λ c κs. search needs) check-request-requires
     (λ c. search needs) (λ c. search needs) (λ c κs. search needs) returns-2
     (λ c κs. search needs) (λ c κs. search needs) (λ c. search needs) (λ c. search needs) (λ c κs. search needs) returns-3
-    (λ c κs. search needs) apply-requires
+    (λ c κs. search needs) places-of-requires
+    apply-requires
     same-length
     returns-4)

@@ -15,12 +15,12 @@ use Rattle.terminal.proofs.tillerclover_judge.Statement.{statement}
 use Rattle.terminal.proofs.tillerclover_judge.Tie as tie
 
 told : (t : Tables) (q : Request) (j : Judgement) (p : List ℕ) (s : ℕ) → j ≡ judgementOf (outcome t q) → p ≡ payloadAt (j .answer) (q .bytes) → s ≡ startOf (length p)
-    → record { answer = j .answer; permission = j .permission; start = s; length = length p; reply = j .length; tables = j .tables } ≡ exported (outcome t q)
+    → record { answer = j .answer; permission = j .permission; start = s; length = length p; reply = j .length; first = j .places .first; many = j .places .many; tables = j .tables } ≡ exported (outcome t q)
 told t q j p s e f g = rw (g, f, e, payload-is t q)
 
 -- back to the call of the judge
 abbrev call : tie.After-start-of → tie.After-judge
-call c = c .before .before .before .before .before
+call c = c .before .before .before .before .before .before
 
 returns : tie.Need-returns
 returns c =
