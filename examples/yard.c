@@ -18,6 +18,9 @@ static const uint8_t OWNER_UUID[TILLERCLOVER_UUID_LENGTH] = {0x5b, 0x0d, 0x3a, 0
 static const uint8_t HAULIER_UUID[TILLERCLOVER_UUID_LENGTH] = {0xc4, 0x71, 0x0e, 0x95, 0x33, 0xda, 0x48, 0x02,
                                                                0xb6, 0x5f, 0x87, 0x1b, 0x2e, 0x60, 0xf9, 0xad};
 
+/* The yard's build has no default rows; the maker's, further down, has some. */
+static const uint8_t NONE[1] = {0};
+
 static const char *const ANSWERS[] = {
     "permitted",
     "tables not sound",
@@ -154,7 +157,7 @@ static uint8_t reply[TILLERCLOVER_REPLY_MAX];
 
 static tillerclover_outcome judge(tillerclover_tables t, struct record r)
 {
-    return tillerclover_judge(t, r.bytes, r.length, reply, sizeof reply);
+    return tillerclover_judge(t, NONE, 0, NONE, 0, r.bytes, r.length, reply, sizeof reply);
 }
 
 /* The tables after a record that must be permitted. */
@@ -187,8 +190,8 @@ static void whole_tables(void)
 {
     tillerclover_tables worn, cleared, fresh, expected;
     memset(&worn, 0xFF, sizeof worn);
-    cleared = tillerclover_clear(worn);
-    fresh = tillerclover_fresh();
+    cleared = tillerclover_clear(worn, NONE, 0, NONE, 0);
+    fresh = tillerclover_fresh(NONE, 0, NONE, 0);
     memset(&expected, 0, sizeof expected);
     expected.state = TILLERCLOVER_RFOTM;
     expect(same(&cleared, &expected), "tables are not fresh after clearing");
@@ -208,7 +211,7 @@ static void refused_tables(void)
 /* Each field is written by the library and read here by its name. */
 static void each_field(void)
 {
-    tillerclover_tables expected = tillerclover_fresh();
+    tillerclover_tables expected = tillerclover_fresh(NONE, 0, NONE, 0);
     tillerclover_tables t = expected;
     struct record r;
     for (unsigned i = 0; i < TILLERCLOVER_ROW_OWNERS; i++) {
@@ -271,7 +274,7 @@ static void each_field(void)
 /* The longest reply in a buffer that just fits, and in one that just does not; the bytes behind it stay. */
 static void buffers(void)
 {
-    tillerclover_tables t = tillerclover_fresh();
+    tillerclover_tables t = tillerclover_fresh(NONE, 0, NONE, 0);
     uint8_t buffer[TILLERCLOVER_REPLY_MAX + 1], before[sizeof buffer];
     struct record r;
     for (unsigned i = 0; i < TILLERCLOVER_ACE_CAPACITY; i++) {
@@ -280,10 +283,10 @@ static void buffers(void)
     r = header(TILLERCLOVER_RETRIEVE, TILLERCLOVER_ACL2, 0);
     memset(buffer, 0xA5, sizeof buffer);
     memset(before, 0xA5, sizeof before);
-    tillerclover_outcome o = tillerclover_judge(t, r.bytes, r.length, buffer, TILLERCLOVER_REPLY_MAX - 1);
+    tillerclover_outcome o = tillerclover_judge(t, NONE, 0, NONE, 0, r.bytes, r.length, buffer, TILLERCLOVER_REPLY_MAX - 1);
     expect(o.answer == TILLERCLOVER_NO_ROOM && o.reply == 0, "a reply was put into a buffer that is too short");
     expect(memcmp(buffer, before, sizeof buffer) == 0, "a refusal wrote into the buffer");
-    o = tillerclover_judge(t, r.bytes, r.length, buffer, TILLERCLOVER_REPLY_MAX);
+    o = tillerclover_judge(t, NONE, 0, NONE, 0, r.bytes, r.length, buffer, TILLERCLOVER_REPLY_MAX);
     expect(o.answer == TILLERCLOVER_PERMITTED && o.reply == TILLERCLOVER_REPLY_MAX, "the longest reply has another length");
     memcpy(before, t.rowners + TILLERCLOVER_ACL2 * TILLERCLOVER_UUID_LENGTH, TILLERCLOVER_UUID_LENGTH);
     memcpy(before + TILLERCLOVER_UUID_LENGTH, t.aces, sizeof t.aces);
@@ -295,12 +298,12 @@ static void no_bytes(void)
 {
     static const uint8_t nothing[1];
     uint8_t empty[1];
-    tillerclover_outcome o = tillerclover_judge(tillerclover_fresh(), nothing, 0, empty, 0);
+    tillerclover_outcome o = tillerclover_judge(tillerclover_fresh(NONE, 0, NONE, 0), NONE, 0, NONE, 0, nothing, 0, empty, 0);
     expect(o.answer == TILLERCLOVER_BAD_LENGTH, "an empty record was not refused for its length");
-    o = tillerclover_judge(tillerclover_fresh(), NULL, 0, NULL, 0);
+    o = tillerclover_judge(tillerclover_fresh(NONE, 0, NONE, 0), NONE, 0, NONE, 0, NULL, 0, NULL, 0);
     expect(o.answer == TILLERCLOVER_BAD_LENGTH, "a null record was not refused for its length");
     struct record r = header(TILLERCLOVER_RETRIEVE, TILLERCLOVER_CRED, 0);
-    o = tillerclover_judge(tillerclover_fresh(), r.bytes, r.length, NULL, 0);
+    o = tillerclover_judge(tillerclover_fresh(NONE, 0, NONE, 0), NONE, 0, NONE, 0, r.bytes, r.length, NULL, 0);
     expect(o.answer == TILLERCLOVER_NO_ROOM, "a reply was put into no buffer");
 }
 
@@ -350,6 +353,19 @@ static void print_creds(size_t length)
     }
 }
 
+/* A build whose clear brings back the service tool's credential, and an access row for it. */
+static void maker(tillerclover_tables t)
+{
+    struct record cred = store_cred(0, OWNER, OWNER_UUID);
+    struct record ace = store_ace(0, 1, TILLERCLOVER_MAY_RETRIEVE, TILLERCLOVER_WEIGHT, OWNER_UUID);
+    const uint8_t *creds = cred.bytes + TILLERCLOVER_HEADER_LENGTH;
+    const uint8_t *aces = ace.bytes + TILLERCLOVER_HEADER_LENGTH;
+    t = tillerclover_clear(t, creds, TILLERCLOVER_CRED_LENGTH, aces, TILLERCLOVER_ACE_LENGTH);
+    printf("the maker's clear: %u credential and %u access row\n", t.ncreds, t.naces);
+    t = tillerclover_clear(t, creds, TILLERCLOVER_CRED_LENGTH - 1, aces, TILLERCLOVER_ACE_LENGTH);
+    printf("with half a row in the first list: %u and %u\n", t.ncreds, t.naces);
+}
+
 int main(void)
 {
     whole_tables();
@@ -360,7 +376,7 @@ int main(void)
     printf("layout: %zu bytes of tables in an outcome of %zu, as in the library\n", sizeof(tillerclover_tables),
            sizeof(tillerclover_outcome));
 
-    tillerclover_tables t = tillerclover_fresh();
+    tillerclover_tables t = tillerclover_fresh(NONE, 0, NONE, 0);
     call(&t, "a new terminal takes the owner's credential", store_cred(0, OWNER, OWNER_UUID));
     call(&t, "and gets its owner", set_owner(0, OWNER_UUID));
     call(&t, "the owner moves it to RFPRO", set_state(OWNER, TILLERCLOVER_RFPRO));
@@ -403,5 +419,6 @@ int main(void)
     call(&t, "the haulier writes the tare", tare);
     tare.bytes[3] = HAULIER_SPARE;
     call(&t, "also with the spare credential", tare);
+    maker(t);
     return 0;
 }

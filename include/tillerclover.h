@@ -38,6 +38,8 @@ enum {
     /* rows */
     TILLERCLOVER_CRED_CAPACITY = 24,
     TILLERCLOVER_ACE_CAPACITY = 32,
+    /* rows of a list of default rows */
+    TILLERCLOVER_DEFAULTS_MAX = 2,
     /* resources that have a row owner: doxm, pstat, cred and acl2 */
     TILLERCLOVER_ROW_OWNERS = 4,
     /* the longest reply: a row owner and all access rows */
@@ -46,7 +48,7 @@ enum {
 
 /* ---- Numbers in tables and records */
 
-/* Device states. RESET is a target only: entering it gives the fresh tables. */
+/* Device states. RESET is a target only: entering it gives the fresh tables, with the default rows. */
 enum tillerclover_state {
     TILLERCLOVER_RESET = 0,
     TILLERCLOVER_RFOTM = 1,
@@ -188,11 +190,23 @@ typedef struct tillerclover_outcome {
 
 /* ---- Functions */
 
-/* The tables of a new terminal: state RFOTM, no owner, no rows. */
-tillerclover_tables tillerclover_fresh(void);
+/* The build's default rows.
+ *
+ * Each function takes them as two lists: `creds`, rows of TILLERCLOVER_CRED_LENGTH bytes one after
+ * the other, and `aces`, rows of TILLERCLOVER_ACE_LENGTH bytes, each in the form of its body, with
+ * the length of the list in bytes. A list has at most TILLERCLOVER_DEFAULTS_MAX rows. One with more,
+ * with a row that no record could store, with a number twice or with half a row counts as none, by
+ * itself and wholly. Hand every call of a terminal the same lists: they belong to its build. A list
+ * of length 0 is none; its pointer is treated as that of a record of length 0.
+ */
+
+/* The tables of a new terminal: state RFOTM, no owner, the default rows. */
+tillerclover_tables tillerclover_fresh(const uint8_t *creds, size_t creds_length, const uint8_t *aces,
+                                       size_t aces_length);
 
 /* The clear button: the tables of a new terminal, whatever the content of `tables`. */
-tillerclover_tables tillerclover_clear(tillerclover_tables tables);
+tillerclover_tables tillerclover_clear(tillerclover_tables tables, const uint8_t *creds, size_t creds_length,
+                                       const uint8_t *aces, size_t aces_length);
 
 /* Judges a record of `length` bytes on `tables`, with a buffer of `room` bytes for a reply.
  *
@@ -216,7 +230,8 @@ tillerclover_tables tillerclover_clear(tillerclover_tables tables);
  * Who sent the record is believed: the session layer vouches for the connection bit and the
  * credential number, and hands over no record whose number is another sender's.
  */
-tillerclover_outcome tillerclover_judge(tillerclover_tables tables, const uint8_t *record, size_t length,
+tillerclover_outcome tillerclover_judge(tillerclover_tables tables, const uint8_t *creds, size_t creds_length,
+                                        const uint8_t *aces, size_t aces_length, const uint8_t *record, size_t length,
                                         uint8_t *reply, size_t room);
 
 /* ---- The layout that the library has */

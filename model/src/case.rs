@@ -2,6 +2,7 @@
 
 use std::ops::Range;
 
+use crate::defaults::Defaults;
 use crate::hex;
 use crate::rules::{judge, Outcome, LONGEST_REPLY};
 use crate::tables::{
@@ -16,31 +17,48 @@ pub struct Case {
     pub record: Vec<u8>,
     /// The length of the buffer that is lent for a reply.
     pub room: usize,
+    /// The rows of fresh tables.
+    pub defaults: Defaults,
 }
 
 impl Case {
-    /// With a buffer that fits any reply.
+    /// With a buffer that fits any reply, and no default rows.
     pub fn new(tables: &Stored, record: &[u8]) -> Case {
-        Case { tables: *tables, record: record.to_vec(), room: LONGEST_REPLY }
+        Case { tables: *tables, record: record.to_vec(), room: LONGEST_REPLY, defaults: Defaults::none() }
     }
 
-    /// As one line: tables and record in hexadecimal digits, then the room,
-    /// with colons between.
+    /// As one line: tables and record in hexadecimal digits, the room, the two
+    /// default lists in hexadecimal digits, with colons between.
     pub fn line(&self) -> String {
-        format!("{}:{}:{}", hex::write(&self.tables), hex::write(&self.record), self.room)
+        format!(
+            "{}:{}:{}:{}:{}",
+            hex::write(&self.tables),
+            hex::write(&self.record),
+            self.room,
+            hex::write(&self.defaults.credentials),
+            hex::write(&self.defaults.accesses)
+        )
     }
 
     pub fn from_line(line: &str) -> Result<Case, String> {
         let parts: Vec<&str> = line.split(':').collect();
-        let [tables, record, room] = parts[..] else {
-            return Err(format!("a case is TABLES:RECORD:ROOM, but this has {} parts", parts.len()));
+        let [tables, record, room, credentials, accesses] = parts[..] else {
+            return Err(format!(
+                "a case is TABLES:RECORD:ROOM:CREDENTIALS:ACCESSES, but this has {} parts",
+                parts.len()
+            ));
         };
-        let tables = hex::read(tables).map_err(|fault| format!("the tables: {fault}"))?;
-        let record = hex::read(record).map_err(|fault| format!("the record: {fault}"))?;
+        let bytes = |text, name| hex::read(text).map_err(|fault| format!("the {name}: {fault}"));
+        let tables = bytes(tables, "tables")?;
+        let record = bytes(record, "record")?;
+        let defaults = Defaults {
+            credentials: bytes(credentials, "default credentials")?,
+            accesses: bytes(accesses, "default accesses")?,
+        };
         let length = tables.len();
         let tables = tables.try_into().map_err(|_| format!("the tables have {SIZE} bytes, but these are {length}"))?;
         let room = room.parse::<u16>().map_err(|_| format!("the room is a number up to 65535, not '{room}'"))?;
-        Ok(Case { tables, record, room: room.into() })
+        Ok(Case { tables, record, room: room.into(), defaults })
     }
 
     /// What is in the lent buffer before the record is judged, and behind it:
@@ -55,9 +73,11 @@ impl Case {
     }
 
     /// What shrinking makes smaller.
-    fn size(&self) -> (usize, usize, usize, usize) {
+    fn size(&self) -> [usize; 6] {
         let set = |bytes: &[u8]| bytes.iter().filter(|&&byte| byte != 0).count();
-        (self.record.len(), set(&self.record), set(&self.tables), self.room)
+        let Defaults { credentials, accesses } = &self.defaults;
+        let lists = credentials.len() + accesses.len();
+        [self.record.len(), set(&self.record), set(&self.tables), self.room, lists, set(credentials) + set(accesses)]
     }
 
     /// Cases a step smaller, the boldest first.
@@ -113,6 +133,12 @@ impl Case {
                 cases.push(Case { room, ..self.clone() });
             }
         }
+        for credentials in smaller_lists(&self.defaults.credentials, Credential::LENGTH) {
+            cases.push(Case { defaults: Defaults { credentials, ..self.defaults.clone() }, ..self.clone() });
+        }
+        for accesses in smaller_lists(&self.defaults.accesses, Access::LENGTH) {
+            cases.push(Case { defaults: Defaults { accesses, ..self.defaults.clone() }, ..self.clone() });
+        }
         cases
     }
 
@@ -125,6 +151,27 @@ impl Case {
         case.tables[count] = case.tables[count].saturating_sub(1);
         case
     }
+}
+
+/// Default lists a step smaller: none, a row less at either end, a byte less,
+/// a byte cleared.
+fn smaller_lists(list: &[u8], row: usize) -> Vec<Vec<u8>> {
+    let mut lists = Vec::new();
+    if list.is_empty() {
+        return lists;
+    }
+    lists.push(Vec::new());
+    if list.len() > row {
+        lists.push(list[row..].to_vec());
+        lists.push(list[..list.len() - row].to_vec());
+    }
+    lists.push(list[..list.len() - 1].to_vec());
+    for place in 0..list.len() {
+        let mut cleared = list.to_vec();
+        cleared[place] = 0;
+        lists.push(cleared);
+    }
+    lists
 }
 
 /// Makes a case smaller as long as it still differs.
@@ -185,11 +232,12 @@ impl Seen {
             && self.tables == other.tables
     }
 
-    /// In one line.
-    pub fn describe(&self, before: &Stored) -> String {
+    /// In one line, as the outcome of a case.
+    pub fn describe(&self, case: &Case) -> String {
+        let before = &case.tables;
         let tables = match first_change(before, &self.tables) {
             None => "tables unchanged".into(),
-            Some(_) if self.tables == fresh_bytes() => "tables fresh".into(),
+            Some(_) if self.tables == case.defaults.fresh().bytes() => "tables fresh".into(),
             Some(place) => {
                 let changed = (0..SIZE).filter(|&place| before[place] != self.tables[place]).count();
                 format!("tables changed in {changed} bytes, the first at {}", field(place))
@@ -243,14 +291,44 @@ mod tests {
     #[test]
     fn lines_read_and_write_alike() {
         let mut random = Random::new(5);
-        let case = Case { tables: generate::any_bytes(&mut random), record: random.bytes(9), room: 517 };
-        assert_eq!(Case::from_line(&case.line()), Ok(case.clone()));
-        assert!(Case::from_line("00:00").is_err());
-        assert!(Case::from_line("00:00:0").unwrap_err().contains("1484"));
-        assert!(Case::from_line("0g:00:0").is_err());
-        assert!(Case::from_line(&format!("{}0", case.line())).is_ok());
-        assert!(Case::from_line(&format!("{}x", case.line())).is_err());
-        assert!(Case::from_line(&format!("{}:", case.line())).is_err());
+        for _ in 0..20 {
+            let defaults = generate::defaults(&mut random);
+            let case = Case { tables: generate::any_bytes(&mut random), record: random.bytes(9), room: 517, defaults };
+            assert_eq!(Case::from_line(&case.line()), Ok(case.clone()));
+            assert!(Case::from_line(&format!("{}00", case.line())).is_ok());
+            assert!(Case::from_line(&format!("{}0", case.line())).is_err());
+            assert!(Case::from_line(&format!("{}x", case.line())).is_err());
+            assert!(Case::from_line(&format!("{}:", case.line())).is_err());
+            assert!(Case::from_line(&case.line().replace(":517:", ":5l7:")).is_err());
+        }
+        assert!(Case::from_line("00:00:0").is_err());
+        assert!(Case::from_line("00:00:0::").unwrap_err().contains("1484"));
+        assert!(Case::from_line("0g:00:0::").is_err());
+    }
+
+    #[test]
+    fn default_lists_shrink() {
+        // A program that takes the first two rows of a longer list.
+        let wrong = |case: &Case| {
+            let mut shorter = case.clone();
+            shorter.defaults.credentials.truncate(42);
+            shorter.expected()
+        };
+        let differs = |case: &Case| !wrong(case).same(&case.expected());
+        let mut random = Random::new(9);
+        let found = loop {
+            let tables = generate::any_sound(&mut random).bytes();
+            let record = generate::record(&mut random, Style::Purposeful, &tables);
+            let case = Case { defaults: generate::defaults(&mut random), ..Case::new(&tables, &record) };
+            if differs(&case) {
+                break case;
+            }
+        };
+        let small = shrink(found, differs);
+        assert_eq!(small.record.len(), 5);
+        assert_eq!(small.defaults.credentials.len(), 43);
+        assert!(small.defaults.accesses.is_empty());
+        assert!(differs(&small));
     }
 
     #[test]

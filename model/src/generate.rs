@@ -1,6 +1,7 @@
 //! Random tables and records. The same seed gives the same ones.
 
 use crate::case::Case;
+use crate::defaults::{join, Defaults, MOST};
 use crate::directory::{self, DIRECTORY};
 use crate::examples;
 use crate::random::Random;
@@ -193,6 +194,88 @@ pub fn any_bytes(random: &mut Random) -> Stored {
     stored
 }
 
+/// Default lists, each good or bad by itself.
+pub fn defaults(random: &mut Random) -> Defaults {
+    if random.chance(15) {
+        return Defaults::none();
+    }
+    let credentials = default_list(random, credential, &spoil::CREDENTIAL_FAULTS);
+    let accesses = default_list(random, access, &spoil::ACCESS_FAULTS);
+    Defaults { credentials, accesses }
+}
+
+fn default_list<R: Row>(
+    random: &mut Random,
+    draw: fn(&mut Random, &[u16]) -> R,
+    faults: &[spoil::RowFault],
+) -> Vec<u8> {
+    let rows = |random: &mut Random, count| {
+        let mut rows: Vec<R> = Vec::new();
+        for _ in 0..count {
+            let held: Vec<u16> = rows.iter().map(Row::number).collect();
+            rows.push(draw(random, &held));
+        }
+        join(&rows)
+    };
+    let some = random.between(1, MOST);
+    match random.below(26) {
+        0 | 1 => Vec::new(),
+        // More rows than two, up to more than the table has.
+        2 | 3 => {
+            let count = match random.below(4) {
+                0 => random.between(MOST + 1, R::CAPACITY + 1),
+                _ => MOST + 1,
+            };
+            rows(random, count)
+        }
+        // Forbidden rows.
+        4 | 5 => {
+            let mut list = rows(random, some);
+            let place = random.below(some) * R::LENGTH;
+            let (_, fault) = random.pick(faults);
+            fault(&mut list[place..place + R::LENGTH], random);
+            list
+        }
+        6 => {
+            // An unused row.
+            let mut list = rows(random, some);
+            let place = random.below(some) * R::LENGTH;
+            list[place..place + R::LENGTH].fill(0);
+            list
+        }
+        // A number twice.
+        7 | 8 => {
+            let mut list = rows(random, MOST);
+            list.copy_within(..2, R::LENGTH);
+            list
+        }
+        // Other lengths.
+        9 => {
+            let mut list = rows(random, some);
+            list.truncate(list.len() - random.between(1, R::LENGTH - 1));
+            list
+        }
+        10 => {
+            let mut list = rows(random, some);
+            let more = random.between(1, R::LENGTH - 1);
+            list.extend(random.bytes(more));
+            list
+        }
+        // Two faults, or none known.
+        11 => {
+            let length = random.pick(&[1, 2, 3]) * R::LENGTH;
+            random.bytes(length)
+        }
+        12 => {
+            let mut list = rows(random, some);
+            let place = random.below(list.len());
+            list[place] ^= 1 << random.below(8);
+            list
+        }
+        _ => rows(random, some),
+    }
+}
+
 /// How records are chosen.
 #[derive(Clone, Copy, Debug, PartialEq, Eq)]
 pub enum Style {
@@ -206,9 +289,11 @@ pub enum Style {
     Noise,
 }
 
-/// Tables to start from and how many records follow in which style.
+/// Tables to start from, default lists, and how many records follow in which
+/// style.
 pub struct Session {
     pub tables: Stored,
+    pub defaults: Defaults,
     pub style: Style,
     pub records: usize,
 }
@@ -235,8 +320,9 @@ pub fn session(random: &mut Random) -> Session {
         (2, Start::Noise),
     ]);
     let long = random.between(10, 120);
+    let defaults = defaults(random);
     let (tables, records) = match start {
-        Start::Fresh => (fresh_bytes(), long),
+        Start::Fresh => (defaults.fresh().bytes(), long),
         Start::Sound(fill) => (sound(random, fill).bytes(), long),
         Start::Unsound => {
             let mut stored = any_sound(random).bytes();
@@ -259,7 +345,7 @@ pub fn session(random: &mut Random) -> Session {
     };
     let style =
         random.weighted(&[(40, Style::Purposeful), (40, Style::Mixed), (15, Style::Damaged), (5, Style::Noise)]);
-    Session { tables, style, records }
+    Session { tables, defaults, style, records }
 }
 
 /// The next record, made with the present tables in view.
@@ -565,7 +651,7 @@ fn mixed(random: &mut Random, tables: &Tables) -> Vec<u8> {
         (if tables.credentials.len() == Credential::CAPACITY { 30 } else { 14 }, 2),
         (if tables.accesses.len() == Access::CAPACITY { 30 } else { 14 }, 3),
         (12, 4),
-        (1, 5),
+        (if tables.credentials.is_empty() || tables.accesses.is_empty() { 4 } else { 1 }, 5),
         (6, 6),
         (6, 7),
         (9, 8),
@@ -634,6 +720,7 @@ fn walk_groups(seed: u64, records: u64, visit: &mut impl FnMut(Part, &Case) -> S
     let mut random = Random::part(seed, 4);
     let mut left = records;
     for group in systematic::groups(seed) {
+        let defaults = group.defaults.unwrap_or_else(|| defaults(&mut random));
         for record in &group.records {
             if left == 0 {
                 return 0;
@@ -641,6 +728,7 @@ fn walk_groups(seed: u64, records: u64, visit: &mut impl FnMut(Part, &Case) -> S
             left -= 1;
             let mut case = Case::new(&group.tables, record);
             case.room = group.room.unwrap_or_else(|| room(&mut random, &case));
+            case.defaults = defaults.clone();
             visit(Part::Systematic(group.name), &case);
         }
     }
@@ -657,6 +745,7 @@ fn walk_sessions(seed: u64, mut left: u64, visit: &mut impl FnMut(Part, &Case) -
             left -= 1;
             let mut case = Case::new(&tables, &record(&mut random, session.style, &tables));
             case.room = room(&mut random, &case);
+            case.defaults = session.defaults.clone();
             tables = visit(Part::Random(session.style), &case);
         }
     }
@@ -747,7 +836,7 @@ fn append(input: &mut Vec<u8>, record: &[u8]) {
 #[cfg(test)]
 mod tests {
     use super::*;
-    use crate::histogram::{Histogram, Places, Replies, Subjects};
+    use crate::histogram::{Histogram, Places, Replies, Resets, Subjects};
     use crate::rules::LAST_ANSWER;
     use crate::run;
 
@@ -778,6 +867,8 @@ mod tests {
             assert!(several >= 100 && one >= 100 && none >= 200, "{histogram}");
             let Places { from_first, between, last, none } = histogram.places;
             assert!(from_first >= 100 && between >= 100 && last >= 100 && none >= 20, "{histogram}");
+            let Resets { no_lists, good, bad } = histogram.resets;
+            assert!(no_lists >= 20 && good >= 50 && bad >= 50, "{histogram}");
         }
     }
 

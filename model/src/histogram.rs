@@ -1,9 +1,11 @@
 //! How often each answer came, what was permitted, how the replies fitted, how
-//! many rows the deletes by subject found, and which places deletes report.
+//! many rows the deletes by subject found, which places deletes report, and
+//! which default rows resets gave.
 
 use std::fmt;
 
 use crate::case::Case;
+use crate::defaults::Defaults;
 use crate::directory::{Security, DIRECTORY};
 use crate::record::{Header, Verb, HEADER};
 use crate::rules::{judge, Outcome, Refusal, LAST_ANSWER, LONGEST_REPLY};
@@ -17,6 +19,18 @@ pub struct Histogram {
     pub replies: Replies,
     pub subjects: Subjects,
     pub places: Places,
+    pub resets: Resets,
+}
+
+/// Permitted resets, by the default lists.
+#[derive(Clone, Default)]
+pub struct Resets {
+    /// Both lists are empty.
+    pub no_lists: u64,
+    /// Good ones with a row at least.
+    pub good: u64,
+    /// A list counts as none, or both.
+    pub bad: u64,
 }
 
 /// Permitted deletes of security rows, by the places they report.
@@ -89,6 +103,13 @@ impl Histogram {
                 _ => self.places.between += 1,
             }
         }
+        if outcome.answer == 0 && outcome.payload.start == 0 && is_reset(record) {
+            match &case.defaults {
+                defaults if *defaults == Defaults::none() => self.resets.no_lists += 1,
+                defaults if defaults.bad() => self.resets.bad += 1,
+                _ => self.resets.good += 1,
+            }
+        }
         if outcome.answer == 0 && record.len() >= HEADER {
             let header = Header::read(record);
             let resource = DIRECTORY.iter().position(|resource| resource.number == header.resource);
@@ -101,6 +122,12 @@ impl Histogram {
     pub fn total(&self) -> u64 {
         self.answers.iter().sum()
     }
+}
+
+fn is_reset(record: &[u8]) -> bool {
+    let header = Header::read(record);
+    let target = header.verb == Verb::Update as u8 && header.resource == Security::Pstat as u8;
+    target && record[HEADER..] == [0]
 }
 
 fn is_delete_of_credentials(record: &[u8]) -> bool {
@@ -140,6 +167,8 @@ impl fmt::Display for Histogram {
         writeln!(
             out,
             "places to store: {from_first} from the first on, {between} from between, {last} last, {none} none"
-        )
+        )?;
+        let Resets { no_lists, good, bad } = self.resets;
+        writeln!(out, "resets: {no_lists} without default rows, {good} with good lists, {bad} with a bad one")
     }
 }

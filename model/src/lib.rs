@@ -7,6 +7,7 @@
 
 // The rules.
 pub mod bits;
+pub mod defaults;
 pub mod directory;
 pub mod record;
 pub mod rules;

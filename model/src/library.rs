@@ -3,6 +3,7 @@
 use std::ops::Range;
 
 use crate::case::{Case, Seen, BEHIND};
+use crate::defaults::Defaults;
 use crate::tables::{self, Stored};
 
 #[repr(C)]
@@ -34,9 +35,25 @@ const _: () = assert!(size_of::<Tables>() == tables::SIZE);
 
 #[link(name = "terminal", kind = "static")]
 extern "C" {
-    fn tillerclover_fresh() -> Tables;
-    fn tillerclover_clear(t: Tables) -> Tables;
-    fn tillerclover_judge(t: Tables, record: *const u8, length: usize, reply: *mut u8, room: usize) -> Outcome;
+    fn tillerclover_fresh(creds: *const u8, creds_length: usize, aces: *const u8, aces_length: usize) -> Tables;
+    fn tillerclover_clear(
+        t: Tables,
+        creds: *const u8,
+        creds_length: usize,
+        aces: *const u8,
+        aces_length: usize,
+    ) -> Tables;
+    fn tillerclover_judge(
+        t: Tables,
+        creds: *const u8,
+        creds_length: usize,
+        aces: *const u8,
+        aces_length: usize,
+        record: *const u8,
+        length: usize,
+        reply: *mut u8,
+        room: usize,
+    ) -> Outcome;
 }
 
 impl Tables {
@@ -70,28 +87,51 @@ impl Tables {
     }
 }
 
-pub fn fresh() -> Stored {
-    // Takes nothing and gives bytes.
-    unsafe { tillerclover_fresh() }.bytes()
+// Each call takes and gives bytes, any of which are allowed; the pointers and lengths are those of living slices.
+
+pub fn fresh(defaults: &Defaults) -> Stored {
+    let Defaults { credentials, accesses } = defaults;
+    unsafe { tillerclover_fresh(credentials.as_ptr(), credentials.len(), accesses.as_ptr(), accesses.len()) }.bytes()
 }
 
-pub fn clear(stored: &Stored) -> Stored {
-    // Takes and gives bytes, any of which are allowed.
-    unsafe { tillerclover_clear(Tables::from_bytes(stored)) }.bytes()
+pub fn clear(case: &Case) -> Stored {
+    let Defaults { credentials, accesses } = &case.defaults;
+    unsafe {
+        tillerclover_clear(
+            Tables::from_bytes(&case.tables),
+            credentials.as_ptr(),
+            credentials.len(),
+            accesses.as_ptr(),
+            accesses.len(),
+        )
+    }
+    .bytes()
 }
 
 /// One call, as a C program makes it.
 #[inline]
-pub fn decide(tables: &Tables, record: &[u8], reply: &mut [u8]) -> Outcome {
-    // The pointers and the lengths are those of living slices.
-    unsafe { tillerclover_judge(*tables, record.as_ptr(), record.len(), reply.as_mut_ptr(), reply.len()) }
+pub fn decide(tables: &Tables, defaults: &Defaults, record: &[u8], reply: &mut [u8]) -> Outcome {
+    let Defaults { credentials, accesses } = defaults;
+    unsafe {
+        tillerclover_judge(
+            *tables,
+            credentials.as_ptr(),
+            credentials.len(),
+            accesses.as_ptr(),
+            accesses.len(),
+            record.as_ptr(),
+            record.len(),
+            reply.as_mut_ptr(),
+            reply.len(),
+        )
+    }
 }
 
 /// The same in the model's terms.
 pub fn judge(case: &Case) -> Seen {
     // The buffer is longer than what is lent of it.
     let mut buffer = Case::pattern(case.room + BEHIND);
-    let outcome = decide(&Tables::from_bytes(&case.tables), &case.record, &mut buffer[..case.room]);
+    let outcome = decide(&Tables::from_bytes(&case.tables), &case.defaults, &case.record, &mut buffer[..case.room]);
     Seen {
         answer: outcome.answer,
         permission: outcome.permission,

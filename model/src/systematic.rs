@@ -1,6 +1,7 @@
 //! Cases by enumeration: every record of a group is judged on the group's
 //! tables.
 
+use crate::defaults::Defaults;
 use crate::directory::{self, DIRECTORY};
 use crate::examples::{self, access, owned, uuid, ANON, AUTH};
 use crate::generate;
@@ -18,11 +19,13 @@ pub struct Group {
     pub records: Vec<Vec<u8>>,
     /// The length of the lent buffer; None when it is drawn for each record.
     pub room: Option<usize>,
+    /// The default lists; None when they are drawn for the group.
+    pub defaults: Option<Defaults>,
 }
 
 impl Group {
     fn new(name: &'static str, tables: &Tables, records: Vec<Vec<u8>>) -> Group {
-        Group { name, tables: tables.bytes(), records, room: None }
+        Group { name, tables: tables.bytes(), records, room: None, defaults: None }
     }
 }
 
@@ -52,6 +55,7 @@ pub fn groups(seed: u64) -> Vec<Group> {
     replies(&mut groups, &mut random);
     endpoints(&mut groups);
     subjects(&mut groups, &mut random);
+    default_lists(&mut groups, &mut random);
     soundness(&mut groups, &mut random);
     groups
 }
@@ -95,8 +99,13 @@ fn flips(record: &[u8], from: usize) -> Vec<Vec<u8>> {
 
 fn hand_worked(groups: &mut Vec<Group>) {
     for example in examples::all() {
-        let records = vec![example.record];
-        groups.push(Group { name: "worked by hand", tables: example.tables, records, room: Some(example.room) });
+        groups.push(Group {
+            name: "worked by hand",
+            tables: example.tables,
+            records: vec![example.record],
+            room: Some(example.room),
+            defaults: Some(Defaults::none()),
+        });
     }
 }
 
@@ -557,11 +566,90 @@ fn subjects(groups: &mut Vec<Group>, random: &mut Random) {
     }
 }
 
+/// Resets with default lists of every kind, from each state.
+fn default_lists(groups: &mut Vec<Group>, random: &mut Random) {
+    let credentials = [1, 2, 0x0201, 4].map(|number| Credential { number, ..generate::credential(random, &[]) });
+    let accesses = [1, 2, 0x0201, 4].map(|number| Access { number, ..generate::access(random, &[]) });
+    let mut lists = Vec::new();
+    // Every count of rows beside every other.
+    for first in 0..=4 {
+        for second in 0..=4 {
+            lists.push(Defaults::of(&credentials[..first], &accesses[..second]));
+        }
+    }
+    let good = Defaults::of(&credentials[..2], &accesses[..2]);
+    // Every length up to three rows.
+    let whole = Defaults::of(&credentials[..3], &accesses[..3]);
+    for length in 0..=whole.accesses.len() {
+        let cut = |list: &[u8]| list[..length.min(list.len())].to_vec();
+        lists.push(Defaults { credentials: cut(&whole.credentials), ..good.clone() });
+        lists.push(Defaults { accesses: cut(&whole.accesses), ..good.clone() });
+    }
+    // Every bit of two rows turned over, some to forbidden values.
+    for bit in 0..good.credentials.len() * 8 {
+        let mut flipped = good.clone();
+        flipped.credentials[bit / 8] ^= 0x80 >> (bit % 8);
+        lists.push(flipped);
+    }
+    for bit in 0..good.accesses.len() * 8 {
+        let mut flipped = good.clone();
+        flipped.accesses[bit / 8] ^= 0x80 >> (bit % 8);
+        lists.push(flipped);
+    }
+    // A number twice, or a bit off it.
+    for bit in 0..=16 {
+        let near = if bit == 16 { 0x0201 } else { 0x0201u16 ^ 1 << bit };
+        let (mut credentials, mut accesses) = (credentials.clone(), accesses.clone());
+        credentials[0].number = 0x0201;
+        credentials[1].number = near;
+        lists.push(Defaults::of(&credentials[..2], &accesses[..2]));
+        accesses[0].number = 0x0201;
+        accesses[1].number = near;
+        lists.push(Defaults::of(&credentials[..2], &accesses[..2]));
+        lists.push(Defaults::of(&credentials[..1], &accesses[..2]));
+    }
+    // Every forbidden row, first, second or alone.
+    for place in [0, 1, 2] {
+        for (_, fault) in CREDENTIAL_FAULTS {
+            let mut list = good.clone();
+            list.credentials.truncate(if place == 2 { 21 } else { 42 });
+            fault(&mut list.credentials[place % 2 * 21..][..21], random);
+            lists.push(list);
+        }
+        for (_, fault) in ACCESS_FAULTS {
+            let mut list = good.clone();
+            list.accesses.truncate(if place == 2 { 28 } else { 56 });
+            fault(&mut list.accesses[place % 2 * 28..][..28], random);
+            lists.push(list);
+        }
+    }
+    // The lists in each other's place.
+    lists.push(Defaults { credentials: good.accesses.clone(), accesses: good.credentials.clone() });
+    for _ in 0..200 {
+        lists.push(generate::defaults(random));
+    }
+    let stages = stages();
+    for (turn, defaults) in lists.into_iter().enumerate() {
+        let tables = &stages[turn % stages.len()];
+        let sender = if tables.owned() { OWNER } else { 0 };
+        let mut records = vec![compose(Verb::Update, 1, sender, &target_body(0))];
+        if turn % 7 == 0 {
+            records.push(compose(Verb::Update, 1, FOREMAN, &target_body(0)));
+            records.push(compose(Verb::Update, 1, sender, &target_body(2)));
+            records.push(compose(Verb::Delete, 2, sender, &[]));
+            records.push(compose(Verb::Delete, 3, sender, &[]));
+            records.push(compose(Verb::Update, 0, sender, &device_owner_body(None)));
+        }
+        groups.push(Group { defaults: Some(defaults), ..Group::new("default lists", tables, records) });
+    }
+}
+
 /// Each condition of sound tables broken alone.
 fn soundness(groups: &mut Vec<Group>, random: &mut Random) {
     let probes = || vec![compose(Verb::Retrieve, 1, 0, &[]), compose(Verb::Retrieve, 8, OWNER, &[1]), vec![]];
     let one_probe = || vec![compose(Verb::Retrieve, 2, OWNER, &[])];
-    let mut add = |tables, records| groups.push(Group { name: "soundness", tables, records, room: None });
+    let mut add =
+        |tables, records| groups.push(Group { name: "soundness", tables, records, room: None, defaults: None });
 
     // Every fault on tables of many kinds.
     for (_, fault) in TABLE_FAULTS {

@@ -214,6 +214,7 @@ pub enum Fault {
 }
 
 impl Tables {
+    /// Fresh tables of a build without default rows.
     pub fn fresh() -> Tables {
         Tables {
             state: State::Rfotm,
@@ -276,7 +277,7 @@ impl Tables {
     }
 }
 
-/// The bytes that the clear button gives.
+/// The bytes that the clear button gives without default rows.
 pub fn fresh_bytes() -> Stored {
     Tables::fresh().bytes()
 }

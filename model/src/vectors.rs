@@ -7,35 +7,41 @@
 //!    length (16 bits each; start 0 when the length is 0), length of the reply
 //!    (16 bits), first place to store and how many (a byte each), the reply;
 //!    the tables afterwards are the current ones;
-//! 2: tables (1,484 bytes) that the current ones must equal.
+//! 2: tables (1,484 bytes) that the current ones must equal;
+//! 3: default lists, of credentials and of accesses, each behind its length (a
+//!    byte), from now on the current ones. Both are empty at first.
 //! Numbers of 16 bits have their high byte first.
 
 use crate::case::Case;
+use crate::defaults::Defaults;
 use crate::directory::DIRECTORY;
 use crate::examples;
 use crate::generate::{self, Style};
 use crate::histogram::Histogram;
 use crate::random::Random;
-use crate::record::{compose, Verb};
-use crate::rules::{judge, LONGEST_REPLY};
+use crate::record::{compose, target_body, Verb};
+use crate::rules::{judge, Refusal, LONGEST_REPLY};
 use crate::spoil::{ACCESS_FAULTS, CREDENTIAL_FAULTS, TABLE_FAULTS};
-use crate::tables::{fresh_bytes, Access, Credential, Row, State, Stored, Tables, ACCESSES, CREDENTIALS, SIZE};
+use crate::tables::{Access, Credential, Row, State, Stored, Tables, ACCESSES, CREDENTIALS, SIZE};
 
 pub const TABLES: u8 = 0;
 pub const RECORD: u8 = 1;
 pub const CHECK: u8 = 2;
+pub const DEFAULTS: u8 = 3;
 
 /// Fewest bytes that leave room for random sessions.
 pub const LEAST: usize = 200_000;
-const RECORDS_BETWEEN_CHECKS: usize = 40;
+const RECORDS_BETWEEN_CHECKS: usize = 100;
 
 pub struct Vectors {
     pub bytes: Vec<u8>,
     pub records: usize,
     pub tables: usize,
     pub checks: usize,
+    pub lists: usize,
     pub histogram: Histogram,
     current: Option<Stored>,
+    defaults: Defaults,
     unchecked: usize,
 }
 
@@ -48,8 +54,10 @@ impl Vectors {
             records: 0,
             tables: 0,
             checks: 0,
+            lists: 0,
             histogram: Histogram::new(),
             current: None,
+            defaults: Defaults::none(),
             unchecked: 0,
         };
         for example in examples::all() {
@@ -59,6 +67,7 @@ impl Vectors {
         vectors.check();
         vectors.headers();
         vectors.replies(&mut random);
+        vectors.default_lists(&mut random);
         vectors.faults(&mut random);
         vectors.sessions(&mut random, limit);
         vectors
@@ -73,9 +82,22 @@ impl Vectors {
         }
     }
 
+    fn set_defaults(&mut self, defaults: &Defaults) {
+        if self.defaults != *defaults {
+            self.bytes.push(DEFAULTS);
+            for list in [&defaults.credentials, &defaults.accesses] {
+                self.bytes.push(list.len().try_into().expect("a short list"));
+                self.bytes.extend(list);
+            }
+            self.lists += 1;
+            self.defaults = defaults.clone();
+        }
+    }
+
     /// The record as a case, with a buffer that fits any reply.
     fn case(&self, record: &[u8]) -> Case {
-        Case::new(&self.current.expect("tables come first"), record)
+        let defaults = self.defaults.clone();
+        Case { defaults, ..Case::new(&self.current.expect("tables come first"), record) }
     }
 
     fn record(&mut self, record: &[u8], room: usize) {
@@ -152,6 +174,62 @@ impl Vectors {
         self.check();
     }
 
+    /// Resets with lists of many kinds; what they give is read back.
+    fn default_lists(&mut self, random: &mut Random) {
+        let (credentials, accesses) = rows(random);
+        let mut lists = Vec::new();
+        for first in 0..=3 {
+            for second in 0..=3 {
+                lists.push(Defaults::of(&credentials[..first], &accesses[..second]));
+            }
+        }
+        let good = Defaults::of(&credentials[..2], &accesses[1..]);
+        for (_, fault) in CREDENTIAL_FAULTS {
+            let mut list = good.clone();
+            fault(&mut list.credentials[Credential::LENGTH..], random);
+            lists.push(list);
+        }
+        for (_, fault) in ACCESS_FAULTS {
+            let mut list = good.clone();
+            fault(&mut list.accesses[..Access::LENGTH], random);
+            lists.push(list);
+        }
+        for length in [1, 20, 22, 27, 29, 41] {
+            let cut = |list: &[u8]| list[..length].to_vec();
+            lists.push(Defaults { credentials: cut(&good.credentials), ..good.clone() });
+            lists.push(Defaults { accesses: cut(&good.accesses), ..good.clone() });
+        }
+        let mut twice = good.clone();
+        twice.credentials.copy_within(..2, Credential::LENGTH);
+        lists.push(twice.clone());
+        twice.accesses.copy_within(..2, Access::LENGTH);
+        lists.push(twice.clone());
+        lists.push(Defaults { credentials: good.credentials.clone(), ..twice });
+        self.set_tables(&examples::owned(State::Rfnop).bytes());
+        self.set_defaults(&good);
+        self.record(&compose(Verb::Update, 1, 5, &target_body(0)), 0);
+        self.check();
+        for list in &lists {
+            self.set_defaults(list);
+            // Nobody owns fresh tables, so nobody has to be a partner.
+            self.record(&compose(Verb::Update, 1, 0, &target_body(0)), 0);
+            for resource in [2, 3] {
+                self.record(&compose(Verb::Retrieve, resource, 0, &[]), LONGEST_REPLY);
+            }
+        }
+        self.set_defaults(&good);
+        for (resource, target) in [(2, false), (3, false), (1, true)] {
+            let record = if target {
+                compose(Verb::Update, resource, 0, &target_body(0))
+            } else {
+                compose(Verb::Delete, resource, 0, &[])
+            };
+            self.record(&record, 0);
+            self.check();
+        }
+        self.set_defaults(&Defaults::none());
+    }
+
     /// Tables that are not sound, by each fault once.
     fn faults(&mut self, random: &mut Random) {
         let mut faulty = Vec::new();
@@ -193,8 +271,12 @@ impl Vectors {
         let spare = 3 * SIZE + 2000;
         let mut turn = 0;
         while self.bytes.len() + spare < limit {
+            let defaults = generate::defaults(random);
+            if defaults.credentials.len() <= 90 && defaults.accesses.len() <= 90 {
+                self.set_defaults(&defaults);
+            }
             let start = match turn % 3 {
-                0 => fresh_bytes(),
+                0 => self.defaults.fresh().bytes(),
                 1 => generate::full_sound(random).bytes(),
                 _ => generate::any_sound(random).bytes(),
             };
@@ -206,9 +288,13 @@ impl Vectors {
                 }
                 let style = random.weighted(&[(45, Style::Purposeful), (35, Style::Mixed), (20, Style::Damaged)]);
                 let record = generate::record(random, style, &self.current.expect("set above"));
-                // Long records and replies would use up the file.
+                // Long records and replies would use up the file, and most
+                // refusals for want of permission are alike.
                 let case = self.case(&record);
-                if (record.len() <= 40 || random.chance(15)) && (judge(&case).reply.len() <= 90 || random.chance(10)) {
+                let outcome = judge(&case);
+                let dull = outcome.answer == Refusal::PermissionLacking as u8 && random.chance(70);
+                let long = record.len() > 40 && random.chance(85) || outcome.reply.len() > 90 && random.chance(90);
+                if !dull && !long {
                     self.record(&record, generate::room(random, &case));
                 }
             }
@@ -238,6 +324,7 @@ mod tests {
     /// Reads the file as another program would.
     fn replay(mut bytes: &[u8]) -> (usize, usize) {
         let mut current: Option<Stored> = None;
+        let mut defaults = Defaults::none();
         let (mut records, mut checks) = (0, 0);
         let mut take = |count: usize| {
             let (taken, rest) = bytes.split_at_checked(count)?;
@@ -256,7 +343,8 @@ mod tests {
                     let length = number(take(2).unwrap());
                     let record = take(length).unwrap();
                     let room = number(take(2).unwrap());
-                    let outcome = judge(&Case { room, ..Case::new(&current.unwrap(), record) });
+                    let case = Case::new(&current.unwrap(), record);
+                    let outcome = judge(&Case { room, defaults: defaults.clone(), ..case });
                     assert_eq!(take(2).unwrap(), [outcome.answer, outcome.permission]);
                     let start = number(take(2).unwrap());
                     let length = number(take(2).unwrap());
@@ -270,6 +358,12 @@ mod tests {
                     assert_eq!(take(length).unwrap(), outcome.reply);
                     current = Some(outcome.tables);
                     records += 1;
+                }
+                DEFAULTS => {
+                    for list in [&mut defaults.credentials, &mut defaults.accesses] {
+                        let length = take(1).unwrap()[0];
+                        *list = take(length.into()).unwrap().to_vec();
+                    }
                 }
                 tag => panic!("tag {tag}"),
             }

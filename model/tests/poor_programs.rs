@@ -1,8 +1,9 @@
 //! Programs that only look right are told apart from the rules.
 
 use model::case::{Case, Seen};
+use model::defaults::{Defaults, ListFault};
 use model::generate::walk;
-use model::tables::{fresh_bytes, read_uuid, Tables};
+use model::tables::{fresh_bytes, read_uuid, Access, Credential, Row, Tables};
 
 /// What a program makes of a case, given what is right.
 type Program = fn(&Case, Seen) -> Seen;
@@ -21,7 +22,25 @@ fn deletes_subject(case: &Case, right: &Seen) -> bool {
     case.record.len() == 20 && case.record[0] & 0xEF == 0x60 && case.record[1] == 0x80 && matches!(right.answer, 0 | 13)
 }
 
-const PROGRAMS: [(&str, Program); 28] = [
+fn is_reset(case: &Case, right: &Seen) -> bool {
+    case.record.len() == 5
+        && case.record[0] & 0xEF == 0x40
+        && case.record[1] == 0x40
+        && case.record[4] == 0
+        && right.answer == 0
+}
+
+/// What is right, but with other default lists in a reset.
+fn reset_with(case: &Case, right: Seen, other: fn(&mut Defaults) -> Defaults) -> Seen {
+    if is_reset(case, &right) {
+        let defaults = other(&mut case.defaults.clone());
+        Seen { tables: defaults.fresh().bytes(), ..right }
+    } else {
+        right
+    }
+}
+
+const PROGRAMS: [(&str, Program); 35] = [
     ("turns all away", |case, _| refused(8, case)),
     ("permits all", |case, right| if right.answer == 0 { right } else { refused(0, case) }),
     ("never alters the tables", |case, right| Seen { tables: case.tables, ..right }),
@@ -106,8 +125,56 @@ const PROGRAMS: [(&str, Program); 28] = [
     ("counts places from 1", |_, right| if right.many > 0 { Seen { first: right.first + 1, ..right } } else { right }),
     ("reports the first deleted place alone", |_, right| Seen { many: right.many.min(1), ..right }),
     ("reports a reset as a delete", |case, right| {
-        if alters(case, &right) && right.tables == fresh_bytes() && case.tables[2] > 0 {
+        if is_reset(case, &right) && case.tables[2] > 0 {
             Seen { many: case.tables[2].into(), ..right }
+        } else {
+            right
+        }
+    }),
+    ("resets to no rows", |case, right| reset_with(case, right, |_| Defaults::none())),
+    ("takes the first rows of too long a list", |case, right| {
+        reset_with(case, right, |defaults| {
+            defaults.credentials.truncate(42);
+            defaults.accesses.truncate(56);
+            defaults.clone()
+        })
+    }),
+    ("takes the whole rows of a list", |case, right| {
+        reset_with(case, right, |defaults| {
+            defaults.credentials.truncate(defaults.credentials.len() / 21 * 21);
+            defaults.accesses.truncate(defaults.accesses.len() / 28 * 28);
+            defaults.clone()
+        })
+    }),
+    ("takes the good rows of a list", |case, right| {
+        reset_with(case, right, |defaults| {
+            let good = |row: &&[u8]| Credential::read(row).is_some() || Access::read(row).is_some();
+            defaults.credentials = defaults.credentials.chunks(21).filter(good).collect::<Vec<_>>().concat();
+            defaults.accesses = defaults.accesses.chunks(28).filter(good).collect::<Vec<_>>().concat();
+            defaults.clone()
+        })
+    }),
+    ("takes a number twice", |case, right| {
+        let mut twice = right.clone();
+        if is_reset(case, &right) && case.defaults.read_credentials() == Err(ListFault::NumberTwice) {
+            twice.tables[2] = 2;
+            twice.tables[84..126].copy_from_slice(&case.defaults.credentials);
+        }
+        if is_reset(case, &right) && case.defaults.read_accesses() == Err(ListFault::NumberTwice) {
+            twice.tables[3] = 2;
+            twice.tables[588..644].copy_from_slice(&case.defaults.accesses);
+        }
+        twice
+    }),
+    ("drops both lists for one that is bad", |case, right| {
+        reset_with(case, right, |defaults| if defaults.bad() { Defaults::none() } else { defaults.clone() })
+    }),
+    ("keeps the rows held at a reset", |case, right| {
+        if is_reset(case, &right) {
+            let mut tables = case.tables;
+            tables[..84].copy_from_slice(&right.tables[..84]);
+            tables[2..4].copy_from_slice(&case.tables[2..4]);
+            Seen { tables, ..right }
         } else {
             right
         }

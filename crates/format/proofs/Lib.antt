@@ -1,2 +1,3 @@
 -- Laws for the proofs of this crate.
 mod BoolBytes
+mod DefaultLaws

@@ -1,5 +1,6 @@
 // The values that a body may have, and what it could store as a row.
 // A test for each field, in the order of the layout; a body of another length is no row.
+use crate::soundness::stride_of;
 use fields::ace;
 use fields::body;
 use fields::cred;
@@ -8,8 +9,11 @@ use fields::word;
 use rules::Table;
 use rules::Uuid;
 ghost use mathlib.Core.Path.{_≡_};
+ghost use Prim.Native.Nat.{_*_, _≤_};
+ghost use lib.ListN.{length};
+ghost use Rattle.rows.specs.Rows.{rowsOf, every};
 ghost use Rattle.rules.specs.Bodies.{isNil, ownerBody, stateBody, credStorable, subjectStorable, aceStorable};
-ghost use Rattle.rules.specs.Tables.{storable};
+ghost use Rattle.rules.specs.Tables.{stride, storable};
 
 pub fn is_nil(uuid: &[u8]) -> bool
     ensures { λ r. ⌜ r ≡ isNil (now (uuid .entry)) ⌝ }
@@ -69,4 +73,22 @@ pub fn row_storable(table: Table, row: &[u8]) -> bool
         Table::Creds => cred_storable(row),
         Table::Aces => ace_storable(row),
     }
+}
+
+// Whether each of the `count` rows is one that a body could store.
+pub fn rows_storable(table: Table, rows: &[u8], count: usize) -> bool
+    requires { ⌜ count * stride table ≤ length (now rows) ⌝ }
+    ensures { λ r. ⌜ r ≡ every (storable table) (rowsOf (stride table) count (now (rows .entry))) ⌝ }
+{
+    let long = stride_of(table);
+    let mut rest = rows;
+    let mut left = count;
+    while 0 < left {
+        if !row_storable(table, &rest[..long]) {
+            return false;
+        }
+        rest = &rest[long..];
+        left -= 1;
+    }
+    true
 }

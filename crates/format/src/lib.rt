@@ -2,4 +2,5 @@
 // Every public function is total: any bytes, any tables.
 pub mod action;
 mod body;
+pub mod defaults;
 pub mod soundness;

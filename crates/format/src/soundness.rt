@@ -1,14 +1,13 @@
 // Whether tables are sound.
 // The head, then each table: room for its rows, zeros after them, each row storable, distinct numbers.
 use crate::body::is_nil;
-use crate::body::row_storable;
+use crate::body::rows_storable;
 use rules::Table;
 use rules::Tables;
 ghost use mathlib.Core.Path.{_≡_};
-ghost use Prim.Native.Nat.{_*_, _≤_};
+ghost use Prim.Native.Nat.{_*_};
 ghost use lib.ListN.{length};
-ghost use Rattle.rows.specs.Rows.{rowsOf, every};
-ghost use Rattle.rules.specs.Tables.{stride, capacity, storable, rowsSound, headSound, sound};
+ghost use Rattle.rules.specs.Tables.{stride, capacity, rowsSound, headSound, sound};
 
 // Bytes of a row.
 // Rules out: one length for both tables; a length that a body does not have.
@@ -30,24 +29,6 @@ pub fn capacity_of(table: Table) -> usize
         Table::Creds => 24,
         Table::Aces => 32,
     }
-}
-
-// Whether each of the `count` rows is one that a body could store.
-fn rows_storable(table: Table, rows: &[u8], count: usize) -> bool
-    requires { ⌜ count * stride table ≤ length (now rows) ⌝ }
-    ensures { λ r. ⌜ r ≡ every (storable table) (rowsOf (stride table) count (now (rows .entry))) ⌝ }
-{
-    let long = stride_of(table);
-    let mut rest = rows;
-    let mut left = count;
-    while 0 < left {
-        if !row_storable(table, &rest[..long]) {
-            return false;
-        }
-        rest = &rest[long..];
-        left -= 1;
-    }
-    true
 }
 
 fn rows_sound(table: Table, count: usize, bytes: &[u8]) -> bool

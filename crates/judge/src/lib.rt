@@ -11,6 +11,7 @@ use fields::record::resource_of;
 use form::check_form;
 use form::refuse_if;
 use format::action::action_of;
+use format::defaults::fresh;
 use permission::effective;
 use places::no_places;
 use places::places_of;
@@ -27,7 +28,7 @@ ghost use lib.ListN.{length};
 ghost use Rattle.rules.specs.Record.{asked};
 ghost use Rattle.rules.specs.Reading.{filled};
 ghost use Rattle.rules.specs.Checks.{numberOf, refuseIf};
-ghost use Rattle.rules.specs.Tables.{cleared};
+ghost use Rattle.rules.specs.Defaults.{defaults, cleared};
 ghost use Rattle.rules.specs.Outcome.{outcome, replyTo, judgementOf, refusal, payloadAt};
 
 // A refusal hands the tables back as they are, with permission 0, no reply and no places.
@@ -60,10 +61,11 @@ fn check_room(room: usize, length: usize) -> Check
 }
 
 // What becomes of a record: the answer, the permission, the length of the reply, the places to store and the tables afterwards; the reply fills the lent buffer.
+// `creds` and `aces` are the build's default rows, for a RESET.
 // Rules out: a judge that refuses every record with 8; one that answers and never alters the tables; a byte written on a refusal.
-pub fn judge(t: Tables, record: &[u8], reply: &mut [u8]) -> Judgement
-    ensures said { λ r. ⌜ r ≡ judgementOf (outcome t (asked (now («record» .entry)) (length (now (reply .entry))))) ⌝ }
-    ensures buffer { λ _. ⌜ now (reply .exit) ≡ filled (now (reply .entry)) (replyTo t (asked (now («record» .entry)) (length (now (reply .entry)))) .contents) ⌝ }
+pub fn judge(t: Tables, creds: &[u8], aces: &[u8], record: &[u8], reply: &mut [u8]) -> Judgement
+    ensures said { λ r. ⌜ r ≡ judgementOf (outcome (defaults (now (creds .entry)) (now (aces .entry))) t (asked (now («record» .entry)) (length (now (reply .entry))))) ⌝ }
+    ensures buffer { λ _. ⌜ now (reply .exit) ≡ filled (now (reply .entry)) (replyTo (defaults (now (creds .entry)) (now (aces .entry))) t (asked (now («record» .entry)) (length (now (reply .entry)))) .contents) ⌝ }
 {
     let c = check_form(t, record);
     let Check::Pass = c else {
@@ -82,7 +84,7 @@ pub fn judge(t: Tables, record: &[u8], reply: &mut [u8]) -> Judgement
     };
     put_reply(reply, t, record);
     let places = places_of(t, a, record);
-    let next = apply(t, a, record);
+    let next = apply(t, a, record, creds, aces);
     Judgement {
         answer: 0,
         permission: permission,
@@ -107,10 +109,10 @@ pub fn payload(record: &[u8], answer: u8) -> &[u8]
     after(record, 4)
 }
 
-// The clear button: any tables become the fresh ones.
+// The clear button: any tables become the fresh ones, with the build's default rows.
 // Rules out: a button that keeps the rows; one that works on sound tables only.
-pub fn clear(t: Tables) -> Tables
-    ensures { λ r. ⌜ r ≡ cleared t ⌝ }
+pub fn clear(t: Tables, creds: &[u8], aces: &[u8]) -> Tables
+    ensures { λ r. ⌜ r ≡ cleared (defaults (now (creds .entry)) (now (aces .entry))) t ⌝ }
 {
-    Tables::fresh()
+    fresh(creds, aces)
 }

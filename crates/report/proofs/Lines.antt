@@ -8,7 +8,7 @@ use native.Mathlib.Omega.{arith}
 use lib.ListN.{length, length-append, length-drop}
 use borrow.Author.Tests.{lt-ltb, le-ltb, eq-eqb, ne-eqb}
 use Rattle.rules.specs.declared.Tables.{Tables}
-use Rattle.rules.specs.Tables.{fresh}
+use Rattle.rules.specs.Defaults.{noDefaults, fresh}
 use Rattle.rules.specs.declared.Judgement.{Judgement}
 use Rattle.rules.specs.Outcome.{outcome, tablesAfter, judgementOf}
 use Rattle.text.specs.Text.{ascii, decimal}
@@ -48,7 +48,7 @@ pub record Running (s o : List ℕ) (at : ℕ) (out : List ℕ) (p : ℕ) (t : T
   -- nine bytes of text at most for each byte of the input
   pub short : length s ≤ 32768 → length (lines s) + 9 * length rest ≤ 294912 + length (linesFrom steps t place rest)
 
-pub run-start : (s o : List ℕ) {at : ℕ} {t : Tables} → length o ≤ largest → at ≤ largest → t ≡ fresh → Running s o at o at t s 1
+pub run-start : (s o : List ℕ) {at : ℕ} {t : Tables} → length o ≤ largest → at ≤ largest → t ≡ fresh noDefaults → Running s o at o at t s 1
 unfolding lines
 run-start s o {at} h l e = rw e record {
   steps = length s;
@@ -67,7 +67,7 @@ module _ {s o : List ℕ} {at : ℕ} {out : List ℕ} {p : ℕ} {t : Tables} {re
   -- one step of the definition
   step : 0 < length rest
       → linesFrom (i .steps) t place rest
-      ≡ cond (isCut rest) cut (lineFor t place (firstOf rest) ++ linesFrom (i .steps - 1) (tablesAfter t (lent (firstOf rest))) (place + 1) (restOf rest))
+      ≡ cond (isCut rest) cut (lineFor t place (firstOf rest) ++ linesFrom (i .steps - 1) (tablesAfter noDefaults t (lent (firstOf rest))) (place + 1) (restOf rest))
   unfolding linesFrom
   step h =
       let k : i .steps ≡ suc (i .steps - 1) = omega (arith, i .enough) in
@@ -89,7 +89,7 @@ module _ {s o : List ℕ} {at : ℕ} {out : List ℕ} {p : ℕ} {t : Tables} {re
 
   -- a record, and what the judge says of it
   pub run-turn : {out′ : List ℕ} {r : ℕ} {rest′ : List ℕ} {j : Judgement} → 0 < length rest → 2 + lengthOf rest ≤ length rest
-      → j ≡ judgementOf (outcome t (lent (firstOf rest))) → rest′ ≡ restOf rest
+      → j ≡ judgementOf (outcome noDefaults t (lent (firstOf rest))) → rest′ ≡ restOf rest
       → Puts out p (line place (j .answer) (j .permission) (j .tables .state)) out′ r
       → LineFits place (j .answer) (j .permission) (j .tables .state)
       → Running s o at out′ r (j .tables) rest′ (place + 1)

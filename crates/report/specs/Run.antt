@@ -9,7 +9,7 @@ use Rattle.text.specs.Text.{ascii, decimal}
 use Rattle.rules.specs.declared.Tables.{Tables}
 use Rattle.rules.specs.Bits.{bits}
 use Rattle.rules.specs.Record.{Request, asked}
-use Rattle.rules.specs.Tables.{fresh}
+use Rattle.rules.specs.Defaults.{noDefaults, fresh}
 use Rattle.rules.specs.Outcome.{replyTo, tablesAfter}
 
 unfoldable pub header : List ℕ
@@ -26,7 +26,7 @@ lent r = asked r 912
 
 -- of a record that is judged on the tables t
 abbrev pub lineFor : Tables → ℕ → List ℕ → List ℕ
-lineFor t place r = line place (replyTo t (lent r) .answer) (replyTo t (lent r) .permission) (tablesAfter t (lent r) .state)
+lineFor t place r = line place (replyTo noDefaults t (lent r) .answer) (replyTo noDefaults t (lent r) .permission) (tablesAfter noDefaults t (lent r) .state)
 
 unfoldable pub cut : List ℕ
 cut = ascii "cut\n"
@@ -51,11 +51,11 @@ linesFrom zero t place s = []
 linesFrom (suc k) t place s =
     cond (eqb (length s) 0) []
     (cond (isCut s) cut
-    (lineFor t place (firstOf s) ++ linesFrom k (tablesAfter t (lent (firstOf s))) (place + 1) (restOf s)))
+    (lineFor t place (firstOf s) ++ linesFrom k (tablesAfter noDefaults t (lent (firstOf s))) (place + 1) (restOf s)))
 
 -- from fresh tables; a record takes at least two bytes, so as many steps as there are bytes are enough
 unfoldable pub lines : List ℕ → List ℕ
-lines s = linesFrom (length s) fresh 1 s
+lines s = linesFrom (length s) (fresh noDefaults) 1 s
 
 unfoldable pub runText : List ℕ → List ℕ
 runText s = header ++ lines s

@@ -11,6 +11,7 @@ ghost use Prim.Native.Nat.{min};
 ghost use lib.ListN.{length};
 ghost use Rattle.text.specs.Text.{decimal};
 ghost use Rattle.text.specs.Buffer.{written, Puts, Counts};
+ghost use Rattle.rules.specs.Defaults.{noDefaults, fresh};
 ghost use Rattle.rules.specs.Outcome.{outcome, judgementOf};
 ghost use Rattle.report.specs.Run.{lent, line, cut, lines, runText};
 ghost use Rattle.report.specs.Room.{LineFits, LinesFit, Whole};
@@ -39,12 +40,19 @@ fn put_cut(out: &mut [u8], at: usize) -> usize
     put(out, at, b"cut\n")
 }
 
+// A run starts from fresh tables of a build without default rows.
+fn start_tables() -> Tables
+    ensures { λ r. ⌜ r ≡ fresh noDefaults ⌝ }
+{
+    format::defaults::fresh(b"", b"")
+}
+
 // Judges a record with a buffer that fits any reply.
 fn judge_one(t: Tables, record: &[u8]) -> Judgement
-    ensures { λ r. ⌜ r ≡ judgementOf (outcome t (lent (now («record» .entry)))) ⌝ }
+    ensures { λ r. ⌜ r ≡ judgementOf (outcome noDefaults t (lent (now («record» .entry)))) ⌝ }
 {
     let mut reply = [0u8; 912];
-    judge::judge(t, record, &mut reply)
+    judge::judge(t, b"", b"", record, &mut reply)
 }
 
 // The lines of a run, from fresh tables.
@@ -53,7 +61,7 @@ fn put_lines(out: &mut [u8], at: usize, input: &[u8]) -> usize
     ensures { λ r. ⌜ LinesFit (now (input .entry)) ⌝ }
 {
     let mut p = at;
-    let mut t = Tables::fresh();
+    let mut t = start_tables();
     let mut rest = input;
     let mut place: usize = 1;
     while 0 < rest.len() {

@@ -12,6 +12,7 @@ use Rattle.rules.specs.Record.{Request, asked, Sender}
 use Rattle.rules.specs.Outcome.{Reply, outcome, judgementOf, payloadAt, replyTo, tablesAfter}
 use Rattle.rules.specs.Reading.{filled}
 use Rattle.rules.specs.Run.{replies, final, Along, kept, keptOf}
+use Rattle.rules.specs.Defaults.{Defaults}
 use Rattle.rules.specs.Isolation.{Premise, isOthers}
 use Rattle.rules.proofs.Refusals.{payload-is}
 use Rattle.rules.proofs.Isolated.{isolation}
@@ -35,18 +36,18 @@ told c = record {
 }
 
 -- what a call meets, on the tables t, for the request q
-pub record Meets (t : Tables) (q : Request) (c : Call) : Type 0 where
+pub record Meets (d : Defaults) (t : Tables) (q : Request) (c : Call) : Type 0 where
   pub room : length (c .lent) ≡ q .room
-  pub judges : c .judgement ≡ judgementOf (outcome t q)
-  pub fills : c .buffer ≡ filled (c .lent) (replyTo t q .contents)
+  pub judges : c .judgement ≡ judgementOf (outcome d t q)
+  pub fills : c .buffer ≡ filled (c .lent) (replyTo d t q .contents)
   pub passes : c .payload ≡ payloadAt (c .judgement .answer) (q .bytes)
 
 -- the first call on the tables t, and each later one on the tables handed back last
-abbrev pub Built : Tables → List Request → List Call → Type 0
-Built t [] [] = Unit {0}
-Built t [] (c ∷ cs) = ⊥
-Built t (q ∷ qs) [] = ⊥
-Built t (q ∷ qs) (c ∷ cs) = Meets t q c × Built (c .judgement .tables) qs cs
+abbrev pub Built : Defaults → Tables → List Request → List Call → Type 0
+Built d t [] [] = Unit {0}
+Built d t [] (c ∷ cs) = ⊥
+Built d t (q ∷ qs) [] = ⊥
+Built d t (q ∷ qs) (c ∷ cs) = Meets d t q c × Built d (c .judgement .tables) qs cs
 
 -- the tables handed back last
 abbrev pub handedBack : Tables → List Call → Tables
@@ -57,30 +58,30 @@ filled-start : (buffer reply : List ℕ) → take (length reply) (filled buffer 
 unfolding filled
 filled-start buffer reply = take-at reply (drop (length reply) buffer) (length reply) refl
 
-told-is : (t : Tables) (q : Request) (c : Call) → Meets t q c → told c ≡ replyTo t q
-told-is t q c m = rw (m .passes, m .fills, m .judges, payload-is t q, filled-start (c .lent) (replyTo t q .contents))
+told-is : (d : Defaults) (t : Tables) (q : Request) (c : Call) → Meets d t q c → told c ≡ replyTo d t q
+told-is d t q c m = rw (m .passes, m .fills, m .judges, payload-is d t q, filled-start (c .lent) (replyTo d t q .contents))
 
-built-same : (t : Tables) (qs : List Request) (cs : List Call) → Built t qs cs → (map told cs ≡ replies replyTo tablesAfter t qs) × (handedBack t cs ≡ final tablesAfter t qs)
-built-same t [] [] b = (refl, refl)
-built-same t [] (c ∷ cs) b = absurd b
-built-same t (q ∷ qs) [] b = absurd b
-built-same t (q ∷ qs) (c ∷ cs) b =
-    let next : c .judgement .tables ≡ tablesAfter t q = ap (λ (j : Judgement). j .tables) (b .0 .judges) in
-    let more = built-same (c .judgement .tables) qs cs (b .1) in (
-      ap₂ (λ (x : Reply) (xs : List Reply). x ∷ xs) (told-is t q c (b .0)) (more .0 ∙ ap (λ (s : Tables). replies replyTo tablesAfter s qs) next),
-      more .1 ∙ ap (λ (s : Tables). final tablesAfter s qs) next,
+built-same : (d : Defaults) (t : Tables) (qs : List Request) (cs : List Call) → Built d t qs cs → (map told cs ≡ replies (replyTo d) (tablesAfter d) t qs) × (handedBack t cs ≡ final (tablesAfter d) t qs)
+built-same d t [] [] b = (refl, refl)
+built-same d t [] (c ∷ cs) b = absurd b
+built-same d t (q ∷ qs) [] b = absurd b
+built-same d t (q ∷ qs) (c ∷ cs) b =
+    let next : c .judgement .tables ≡ tablesAfter d t q = ap (λ (j : Judgement). j .tables) (b .0 .judges) in
+    let more = built-same d (c .judgement .tables) qs cs (b .1) in (
+      ap₂ (λ (x : Reply) (xs : List Reply). x ∷ xs) (told-is d t q c (b .0)) (more .0 ∙ ap (λ (s : Tables). replies (replyTo d) (tablesAfter d) s qs) next),
+      more .1 ∙ ap (λ (s : Tables). final (tablesAfter d) s qs) next,
     )
 
 -- demand 3: record by record the others' numbers, permissions, payload bytes, replies and places, and at the end the tables
 pub built-isolation :
-    (chosen : Sender → Bool) (t : Tables) (qs : List Request) (cs : List Call)
-    → Built t qs cs
-    → Along tablesAfter (Premise chosen) t (kept (isOthers chosen) qs)
-    → (keptOf (isOthers chosen) qs (map told cs) ≡ replies replyTo tablesAfter t (kept (isOthers chosen) qs))
-    × (handedBack t cs ≡ final tablesAfter t (kept (isOthers chosen) qs))
-built-isolation chosen t qs cs built premise =
-    let same = built-same t qs cs built in
-    let apart = isolation chosen t qs premise in
+    (d : Defaults) (chosen : Sender → Bool) (t : Tables) (qs : List Request) (cs : List Call)
+    → Built d t qs cs
+    → Along (tablesAfter d) (Premise chosen) t (kept (isOthers chosen) qs)
+    → (keptOf (isOthers chosen) qs (map told cs) ≡ replies (replyTo d) (tablesAfter d) t (kept (isOthers chosen) qs))
+    × (handedBack t cs ≡ final (tablesAfter d) t (kept (isOthers chosen) qs))
+built-isolation d chosen t qs cs built premise =
+    let same = built-same d t qs cs built in
+    let apart = isolation d chosen t qs premise in
     (ap (keptOf (isOthers chosen) qs) (same .0) ∙ apart .0, same .1 ∙ apart .1)
 
 -- ---- of any functions that meet the contracts
@@ -93,23 +94,23 @@ pub record Handed : Type 0 where
 abbrev pub request : Handed → Request
 request h = asked (h .bytes) (length (h .lent))
 
-module _ (judge : Tables → Handed → Judgement) (buffer : Tables → Handed → List ℕ) (payload : List ℕ → ℕ → List ℕ)
-    (judges : (t : Tables) (h : Handed) → judge t h ≡ judgementOf (outcome t (request h)))
-    (fills : (t : Tables) (h : Handed) → buffer t h ≡ filled (h .lent) (replyTo t (request h) .contents))
+module _ (d : Defaults) (judge : Tables → Handed → Judgement) (buffer : Tables → Handed → List ℕ) (payload : List ℕ → ℕ → List ℕ)
+    (judges : (t : Tables) (h : Handed) → judge t h ≡ judgementOf (outcome d t (request h)))
+    (fills : (t : Tables) (h : Handed) → buffer t h ≡ filled (h .lent) (replyTo d t (request h) .contents))
     (passes : (r : List ℕ) (n : ℕ) → payload r n ≡ payloadAt n r) where
   -- the calls of a run
   abbrev pub calls : Tables → List Handed → List Call
   calls t [] = []
   calls t (h ∷ hs) = record { lent = h .lent; judgement = judge t h; buffer = buffer t h; payload = payload (h .bytes) (judge t h .answer) } ∷ calls (judge t h .tables) hs
 
-  pub calls-built : (t : Tables) (hs : List Handed) → Built t (map request hs) (calls t hs)
+  pub calls-built : (t : Tables) (hs : List Handed) → Built d t (map request hs) (calls t hs)
   calls-built t [] = tt
   calls-built t (h ∷ hs) =
       (record { room = refl; judges = judges t h; fills = fills t h; passes = passes (h .bytes) (judge t h .answer) }, calls-built (judge t h .tables) hs)
 
   pub function-isolation :
       (chosen : Sender → Bool) (t : Tables) (hs : List Handed)
-      → Along tablesAfter (Premise chosen) t (kept (isOthers chosen) (map request hs))
-      → (keptOf (isOthers chosen) (map request hs) (map told (calls t hs)) ≡ replies replyTo tablesAfter t (kept (isOthers chosen) (map request hs)))
-      × (handedBack t (calls t hs) ≡ final tablesAfter t (kept (isOthers chosen) (map request hs)))
-  function-isolation chosen t hs premise = built-isolation chosen t (map request hs) (calls t hs) (calls-built t hs) premise
+      → Along (tablesAfter d) (Premise chosen) t (kept (isOthers chosen) (map request hs))
+      → (keptOf (isOthers chosen) (map request hs) (map told (calls t hs)) ≡ replies (replyTo d) (tablesAfter d) t (kept (isOthers chosen) (map request hs)))
+      × (handedBack t (calls t hs) ≡ final (tablesAfter d) t (kept (isOthers chosen) (map request hs)))
+  function-isolation chosen t hs premise = built-isolation d chosen t (map request hs) (calls t hs) (calls-built t hs) premise

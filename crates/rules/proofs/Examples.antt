@@ -15,7 +15,8 @@ use Rattle.rules.specs.Bits.{bit, bits, word}
 use Rattle.rules.specs.Directory.{resourceOf, someSecurity}
 use Rattle.rules.specs.Record.{Request, asked, Sender, unauthenticated, partner, sender, payloadOf}
 use Rattle.rules.specs.Bodies.{nil, isNil, ownerBody, stateBody, credStorable, setKnown, subjectStorable, aceStorable}
-use Rattle.rules.specs.Tables.{rowsIn, withRows, rowsSound, headSound, sound, fresh, rowOwner}
+use Rattle.rules.specs.Tables.{rowsIn, withRows, rowsSound, headSound, sound, empty, rowOwner}
+use Rattle.rules.specs.Defaults.{Defaults, noDefaults, goodList, defaultRows, fresh}
 use Rattle.rules.specs.Permission.{has, subjectFits, resourceFits, rowFits, gives, names, isOwner, byOwner, byNoOwner, effectiveOf, effective, permission}
 use Rattle.rules.specs.Action.{ifAllowed, updateDoxm, updatePstat, updateRows, updateAction, deleteNumber, deleteAces, deleteCreds, deleteAction, readAction, securityAction, action}
 use Rattle.rules.specs.States.{writeAllowed, moveListed, moveAllowed}
@@ -31,7 +32,7 @@ use Rattle.rules.proofs.Isolated.{isolation}
 
 -- `unfolding definitions` opens all that its own line names
 definitions : Unit {0}
-unfolding ones onesIn rowsBefore gapOf rowsOf joined packed allZero same hasKey numberedAs placeFrom firstRow some every without distinctNumbers stored unionOf withRow bit bits has resourceOf word sender payloadOf nil isNil ownerBody stateBody credStorable setKnown subjectStorable aceStorable rowsIn rowsSound headSound sound fresh rowOwner subjectFits resourceFits rowFits gives names isOwner byOwner byNoOwner effectiveOf permission ownBody rowBytes contents reads replyOf tooShort ifAllowed updateDoxm updatePstat updateRows updateAction deleteNumber deleteAces deleteCreds deleteAction readAction securityAction action writeAllowed moveListed moveAllowed badLength noVerb zeroBitSet mismatch unknownResource noCredential noEndpoint notPermitted offered notOffered verdict entered outcomeAt outcome
+unfolding ones onesIn rowsBefore gapOf rowsOf joined packed allZero same hasKey numberedAs placeFrom firstRow some every without distinctNumbers stored unionOf withRow bit bits has resourceOf word sender payloadOf nil isNil ownerBody stateBody credStorable setKnown subjectStorable aceStorable rowsIn rowsSound headSound sound empty goodList defaultRows fresh rowOwner subjectFits resourceFits rowFits gives names isOwner byOwner byNoOwner effectiveOf permission ownBody rowBytes contents reads replyOf tooShort ifAllowed updateDoxm updatePstat updateRows updateAction deleteNumber deleteAces deleteCreds deleteAction readAction securityAction action writeAllowed moveListed moveAllowed badLength noVerb zeroBitSet mismatch unknownResource noCredential noEndpoint notPermitted offered notOffered verdict entered outcomeAt outcome
 definitions = tt
 
 -- a record with a buffer that fits any reply
@@ -39,7 +40,7 @@ abbrev lent : List ℕ → Request
 lent r = asked r 912
 
 abbrev answer : Tables → List ℕ → ℕ
-answer t r = replyTo t (lent r) .answer
+answer t r = replyTo noDefaults t (lent r) .answer
 
 -- sixteen bytes 11
 pub uuid : List ℕ
@@ -59,11 +60,11 @@ overfull = record { state = 1; owned = 0; ncreds = 25; naces = 0; devowner = nil
 
 -- state 2, the owner in row 5
 pub owned5 : Tables
-owned5 = withState (withOwner (withRows Creds fresh (credRow 5 ∷ [])) 1 uuid) 2
+owned5 = withState (withOwner (withRows Creds (fresh noDefaults) (credRow 5 ∷ [])) 1 uuid) 2
 
 -- 24 credential rows
 full24 : Tables
-full24 = withRows Creds fresh (credRows 24)
+full24 = withRows Creds (fresh noDefaults) (credRows 24)
 
 pub record Example : Type 0 where
   pub tables : Tables
@@ -76,18 +77,18 @@ example t b = record { tables = t; bytes = b }
 pub examples : List Example
 examples =
     example overfull []
-    ∷ example fresh (0x40 ∷ 0x80 ∷ 0x00 ∷ [])
-    ∷ example fresh (0xa2 ∷ 0x00 ∷ 0x00 ∷ 0x00 ∷ [])
-    ∷ example fresh (0x22 ∷ 0x01 ∷ 0x00 ∷ 0x00 ∷ [])
-    ∷ example fresh (0x22 ∷ 0x00 ∷ 0x00 ∷ 0x05 ∷ [])
-    ∷ example fresh (0x21 ∷ 0x40 ∷ 0x00 ∷ 0x00 ∷ [])
-    ∷ example fresh (0x32 ∷ 0x00 ∷ 0x00 ∷ 0x09 ∷ [])
-    ∷ example fresh (0x22 ∷ 0x00 ∷ 0x00 ∷ 0x00 ∷ [])
-    ∷ example fresh (0x00 ∷ 0xc0 ∷ 0x00 ∷ 0x00 ∷ [])
-    ∷ example fresh (0x40 ∷ 0x40 ∷ 0x00 ∷ 0x00 ∷ 0xa0 ∷ [])
+    ∷ example (fresh noDefaults) (0x40 ∷ 0x80 ∷ 0x00 ∷ [])
+    ∷ example (fresh noDefaults) (0xa2 ∷ 0x00 ∷ 0x00 ∷ 0x00 ∷ [])
+    ∷ example (fresh noDefaults) (0x22 ∷ 0x01 ∷ 0x00 ∷ 0x00 ∷ [])
+    ∷ example (fresh noDefaults) (0x22 ∷ 0x00 ∷ 0x00 ∷ 0x05 ∷ [])
+    ∷ example (fresh noDefaults) (0x21 ∷ 0x40 ∷ 0x00 ∷ 0x00 ∷ [])
+    ∷ example (fresh noDefaults) (0x32 ∷ 0x00 ∷ 0x00 ∷ 0x09 ∷ [])
+    ∷ example (fresh noDefaults) (0x22 ∷ 0x00 ∷ 0x00 ∷ 0x00 ∷ [])
+    ∷ example (fresh noDefaults) (0x00 ∷ 0xc0 ∷ 0x00 ∷ 0x00 ∷ [])
+    ∷ example (fresh noDefaults) (0x40 ∷ 0x40 ∷ 0x00 ∷ 0x00 ∷ 0xa0 ∷ [])
     ∷ example owned5 (0x50 ∷ 0x00 ∷ 0x00 ∷ 0x05 ∷ 0x80 ∷ uuid)
-    ∷ example fresh (0x40 ∷ 0x40 ∷ 0x00 ∷ 0x00 ∷ 0x60 ∷ [])
-    ∷ example fresh (0x60 ∷ 0x80 ∷ 0x00 ∷ 0x00 ∷ 0x00 ∷ 0x05 ∷ [])
+    ∷ example (fresh noDefaults) (0x40 ∷ 0x40 ∷ 0x00 ∷ 0x00 ∷ 0x60 ∷ [])
+    ∷ example (fresh noDefaults) (0x60 ∷ 0x80 ∷ 0x00 ∷ 0x00 ∷ 0x00 ∷ 0x05 ∷ [])
     ∷ example full24 (0x40 ∷ 0x80 ∷ 0x00 ∷ 0x00 ∷ credRow 25)
     ∷ []
 
@@ -109,9 +110,9 @@ workedRun =
 
 -- a line of the run: answer, permission, state afterwards
 pub line : Tables → Request → List ℕ
-line t q = replyTo t q .answer ∷ replyTo t q .permission ∷ tablesAfter t q .state ∷ []
+line t q = replyTo noDefaults t q .answer ∷ replyTo noDefaults t q .permission ∷ tablesAfter noDefaults t q .state ∷ []
 
-pub worked : replies line tablesAfter fresh (map lent workedRun) ≡ (0 ∷ 31 ∷ 1 ∷ []) ∷ (0 ∷ 31 ∷ 1 ∷ []) ∷ (8 ∷ 0 ∷ 1 ∷ []) ∷ (0 ∷ 31 ∷ 2 ∷ []) ∷ (12 ∷ 0 ∷ 2 ∷ []) ∷ []
+pub worked : replies line (tablesAfter noDefaults) (fresh noDefaults) (map lent workedRun) ≡ (0 ∷ 31 ∷ 1 ∷ []) ∷ (0 ∷ 31 ∷ 1 ∷ []) ∷ (8 ∷ 0 ∷ 1 ∷ []) ∷ (0 ∷ 31 ∷ 2 ∷ []) ∷ (12 ∷ 0 ∷ 2 ∷ []) ∷ []
 unfolding definitions line workedRun uuid credRow
 worked = refl
 
@@ -171,17 +172,17 @@ aceRows zero = []
 aceRows (suc n) = aceRow (suc n) 0 2 0 weight uuid ∷ aceRows n
 
 pub crowded : Tables
-crowded = withState (withOwner (withRows Creds (withRows Aces fresh (aceRows 32)) (credRows 24)) 1 uuid) 3
+crowded = withState (withOwner (withRows Creds (withRows Aces (fresh noDefaults) (aceRows 32)) (credRows 24)) 1 uuid) 3
 
 -- RETRIEVE of resource 8 by the owner's credential 5
-pub crowded-read : replyTo crowded (lent (0x32 ∷ 0x00 ∷ 0x00 ∷ 0x05 ∷ 0x77 ∷ [])) ≡ record { answer = 0; permission = 2; payload = 0x77 ∷ []; contents = []; places = nowhere }
+pub crowded-read : replyTo noDefaults crowded (lent (0x32 ∷ 0x00 ∷ 0x00 ∷ 0x05 ∷ 0x77 ∷ [])) ≡ record { answer = 0; permission = 2; payload = 0x77 ∷ []; contents = []; places = nowhere }
 unfolding definitions crowded aceRows aceRow weight credRows credRow uuid
 crowded-read = refl
 
 -- ---- reading back (U1): the replies of the four security resources to the owner, and the length that just fits
 
 pub reply : ℕ → List ℕ → List ℕ
-reply room r = let o = replyTo owned5 (asked r room) in o .answer ∷ o .contents
+reply room r = let o = replyTo noDefaults owned5 (asked r room) in o .answer ∷ o .contents
 
 pub replies-read :
     reply 33 (0x30 ∷ 0x00 ∷ 0x00 ∷ 0x05 ∷ [])
@@ -216,13 +217,13 @@ unfolding definitions broad header-of applications owned5 serving aceRow none co
 endpoints-clear = refl
 
 -- security resources are exempt: the four are read over connection 0 in fresh tables; and 16 comes before 8
-pub endpoints-exempt : map (λ n. answer fresh (header-of 0 n 0)) (0 ∷ 1 ∷ 2 ∷ 3 ∷ 9 ∷ 14 ∷ []) ≡ 0 ∷ 0 ∷ 0 ∷ 0 ∷ 16 ∷ 8 ∷ []
+pub endpoints-exempt : map (λ n. answer (fresh noDefaults) (header-of 0 n 0)) (0 ∷ 1 ∷ 2 ∷ 3 ∷ 9 ∷ 14 ∷ []) ≡ 0 ∷ 0 ∷ 0 ∷ 0 ∷ 16 ∷ 8 ∷ []
 unfolding definitions header-of
 endpoints-exempt = refl
 
 -- ---- delete by subject (U3): two rows of a haulier between others; the order of the rest is kept
 
-haulierRow : ℕ → Row
+pub haulierRow : ℕ → Row
 haulierRow n = 0 ∷ n ∷ (replicate 16 0x22 ++ (0 ∷ 0 ∷ 4 ∷ []))
 
 -- state 2, the owner in row 5
@@ -233,15 +234,15 @@ several = withRows Creds owned5 (haulierRow 3 ∷ credRow 5 ∷ haulierRow 4 ∷
 pub deletes : List ℕ → Request
 deletes b = lent (0x70 ∷ 0x80 ∷ 0x00 ∷ 0x05 ∷ b)
 
-pub subject-deleted : tablesAfter several (deletes (replicate 16 0x22)) ≡ withRows Creds several (credRow 5 ∷ credRow 6 ∷ [])
+pub subject-deleted : tablesAfter noDefaults several (deletes (replicate 16 0x22)) ≡ withRows Creds several (credRow 5 ∷ credRow 6 ∷ [])
 unfolding definitions several deletes haulierRow owned5 uuid credRow
 subject-deleted = refl
 
 -- a haulier's rows; nobody's; nil; and of acl2, which takes no subject
 pub subject-answers :
-    replyTo several (deletes (replicate 16 0x22)) .answer
-    ∷ replyTo several (deletes (replicate 16 0x33)) .answer
-    ∷ replyTo several (deletes nil) .answer
+    replyTo noDefaults several (deletes (replicate 16 0x22)) .answer
+    ∷ replyTo noDefaults several (deletes (replicate 16 0x33)) .answer
+    ∷ replyTo noDefaults several (deletes nil) .answer
     ∷ answer several (0x70 ∷ 0xc0 ∷ 0x00 ∷ 0x05 ∷ replicate 16 0x22)
     ∷ []
     ≡ 0 ∷ 13 ∷ 10 ∷ 10 ∷ []
@@ -254,16 +255,45 @@ pub at-places : ℕ → ℕ → Places
 at-places first many = record { first = first; many = many }
 
 pub places-told :
-    replyTo several (deletes (replicate 16 0x22)) .places
-    ∷ replyTo several (deletes (0x00 ∷ 0x04 ∷ [])) .places
-    ∷ replyTo several (deletes (0x00 ∷ 0x06 ∷ [])) .places
-    ∷ replyTo several (deletes []) .places
-    ∷ replyTo several (lent (0x70 ∷ 0xc0 ∷ 0x00 ∷ 0x05 ∷ [])) .places
-    ∷ replyTo several (deletes (0x00 ∷ 0x09 ∷ [])) .places
+    replyTo noDefaults several (deletes (replicate 16 0x22)) .places
+    ∷ replyTo noDefaults several (deletes (0x00 ∷ 0x04 ∷ [])) .places
+    ∷ replyTo noDefaults several (deletes (0x00 ∷ 0x06 ∷ [])) .places
+    ∷ replyTo noDefaults several (deletes []) .places
+    ∷ replyTo noDefaults several (lent (0x70 ∷ 0xc0 ∷ 0x00 ∷ 0x05 ∷ [])) .places
+    ∷ replyTo noDefaults several (deletes (0x00 ∷ 0x09 ∷ [])) .places
     ∷ []
     ≡ at-places 0 4 ∷ at-places 2 2 ∷ at-places 3 1 ∷ at-places 0 4 ∷ nowhere ∷ nowhere ∷ []
 unfolding definitions several deletes haulierRow owned5 uuid credRow at-places
 places-told = refl
+
+-- ---- default rows (U5): good lists come back with a clear and with RESET; a bad list counts as none, wholly and by itself
+
+pub build : Defaults
+build = record { creds = credRow 5 ++ haulierRow 7; aces = aceRow 1 0 2 0 weight uuid }
+
+pub good-lists : fresh build ≡ withRows Aces (withRows Creds empty (credRow 5 ∷ haulierRow 7 ∷ [])) (aceRow 1 0 2 0 weight uuid ∷ [])
+unfolding definitions build haulierRow credRow uuid aceRow weight
+good-lists = refl
+
+-- three rows; a number twice; a row that no body could store; half a row more
+pub bad-lists :
+    defaultRows Creds (credRow 1 ++ credRow 2 ++ credRow 3)
+    ∷ defaultRows Creds (credRow 1 ++ haulierRow 1)
+    ∷ defaultRows Creds (credRow 1 ++ replicate 21 0)
+    ∷ defaultRows Creds (credRow 1 ++ (0 ∷ 9 ∷ []))
+    ∷ []
+    ≡ [] ∷ [] ∷ [] ∷ [] ∷ []
+unfolding definitions haulierRow credRow uuid
+bad-lists = refl
+
+pub one-bad-list : fresh (record { creds = credRow 1 ++ credRow 1; aces = aceRow 1 0 2 0 weight uuid }) ≡ withRows Aces empty (aceRow 1 0 2 0 weight uuid ∷ [])
+unfolding definitions credRow uuid aceRow weight
+one-bad-list = refl
+
+-- a row deleted, and then RESET by the owner: the build's rows are back
+pub reset-restores : tablesAfter build (tablesAfter build several (deletes (0x00 ∷ 0x03 ∷ []))) (lent (0x50 ∷ 0x40 ∷ 0x00 ∷ 0x05 ∷ 0x00 ∷ [])) ≡ fresh build
+unfolding definitions build several deletes haulierRow owned5 credRow uuid aceRow weight
+reset-restores = refl
 
 -- ---- demand 3 is not empty: partner 7, a haulier who may read resource 8, is chosen, and the unauthenticated senders with it
 
@@ -291,7 +321,7 @@ yardRun =
     ∷ [])
 
 -- everybody's answers: the chosen get 8 for each write, and their read is served
-pub yard-answers : replies (λ t q. replyTo t q .answer) tablesAfter yard yardRun ≡ 8 ∷ 0 ∷ 8 ∷ 0 ∷ 8 ∷ 0 ∷ 0 ∷ []
+pub yard-answers : replies (λ t q. replyTo noDefaults t q .answer) (tablesAfter noDefaults) yard yardRun ≡ 8 ∷ 0 ∷ 8 ∷ 0 ∷ 8 ∷ 0 ∷ 0 ∷ []
 unfolding definitions owned5 serving aceRow weight none connected uuid credRow haulier yard yardRun
 yard-answers = refl
 
@@ -322,12 +352,12 @@ calm-harmless t h = let p = calm-parts t h in record { hasOwner = not-true _ (p 
     granted p unauthenticated c = not-true _ (p .stranger-alters)
     granted p (partner n) c = rw (eqb-true n 7 c) (not-true _ (p .haulier-alters))
 
-yard-premise : Along tablesAfter (Premise chosen7) yard (kept (isOthers chosen7) yardRun)
+yard-premise : Along (tablesAfter noDefaults) (Premise chosen7) yard (kept (isOthers chosen7) yardRun)
 unfolding definitions calm namesOwner rowAlters mayAlter someSecurity owned5 serving aceRow weight none connected uuid credRow haulier yard yardRun chosen7
 yard-premise = (λ _. calm-harmless _ refl, (λ _. calm-harmless _ refl, (λ _. calm-harmless _ refl, λ _. calm-harmless _ refl)))
 
 -- so the owner's answers, and the tables at the end, are those of the owner's records alone
 pub yard-isolated :
-    (keptOf (isOthers chosen7) yardRun (replies replyTo tablesAfter yard yardRun) ≡ replies replyTo tablesAfter yard (kept (isOthers chosen7) yardRun))
-    × (final tablesAfter yard yardRun ≡ final tablesAfter yard (kept (isOthers chosen7) yardRun))
-yard-isolated = isolation chosen7 yard yardRun yard-premise
+    (keptOf (isOthers chosen7) yardRun (replies (replyTo noDefaults) (tablesAfter noDefaults) yard yardRun) ≡ replies (replyTo noDefaults) (tablesAfter noDefaults) yard (kept (isOthers chosen7) yardRun))
+    × (final (tablesAfter noDefaults) yard yardRun ≡ final (tablesAfter noDefaults) yard (kept (isOthers chosen7) yardRun))
+yard-isolated = isolation noDefaults chosen7 yard yardRun yard-premise

@@ -13,6 +13,7 @@ use Rattle.rules.specs.declared.Check.{Check}
 use Rattle.rules.specs.declared.Check.the-variants.{Pass, Refuse}
 use Rattle.rules.specs.Record.{Request, payloadOf}
 use Rattle.rules.specs.Permission.{permission}
+use Rattle.rules.specs.Defaults.{Defaults}
 use Rattle.rules.specs.Places.{nowhere}
 use Rattle.rules.specs.Checks.{checks, verdict}
 use Rattle.rules.specs.Outcome.{Outcome, outcome, outcomeAt, outcomeOf, payloadAt, replyTo, tablesAfter}
@@ -89,44 +90,44 @@ refused-number ((m, false) ∷ es) n d e = go (eqb m 0) d (λ h. refused-number 
 -- ---- of a record
 
 -- answer 0: no check applies
-pub permitted-is : (t : Tables) (q : Request) → replyTo t q .answer ≡ 0 → noneApplies (checks t (permission t (q .bytes)) q) ≡ true
+pub permitted-is : (d : Defaults) (t : Tables) (q : Request) → replyTo d t q .answer ≡ 0 → noneApplies (checks t (permission t (q .bytes)) q) ≡ true
 unfolding outcome outcomeAt
-permitted-is t q = go (verdict (checks t (permission t (q .bytes)) q)) refl
+permitted-is d t q = go (verdict (checks t (permission t (q .bytes)) q)) refl
   where
-    go : (c : Check) → verdict (checks t (permission t (q .bytes)) q) ≡ c → outcomeOf t (permission t (q .bytes)) (q .bytes) c .reply .answer ≡ 0 → noneApplies (checks t (permission t (q .bytes)) q) ≡ true
+    go : (c : Check) → verdict (checks t (permission t (q .bytes)) q) ≡ c → outcomeOf d t (permission t (q .bytes)) (q .bytes) c .reply .answer ≡ 0 → noneApplies (checks t (permission t (q .bytes)) q) ≡ true
     go Pass e a = permitted-none (checks t (permission t (q .bytes)) q) e
     go (Refuse n) e a = contradiction (eq-eqb n 0 a) (refused-number (checks t (permission t (q .bytes)) q) n refl e)
 
 -- any other answer: that check applies, and none before it
-pub refused-is : (t : Tables) (q : Request) (n : ℕ) → replyTo t q .answer ≡ suc n → FirstOf (suc n) (checks t (permission t (q .bytes)) q)
+pub refused-is : (d : Defaults) (t : Tables) (q : Request) (n : ℕ) → replyTo d t q .answer ≡ suc n → FirstOf (suc n) (checks t (permission t (q .bytes)) q)
 unfolding outcome outcomeAt
-refused-is t q n = go (verdict (checks t (permission t (q .bytes)) q)) refl
+refused-is d t q n = go (verdict (checks t (permission t (q .bytes)) q)) refl
   where
-    go : (c : Check) → verdict (checks t (permission t (q .bytes)) q) ≡ c → outcomeOf t (permission t (q .bytes)) (q .bytes) c .reply .answer ≡ suc n → FirstOf (suc n) (checks t (permission t (q .bytes)) q)
+    go : (c : Check) → verdict (checks t (permission t (q .bytes)) q) ≡ c → outcomeOf d t (permission t (q .bytes)) (q .bytes) c .reply .answer ≡ suc n → FirstOf (suc n) (checks t (permission t (q .bytes)) q)
     go Pass e a = absurd (omega arith)
     go (Refuse m) e a = refused-first (checks t (permission t (q .bytes)) q) (suc n) (e ∙ ap (λ (k : ℕ). Refuse k) a)
 
 -- ---- a refusal
 
 -- any answer but 0 goes with permission 0, the empty payload, no reply, no places and the same tables
-pub refusal-is : (t : Tables) (q : Request) (n : ℕ) → replyTo t q .answer ≡ suc n → outcome t q ≡ record { reply = record { answer = suc n; permission = 0; payload = []; contents = []; places = nowhere }; tables = t }
+pub refusal-is : (d : Defaults) (t : Tables) (q : Request) (n : ℕ) → replyTo d t q .answer ≡ suc n → outcome d t q ≡ record { reply = record { answer = suc n; permission = 0; payload = []; contents = []; places = nowhere }; tables = t }
 unfolding outcome outcomeAt
-refusal-is t q n = go (verdict (checks t (permission t (q .bytes)) q))
+refusal-is d t q n = go (verdict (checks t (permission t (q .bytes)) q))
   where
-    go : (c : Check) → outcomeOf t (permission t (q .bytes)) (q .bytes) c .reply .answer ≡ suc n → outcomeOf t (permission t (q .bytes)) (q .bytes) c ≡ record { reply = record { answer = suc n; permission = 0; payload = []; contents = []; places = nowhere }; tables = t }
+    go : (c : Check) → outcomeOf d t (permission t (q .bytes)) (q .bytes) c .reply .answer ≡ suc n → outcomeOf d t (permission t (q .bytes)) (q .bytes) c ≡ record { reply = record { answer = suc n; permission = 0; payload = []; contents = []; places = nowhere }; tables = t }
     go Pass e = absurd (omega arith)
     go (Refuse m) e = rw e
 
 -- the payload is the one that the answer gives
-pub payload-is : (t : Tables) (q : Request) → payloadAt (replyTo t q .answer) (q .bytes) ≡ replyTo t q .payload
+pub payload-is : (d : Defaults) (t : Tables) (q : Request) → payloadAt (replyTo d t q .answer) (q .bytes) ≡ replyTo d t q .payload
 unfolding payloadAt outcome outcomeAt
-payload-is t q = go (verdict (checks t (permission t (q .bytes)) q)) refl
+payload-is d t q = go (verdict (checks t (permission t (q .bytes)) q)) refl
   where
-    go : (c : Check) → verdict (checks t (permission t (q .bytes)) q) ≡ c → let o = outcomeOf t (permission t (q .bytes)) (q .bytes) c .reply in cond (eqb (o .answer) 0) (payloadOf (q .bytes)) [] ≡ o .payload
+    go : (c : Check) → verdict (checks t (permission t (q .bytes)) q) ≡ c → let o = outcomeOf d t (permission t (q .bytes)) (q .bytes) c .reply in cond (eqb (o .answer) 0) (payloadOf (q .bytes)) [] ≡ o .payload
     go Pass e = refl
     go (Refuse n) e = rw (refused-number (checks t (permission t (q .bytes)) q) n refl e)
 
 -- tables that are not sound: each record gets 1, and they are handed back as they are
-pub unsound-refused : (t : Tables) (q : Request) → sound t ≡ false → outcome t q ≡ record { reply = record { answer = 1; permission = 0; payload = []; contents = []; places = nowhere }; tables = t }
+pub unsound-refused : (d : Defaults) (t : Tables) (q : Request) → sound t ≡ false → outcome d t q ≡ record { reply = record { answer = 1; permission = 0; payload = []; contents = []; places = nowhere }; tables = t }
 unfolding outcome outcomeAt verdict
-unsound-refused t q e = rw e
+unsound-refused d t q e = rw e

@@ -5,6 +5,7 @@ pub mod Directory
 pub mod Record
 pub mod Bodies
 pub mod Tables
+pub mod Defaults
 pub mod Permission
 pub mod Action
 pub mod States

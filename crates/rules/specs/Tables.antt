@@ -1,4 +1,4 @@
--- 'The tables': the two tables of rows, soundness, and fresh tables.
+-- 'The tables': the two tables of rows, soundness, and the empty tables.
 -- The fields and their sizes are the struct's; any bytes of that size are tables.
 use Prim.Native.Nat.{ℕ, _*_, min}
 use mathlib.Core.Bool.{Bool, _&&_, _||_, cond}
@@ -71,11 +71,7 @@ headSound t =
 unfoldable pub sound : Tables → Bool
 sound t = headSound t && rowsSound Creds (t .ncreds) (t .creds) && rowsSound Aces (t .naces) (t .aces)
 
--- ---- fresh tables: state 1, owned 0, owners nil, no rows
+-- ---- empty tables: state 1, owned 0, owners nil, no rows
 
-unfoldable pub fresh : Tables
-fresh = record { state = 1; owned = 0; ncreds = 0; naces = 0; devowner = nil; rowners = replicate 64 0; creds = replicate 504 0; aces = replicate 896 0 }
-
--- the clear button takes tables of any content
-unfoldable pub cleared : Tables → Tables
-cleared t = fresh
+unfoldable pub empty : Tables
+empty = record { state = 1; owned = 0; ncreds = 0; naces = 0; devowner = nil; rowners = replicate 64 0; creds = replicate 504 0; aces = replicate 896 0 }

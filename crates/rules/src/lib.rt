@@ -3,7 +3,7 @@
 pub mod directory;
 
 ghost use mathlib.Core.Path.{_≡_};
-ghost use Rattle.rules.specs.Tables.{fresh};
+ghost use Rattle.rules.specs.Tables.{empty};
 
 // A UUID is sixteen bytes.
 pub struct Uuid {
@@ -55,10 +55,10 @@ pub struct Tables {
 }
 
 impl Tables {
-    // The tables of a new terminal.
+    // State 1, no owner and no rows.
     // Rules out: tables in state 2; tables with a byte left in an unused row.
-    pub fn fresh() -> Tables
-        ensures { λ r. ⌜ r ≡ fresh ⌝ }
+    pub fn empty() -> Tables
+        ensures { λ r. ⌜ r ≡ empty ⌝ }
     {
         Tables {
             state: 1,

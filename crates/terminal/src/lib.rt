@@ -2,7 +2,7 @@
 // Tables pass by value, a record and a buffer as a pointer and a length each; the payload goes out as a start and a length within the record.
 use rules::Tables;
 ghost use mathlib.Core.Path.{_≡_};
-ghost use Rattle.rules.specs.Tables.{fresh, cleared};
+ghost use Rattle.rules.specs.Defaults.{defaults, fresh, cleared};
 ghost use lib.ListN.{length};
 ghost use Rattle.rules.specs.Record.{asked};
 ghost use Rattle.rules.specs.Reading.{filled};
@@ -23,22 +23,22 @@ pub struct Outcome {
     pub tables: Tables,
 }
 
-// The tables of a new terminal.
+// The tables of a new terminal of a build with these default rows.
 // Rules out: tables that are not sound; tables with an owner.
 #[no_mangle]
-pub extern "C" fn tillerclover_fresh() -> Tables
-    ensures { λ r. ⌜ r ≡ fresh ⌝ }
+pub extern "C" fn tillerclover_fresh(creds: &[u8], aces: &[u8]) -> Tables
+    ensures { λ r. ⌜ r ≡ fresh (defaults (now (creds .entry)) (now (aces .entry))) ⌝ }
 {
-    Tables::fresh()
+    format::defaults::fresh(creds, aces)
 }
 
 // The clear button.
 // Rules out: a button that keeps a row; one that asks for sound tables.
 #[no_mangle]
-pub extern "C" fn tillerclover_clear(t: Tables) -> Tables
-    ensures { λ r. ⌜ r ≡ cleared t ⌝ }
+pub extern "C" fn tillerclover_clear(t: Tables, creds: &[u8], aces: &[u8]) -> Tables
+    ensures { λ r. ⌜ r ≡ cleared (defaults (now (creds .entry)) (now (aces .entry))) t ⌝ }
 {
-    judge::clear(t)
+    judge::clear(t, creds, aces)
 }
 
 // Where a payload of this length starts in its record.
@@ -51,11 +51,11 @@ fn start_of(length: usize) -> usize
 // Judges a record.
 // Rules out: the payload of a refused record; the tables of another record; a byte of the buffer changed behind the reply.
 #[no_mangle]
-pub extern "C" fn tillerclover_judge(t: Tables, record: &[u8], reply: &mut [u8]) -> Outcome
-    ensures said { λ r. ⌜ r ≡ exported (outcome t (asked (now («record» .entry)) (length (now (reply .entry))))) ⌝ }
-    ensures buffer { λ _. ⌜ now (reply .exit) ≡ filled (now (reply .entry)) (replyTo t (asked (now («record» .entry)) (length (now (reply .entry)))) .contents) ⌝ }
+pub extern "C" fn tillerclover_judge(t: Tables, creds: &[u8], aces: &[u8], record: &[u8], reply: &mut [u8]) -> Outcome
+    ensures said { λ r. ⌜ r ≡ exported (outcome (defaults (now (creds .entry)) (now (aces .entry))) t (asked (now («record» .entry)) (length (now (reply .entry))))) ⌝ }
+    ensures buffer { λ _. ⌜ now (reply .exit) ≡ filled (now (reply .entry)) (replyTo (defaults (now (creds .entry)) (now (aces .entry))) t (asked (now («record» .entry)) (length (now (reply .entry)))) .contents) ⌝ }
 {
-    let j = judge::judge(t, record, reply);
+    let j = judge::judge(t, creds, aces, record, reply);
     let next = j.tables;
     let places = j.places;
     let answer = j.answer;

@@ -1,5 +1,5 @@
 // Judges the records of vectors.bin, which the second model wrote, and compares what comes of each.
-// The file's form stands in model/src/vectors.rs: tables to take, records with their outcome, tables that must be reached.
+// The file's form stands in model/src/vectors.rs: tables to take, records with their outcome, tables that must be reached, default lists.
 use fields::after;
 use fields::part;
 use fields::word;
@@ -10,6 +10,9 @@ use rules::Tables;
 // What is held from entry to entry.
 struct Progress {
     tables: Tables,
+    // where the entry stands, and the last one with default lists
+    at: usize,
+    lists: usize,
     entry: u64,
     records: u64,
     differences: u64,
@@ -44,7 +47,9 @@ fn print_result(p: Progress) {
 // All entries in their order, up to one that is cut or has no known tag.
 fn walk(bytes: &[u8]) -> Progress {
     let mut p = Progress {
-        tables: Tables::fresh(),
+        tables: Tables::empty(),
+        at: 0,
+        lists: usize::MAX,
         entry: 0,
         records: 0,
         differences: 0,
@@ -59,7 +64,8 @@ fn walk(bytes: &[u8]) -> Progress {
         if size == 0 {
             return differing(p);
         }
-        p = entry_done(p, part(rest, 0, size));
+        p = entry_done(p, part(rest, 0, size), after(bytes, p.lists));
+        p = moved(p, size);
         rest = &rest[size..];
     }
     p
@@ -103,6 +109,7 @@ fn entry_size(s: &[u8]) -> usize {
         0 => 1485,
         1 => record_size(s),
         2 => 1485,
+        3 => 3 + byte_at(s, 1) as usize + second_length(s) as usize,
         _ => 0,
     }
 }
@@ -114,12 +121,40 @@ fn record_size(s: &[u8]) -> usize {
     15 + length + reply
 }
 
-fn entry_done(p: Progress, s: &[u8]) -> Progress {
+// Of an entry with default lists: the length of the second, the first, and the second.
+fn second_length(s: &[u8]) -> u8 {
+    byte_at(after(after(s, 2), byte_at(s, 1) as usize), 0)
+}
+
+fn default_creds(s: &[u8]) -> &[u8] {
+    part(s, 2, byte_at(s, 1) as usize)
+}
+
+fn default_aces(s: &[u8]) -> &[u8] {
+    part(after(after(s, 3), byte_at(s, 1) as usize), 0, second_length(s) as usize)
+}
+
+// Goes on with the default lists of this entry.
+fn listed(p: Progress) -> Progress {
+    let mut next = p;
+    next.lists = p.at;
+    next
+}
+
+// Goes on behind an entry of this size.
+fn moved(p: Progress, size: usize) -> Progress {
+    let mut next = p;
+    next.at = if p.at <= usize::MAX - size { p.at + size } else { usize::MAX };
+    next
+}
+
+fn entry_done(p: Progress, s: &[u8], lists: &[u8]) -> Progress {
     let tag = byte_at(s, 0);
     match tag {
         0 => taken(p, after(s, 1)),
-        1 => judged(p, after(s, 1)),
-        _ => reached(p, after(s, 1)),
+        1 => judged(p, after(s, 1), lists),
+        2 => reached(p, after(s, 1)),
+        _ => listed(p),
     }
 }
 
@@ -142,14 +177,14 @@ fn reached(p: Progress, bytes: &[u8]) -> Progress {
 }
 
 // Judges the record behind its length with a buffer of the room behind it, and compares the outcome with the one that follows.
-fn judged(p: Progress, s: &[u8]) -> Progress {
+fn judged(p: Progress, s: &[u8], lists: &[u8]) -> Progress {
     let length = word(s) as usize;
     let record = part(s, 2, length);
     let behind = after(after(s, 2), length);
     let expected = after(behind, 2);
     let mut buffer = [165u8; 1000];
     let t = p.tables;
-    let j = judge_within(t, record, &mut buffer, word(behind) as usize);
+    let j = judge_within(t, default_creds(lists), default_aces(lists), record, &mut buffer, word(behind) as usize);
     let answer = j.answer;
     let payload = judge::payload(record, answer);
     let t = j.tables;
@@ -167,11 +202,11 @@ fn judged(p: Progress, s: &[u8]) -> Progress {
 }
 
 // Judges a record with the first `room` bytes of the buffer, or all where it has fewer.
-fn judge_within(t: Tables, record: &[u8], buffer: &mut [u8], room: usize) -> Judgement {
+fn judge_within(t: Tables, creds: &[u8], aces: &[u8], record: &[u8], buffer: &mut [u8], room: usize) -> Judgement {
     if buffer.len() < room {
-        return judge::judge(t, record, buffer);
+        return judge::judge(t, creds, aces, record, buffer);
     }
-    judge::judge(t, record, &mut buffer[..room])
+    judge::judge(t, creds, aces, record, &mut buffer[..room])
 }
 
 // Whether the reply is the one behind its length and the places, and the buffer is as before behind it.

@@ -121,7 +121,7 @@ impl Case {
     }
 
     fn ask_library(&self, reply: &mut Reply) {
-        black_box(library::decide(black_box(&self.given), black_box(&self.put.record), black_box(reply)));
+        black_box(library::decide(black_box(&self.given), &self.put.defaults, black_box(&self.put.record), black_box(reply)));
     }
 
     fn ask_model(&self) {
@@ -308,7 +308,7 @@ fn mixed(repetitions: u64) {
     let all = [cases];
     let library = |cases: &Vec<(Put, Given)>, reply: &mut Reply| {
         for (put, given) in cases {
-            black_box(library::decide(given, &put.record, reply));
+            black_box(library::decide(given, &put.defaults, &put.record, reply));
         }
     };
     let model = |cases: &Vec<(Put, Given)>| {

@@ -1,29 +1,31 @@
 //! Compares the proved library with the model, record by record.
 
 use model::case::{field, first_change, shrink, Case, Seen};
-use model::generate::{any_bytes, walk};
+use model::generate::{any_bytes, defaults, walk};
 use model::histogram::Histogram;
 use model::library;
 use model::options::Program;
 use model::random::Random;
 use model::rules::judge;
-use model::tables::{fresh_bytes, Stored};
+use model::tables::SIZE;
 
 const PROGRAM: Program = Program {
     name: "compare",
     help: "\
 compare [--records N] [--seed S] [--trace]
-compare --replay HEX_TABLES:HEX_RECORD:ROOM
+compare --replay TABLES:RECORD:ROOM:CREDENTIALS:ACCESSES
 
 Judges the same records on the same tables by the library and by the model,
 and compares answer, permission, payload, length of the reply, every byte of
 the lent buffer (and some behind it), the places to store after a delete and
-every byte of the tables; fresh tables and the clear button too.
+every byte of the tables; fresh tables and the clear button too. Default lists,
+good and bad, are drawn with the cases.
 
   --records N   so many records (default 300000)
   --seed S      another choice of records (default 1)
   --trace       print each case before it is judged
-  --replay CASE judge this one case and show both outcomes
+  --replay CASE judge this one case and show both outcomes; ROOM is a decimal
+                number, all else hexadecimal digits
   --help        this text
 
 Ends with 0 when all are equal, with 1 when one is not.
@@ -63,30 +65,34 @@ fn finish(differences: u64) -> ! {
 
 fn compare(records: u64, seed: u64, trace: bool) -> u64 {
     let mut differences = 0;
-    if let Some(place) = first_change(&library::fresh(), &fresh_bytes()) {
-        differences += 1;
-        println!("fresh tables differ at {}", field(place));
-    }
-    let mut clear_shown = false;
-    let mut cleared = 0u64;
-    let mut check_clear = |tables: &Stored| {
+    let (mut fresh_shown, mut clear_shown) = (false, false);
+    let (mut begun, mut cleared) = (0u64, 0u64);
+    // Fresh tables and the clear button, with the default lists of a case.
+    let mut check_clear = |case: &Case| {
+        let mut differences = 0;
+        begun += 1;
+        if fresh_differs(case).is_some() {
+            differences += 1;
+            if !fresh_shown {
+                fresh_shown = true;
+                show_small(case, "fresh tables differ at", fresh_differs);
+            }
+        }
         cleared += 1;
-        if clears(tables) {
-            return 0;
+        if clear_differs(case).is_some() {
+            differences += 1;
+            if !clear_shown {
+                clear_shown = true;
+                show_small(case, "the clear button leaves", clear_differs);
+            }
         }
-        if !clear_shown {
-            clear_shown = true;
-            let case = Case { room: 0, ..Case::new(tables, &[]) };
-            let small = shrink(case, |case| !clears(&case.tables));
-            let place = first_change(&library::clear(&small.tables), &fresh_bytes());
-            println!("the clear button leaves {}", place.map_or("no difference".into(), field));
-            show_command(&small);
-        }
-        1
+        differences
     };
+    differences += check_clear(&Case::new(&[0; SIZE], &[]));
     let mut random = Random::part(seed, 3);
     for _ in 0..CLEARED {
-        differences += check_clear(&any_bytes(&mut random));
+        let tables = any_bytes(&mut random);
+        differences += check_clear(&Case { defaults: defaults(&mut random), ..Case::new(&tables, &[]) });
     }
 
     let mut histogram = Histogram::new();
@@ -113,17 +119,30 @@ fn compare(records: u64, seed: u64, trace: bool) -> u64 {
         }
         judged += 1;
         if judged % RECORDS_BETWEEN_CLEARS == 0 {
-            differences += check_clear(&case.tables);
+            differences += check_clear(case);
         }
         expected.tables
     });
     print!("{histogram}");
-    println!("tables cleared: {cleared}");
+    println!("fresh tables: {begun}, tables cleared: {cleared}");
     differences
 }
 
-fn clears(tables: &Stored) -> bool {
-    library::clear(tables) == fresh_bytes()
+/// Where fresh tables differ.
+fn fresh_differs(case: &Case) -> Option<usize> {
+    first_change(&library::fresh(&case.defaults), &case.defaults.fresh().bytes())
+}
+
+/// Where cleared tables differ.
+fn clear_differs(case: &Case) -> Option<usize> {
+    first_change(&library::clear(case), &case.defaults.fresh().bytes())
+}
+
+fn show_small(case: &Case, what: &str, differs: fn(&Case) -> Option<usize>) {
+    let case = Case { record: Vec::new(), room: 0, ..case.clone() };
+    let small = shrink(case, |case| differs(case).is_some());
+    println!("{what} {}", differs(&small).map_or("no difference".into(), field));
+    show_command(&small);
 }
 
 fn outcomes(case: &Case) -> (Seen, Seen) {
@@ -139,8 +158,8 @@ fn differs_so(case: &Case, pair: (u8, u8)) -> bool {
 fn show_case(case: &Case) {
     let (expected, found) = outcomes(case);
     println!("{}", case.line());
-    println!("  model:   {}", expected.describe(&case.tables));
-    println!("  library: {}", found.describe(&case.tables));
+    println!("  model:   {}", expected.describe(case));
+    println!("  library: {}", found.describe(case));
     if let Some(place) = first_change(&expected.buffer, &found.buffer) {
         println!("  the buffers afterwards differ first at byte {place}");
     }
@@ -159,11 +178,11 @@ fn replay(case: &Case) -> u64 {
     show_case(case);
     let (expected, found) = outcomes(case);
     let mut differences = u64::from(!expected.same(&found));
-    if let Some(place) = first_change(&library::fresh(), &fresh_bytes()) {
+    if let Some(place) = fresh_differs(case) {
         println!("  fresh tables differ at {}", field(place));
         differences += 1;
     }
-    if let Some(place) = first_change(&library::clear(&case.tables), &fresh_bytes()) {
+    if let Some(place) = clear_differs(case) {
         println!("  the clear button leaves {}", field(place));
         differences += 1;
     }

@@ -38,10 +38,11 @@ fn main() {
     }
     print!("{}", vectors.histogram);
     println!(
-        "vectors: {} records, {} tables, {} checks, {} bytes",
+        "vectors: {} records, {} tables, {} checks, {} pairs of default lists, {} bytes",
         vectors.records,
         vectors.tables,
         vectors.checks,
+        vectors.lists,
         vectors.bytes.len()
     );
 }

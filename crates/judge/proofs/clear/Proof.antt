@@ -1,5 +1,5 @@
 -- `clear`: whatever the tables were.
-use Rattle.rules.specs.Tables.{cleared}
+use Rattle.rules.specs.Defaults.{cleared}
 use borrow.Author.Needs.{needs}
 use Rattle.judge.proofs.clear.Statement.{statement}
 use Rattle.judge.proofs.clear.Tie as tie

@@ -14,6 +14,7 @@ use Rattle.rules.specs.declared.Check.the-variants.{Pass, Refuse}
 use Rattle.rules.specs.declared.Judgement.{Judgement}
 use Rattle.rules.specs.Record.{Request, asked, body}
 use Rattle.rules.specs.Tables.{sound}
+use Rattle.rules.specs.Defaults.{Defaults, defaults}
 use Rattle.rules.specs.Permission.{permission}
 use Rattle.rules.specs.Action.{action}
 use Rattle.rules.specs.declared.Places.{Places}
@@ -27,21 +28,21 @@ use borrow.Author.Needs.{needs}
 use Rattle.judge.proofs.judge.Statement.{statement}
 use Rattle.judge.proofs.judge.Tie as tie
 
-module _ (t : Tables) (q : Request) where
+module _ (d : Defaults) (t : Tables) (q : Request) where
   -- the buffer after a verdict
   abbrev held : List ℕ → Check → List ℕ
-  held b c = filled b (outcomeOf t (permission t (q .bytes)) (q .bytes) c .reply .contents)
+  held b c = filled b (outcomeOf d t (permission t (q .bytes)) (q .bytes) c .reply .contents)
 
   -- a refusal: what is said, and the buffer stays
   turned : (c : Check) (n : ℕ) (j : Judgement) (b : List ℕ) → c ≡ Refuse n → c ≡ verdict (checks t (permission t (q .bytes)) q) → j ≡ refusal t (numberOf c)
-      → (j ≡ judgementOf (outcome t q)) × (b ≡ filled b (replyTo t q .contents))
+      → (j ≡ judgementOf (outcome d t q)) × (b ≡ filled b (replyTo d t q .contents))
   unfolding outcome outcomeAt filled
   turned c n j b e v r = (r ∙ rw (← v, e), ap (held b) (sym e ∙ v))
 
   -- a permit: what is said, and the buffer holds the reply
   let-through : (p l : ℕ) (g : Places) (next : Tables) (b b′ : List ℕ) → p ≡ permission t (q .bytes) → l ≡ length (replyOf t (q .bytes)) → Pass ≡ verdict (checks t (permission t (q .bytes)) q)
-      → g ≡ placesOf t (body (q .bytes)) (action (q .bytes)) → next ≡ effect t (body (q .bytes)) (action (q .bytes)) → b′ ≡ filled b (replyOf t (q .bytes))
-      → (record { answer = 0; permission = p; length = l; places = g; tables = next } ≡ judgementOf (outcome t q)) × (b′ ≡ filled b (replyTo t q .contents))
+      → g ≡ placesOf t (body (q .bytes)) (action (q .bytes)) → next ≡ effect d t (body (q .bytes)) (action (q .bytes)) → b′ ≡ filled b (replyOf t (q .bytes))
+      → (record { answer = 0; permission = p; length = l; places = g; tables = next } ≡ judgementOf (outcome d t q)) × (b′ ≡ filled b (replyTo d t q .contents))
   unfolding outcome outcomeAt
   let-through p l g next b b′ e k v n f w = (rw (← v, e, k, n, f), w ∙ ap (held b) v)
 
@@ -51,7 +52,10 @@ unfolding filled
 fills b b′ s r h p = p .buffer ∙ written-start b s h
 
 abbrev start : tie.After-enum-told → tie.Start
-start c = c .before .before .before .before .before
+start c = c .before .before .before .before .before .before .before
+
+abbrev lists : tie.Start → Defaults
+lists s = defaults (now (s .args .creds)) (now (s .args .aces))
 
 abbrev request : tie.Start → Request
 request s = asked (now (s .args .«record»)) (length (now (s .args .reply)))
@@ -63,10 +67,10 @@ is-sound c = let s = start c in not-false _ (passed (formChecks (s .args .t) (no
 returns : tie.Need-returns
 returns c =
     let told = c .before in
-    let s = told .before .before .before .before .before in
+    let s = told .before .before .before .before .before .before .before in
     let r = now (s .args .«record») in
     let form = formChecks (s .args .t) r in
-    turned (s .args .t) (request s) _ _ _ _ (told .enum-told2 .given .1)
+    turned (lists s) (s .args .t) (request s) _ _ _ _ (told .enum-told2 .given .1)
     (stop-all (form ++ requestChecks (s .args .t) (permission (s .args .t) r) r (action r)) _ _ (stop-all form _ _ (told .before .before .check-form .ensures) (told .enum-told2 .given .1)) (told .enum-told2 .given .1))
     (c .refused .ensures)
 
@@ -88,7 +92,7 @@ returns-2 c =
     let call = told .before .before in
     let s = start (call .before .before .before) in
     let r = now (s .args .«record») in
-    turned (s .args .t) (request s) _ _ _ _ (told .enum-told4 .given .1)
+    turned (lists s) (s .args .t) (request s) _ _ _ _ (told .enum-told4 .given .1)
     (stop-all (formChecks (s .args .t) r ++ requestChecks (s .args .t) (permission (s .args .t) r) r (action r)) _ _ (fourteen call) (told .enum-told4 .given .1))
     (c .refused2 .ensures)
 
@@ -115,7 +119,7 @@ returns-3 c =
     let told = c .before in
     let room = told .before .before in
     let s = start (before-room room .before .before .before) in
-    turned (s .args .t) (request s) _ _ _ _ (told .enum-told6 .given .1) (whole room) (c .refused3 .ensures)
+    turned (lists s) (s .args .t) (request s) _ _ _ _ (told .enum-told6 .given .1) (whole room) (c .refused3 .ensures)
 
 -- the place after the check of the room
 abbrev fitted : tie.After-put-reply → tie.After-enum-told5
@@ -150,9 +154,9 @@ returns-4 c =
     let room = fit .before .before in
     let call = before-room room in
     let s = start (call .before .before .before) in
-    let-through (s .args .t) (request s) _ _ _ _ _ _ (call .before .before .effective .ensures) (room .before .reply-length .ensures) (sym (fit .enum-told5 .given .1) ∙ whole room)
+    let-through (lists s) (s .args .t) (request s) _ _ _ _ _ _ (call .before .before .effective .ensures) (room .before .reply-length .ensures) (sym (fit .enum-told5 .given .1) ∙ whole room)
     (c .before .places-of .ensures ∙ ap (placesOf (s .args .t) (body (now (s .args .«record»)))) (call .before .action-of .ensures))
-    (c .apply .ensures ∙ ap (effect (s .args .t) (body (now (s .args .«record»)))) (call .before .action-of .ensures))
+    (c .apply .ensures ∙ ap (effect (lists s) (s .args .t) (body (now (s .args .«record»)))) (call .before .action-of .ensures))
     (fills _ _ _ _ (reply-fits fit) (wrote .put-reply .ensures))
 
 pub judge-spec : {M : Type 1} → statement M

@@ -21,7 +21,7 @@ abbrev μ-loop : tie.MeasureT-loop
 μ-loop out₀ at input p₀ t₀ rest₀ place₀ out p t rest place = length rest
 
 loop-holds : tie.Need-loop-holds Inv-loop μ-loop
-loop-holds c = run-start _ _ (omega arith) (omega arith) (c .fresh .ensures)
+loop-holds c = run-start _ _ (omega arith) (omega arith) (c .start-tables .ensures)
 
 -- the length that the rest starts with
 long : (c : tie.After-word Inv-loop μ-loop) → c .word .result ≡ lengthOf (c .before .before .loop .rest .now)

@@ -7,6 +7,7 @@ use borrow.Author.Needs.{needs}
 use Rattle.rules.specs.declared.Tables.{Tables}
 use Rattle.rules.specs.declared.Judgement.{Judgement}
 use Rattle.rules.specs.Record.{Request}
+use Rattle.rules.specs.Defaults.{Defaults}
 use Rattle.rules.specs.Outcome.{outcome, judgementOf, payloadAt}
 use Rattle.rules.proofs.Refusals.{payload-is}
 use Rattle.terminal.specs.declared.Outcome.{Outcome}
@@ -14,9 +15,9 @@ use Rattle.terminal.specs.Interface.{exported, startOf}
 use Rattle.terminal.proofs.tillerclover_judge.Statement.{statement}
 use Rattle.terminal.proofs.tillerclover_judge.Tie as tie
 
-told : (t : Tables) (q : Request) (j : Judgement) (p : List ℕ) (s : ℕ) → j ≡ judgementOf (outcome t q) → p ≡ payloadAt (j .answer) (q .bytes) → s ≡ startOf (length p)
-    → record { answer = j .answer; permission = j .permission; start = s; length = length p; reply = j .length; first = j .places .first; many = j .places .many; tables = j .tables } ≡ exported (outcome t q)
-told t q j p s e f g = rw (g, f, e, payload-is t q)
+told : (d : Defaults) (t : Tables) (q : Request) (j : Judgement) (p : List ℕ) (s : ℕ) → j ≡ judgementOf (outcome d t q) → p ≡ payloadAt (j .answer) (q .bytes) → s ≡ startOf (length p)
+    → record { answer = j .answer; permission = j .permission; start = s; length = length p; reply = j .length; first = j .places .first; many = j .places .many; tables = j .tables } ≡ exported (outcome d t q)
+told d t q j p s e f g = rw (g, f, e, payload-is d t q)
 
 -- back to the call of the judge
 abbrev call : tie.After-start-of → tie.After-judge
@@ -25,7 +26,7 @@ call c = c .before .before .before .before .before .before
 returns : tie.Need-returns
 returns c =
     let said = call c .judge .ensures in
-    (told _ _ _ _ _ (said .0) (c .before .payload .ensures) (c .start-of .ensures), said .1)
+    (told _ _ _ _ _ _ (said .0) (c .before .payload .ensures) (c .start-of .ensures), said .1)
 
 pub tillerclover-judge-spec : {M : Type 1} → statement M
 tillerclover-judge-spec =

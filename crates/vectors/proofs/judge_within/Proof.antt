@@ -9,7 +9,7 @@ use Rattle.vectors.proofs.judge_within.Tie as tie
 
 slice-aggregate-judge : tie.Need-slice-aggregate-judge
 slice-aggregate-judge c =
-    let s = c .before .before .before .before in
+    let s = c .before .before .before .before .before .before in
     let h : s .args .room ≤ length (s .args .buffer .now) = search needs in
     sym (length-take-le (s .args .room) (s .args .buffer .now) h)
 

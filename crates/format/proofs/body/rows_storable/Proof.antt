@@ -11,8 +11,8 @@ use denote.Ref.{now}
 use Rattle.rows.specs.Rows.{every, rowsOf}
 use Rattle.rows.proofs.Laws.{EveryInv, a-row, every-fails, every-turn, every-end}
 use Rattle.rules.specs.Tables.{stride, storable}
-use Rattle.format.proofs.soundness.rows_storable.Statement.{statement}
-use Rattle.format.proofs.soundness.rows_storable.Tie as tie
+use Rattle.format.proofs.body.rows_storable.Statement.{statement}
+use Rattle.format.proofs.body.rows_storable.Tie as tie
 
 abbrev Inv-loop : tie.InvT-loop
 Inv-loop table rows count long rest₀ left₀ rest left = EveryInv (storable table) long count rows rest left
