@@ -1,7 +1,7 @@
 // Total readers of records and rows: a field past the end is 0, and a part ends where the bytes end.
 // One reader of packed bits serves every named field.
-mod bits;
 pub mod ace;
+mod bits;
 pub mod body;
 pub mod cred;
 pub mod record;
@@ -33,7 +33,11 @@ pub fn part(s: &[u8], at: usize, n: usize) -> &[u8]
 pub fn held(count: u8, most: u8) -> usize
     ensures { λ n. ⌜ n ≡ min count most ⌝ }
 {
-    if count < most { count as usize } else { most as usize }
+    if count < most {
+        count as usize
+    } else {
+        most as usize
+    }
 }
 
 // All bytes after the first `n`.

@@ -39,10 +39,13 @@ pub fn state_body(b: &[u8]) -> bool
 pub fn cred_storable(row: &[u8]) -> bool
     ensures { λ r. ⌜ r ≡ credStorable (now (row .entry)) ⌝ }
 {
+    if row.len() != 21 {
+        return false;
+    }
     let numbered = word(row) != 0;
     let named = !is_nil(cred::subject(row));
     let typed = u16::count_ones(cred::type_bits(row)) <= 1;
-    (row.len() == 21) & numbered & named & typed & (cred::zeros(row) == 0)
+    numbered & named & typed & (cred::zeros(row) == 0)
 }
 
 fn subject_storable(row: &[u8]) -> bool
@@ -61,9 +64,12 @@ fn subject_storable(row: &[u8]) -> bool
 pub fn ace_storable(row: &[u8]) -> bool
     ensures { λ r. ⌜ r ≡ aceStorable (now (row .entry)) ⌝ }
 {
+    if row.len() != 28 {
+        return false;
+    }
     let numbered = word(row) != 0;
     let zeros = ace::zeros(row) == 0;
-    (row.len() == 28) & numbered & zeros & ace::set_known(row) & subject_storable(row)
+    numbered & zeros & ace::set_known(row) & subject_storable(row)
 }
 
 pub fn row_storable(table: Table, row: &[u8]) -> bool

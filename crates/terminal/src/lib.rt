@@ -51,7 +51,13 @@ fn start_of(length: usize) -> usize
 // Judges a record.
 // Rules out: the payload of a refused record; the tables of another record; a byte of the buffer changed behind the reply.
 #[no_mangle]
-pub extern "C" fn tillerclover_judge(t: Tables, creds: &[u8], aces: &[u8], record: &[u8], reply: &mut [u8]) -> Outcome
+pub extern "C" fn tillerclover_judge(
+    t: Tables,
+    creds: &[u8],
+    aces: &[u8],
+    record: &[u8],
+    reply: &mut [u8],
+) -> Outcome
     ensures said { λ r. ⌜ r ≡ exported (outcome (defaults (now (creds .entry)) (now (aces .entry))) t (asked (now («record» .entry)) (length (now (reply .entry))))) ⌝ }
     ensures buffer { λ _. ⌜ now (reply .exit) ≡ filled (now (reply .entry)) (replyTo (defaults (now (creds .entry)) (now (aces .entry))) t (asked (now («record» .entry)) (length (now (reply .entry)))) .contents) ⌝ }
 {

@@ -131,7 +131,11 @@ fn default_creds(s: &[u8]) -> &[u8] {
 }
 
 fn default_aces(s: &[u8]) -> &[u8] {
-    part(after(after(s, 3), byte_at(s, 1) as usize), 0, second_length(s) as usize)
+    part(
+        after(after(s, 3), byte_at(s, 1) as usize),
+        0,
+        second_length(s) as usize,
+    )
 }
 
 // Goes on with the default lists of this entry.
@@ -144,7 +148,11 @@ fn listed(p: Progress) -> Progress {
 // Goes on behind an entry of this size.
 fn moved(p: Progress, size: usize) -> Progress {
     let mut next = p;
-    next.at = if p.at <= usize::MAX - size { p.at + size } else { usize::MAX };
+    next.at = if p.at <= usize::MAX - size {
+        p.at + size
+    } else {
+        usize::MAX
+    };
     next
 }
 
@@ -184,7 +192,14 @@ fn judged(p: Progress, s: &[u8], lists: &[u8]) -> Progress {
     let expected = after(behind, 2);
     let mut buffer = [165u8; 1000];
     let t = p.tables;
-    let j = judge_within(t, default_creds(lists), default_aces(lists), record, &mut buffer, word(behind) as usize);
+    let j = judge_within(
+        t,
+        default_creds(lists),
+        default_aces(lists),
+        record,
+        &mut buffer,
+        word(behind) as usize,
+    );
     let answer = j.answer;
     let payload = judge::payload(record, answer);
     let t = j.tables;
@@ -202,7 +217,14 @@ fn judged(p: Progress, s: &[u8], lists: &[u8]) -> Progress {
 }
 
 // Judges a record with the first `room` bytes of the buffer, or all where it has fewer.
-fn judge_within(t: Tables, creds: &[u8], aces: &[u8], record: &[u8], buffer: &mut [u8], room: usize) -> Judgement {
+fn judge_within(
+    t: Tables,
+    creds: &[u8],
+    aces: &[u8],
+    record: &[u8],
+    buffer: &mut [u8],
+    room: usize,
+) -> Judgement {
     if buffer.len() < room {
         return judge::judge(t, creds, aces, record, buffer);
     }

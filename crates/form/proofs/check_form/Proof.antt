@@ -14,13 +14,13 @@ returns : tie.Need-returns
 returns c = stop _ _ _ _ (c .before .before .check-sound .ensures) (c .enum-told2 .given .1)
 
 returns-2 : tie.Need-returns-2
-returns-2 c = 
+returns-2 c =
     let p = c .before .before .before in
     skip _ _ _ (p .before .before .check-sound .ensures) (p .enum-told .given .1)
     (stop-all (headerChecks (now (start p .args .«record»))) _ _ (c .before .before .check-header .ensures) (c .enum-told4 .given .1))
 
 returns-3 : tie.Need-returns-3
-returns-3 c = 
+returns-3 c =
     let q = c .before in
     let p = q .before .before .before in
     skip _ _ _ (p .before .before .check-sound .ensures) (p .enum-told .given .1)

@@ -9,7 +9,7 @@ use Rattle.reading.proofs.put_contents.Tie as tie
 
 returns : tie.Need-returns
 unfolding contents rowOwner
-returns c = 
+returns c =
     let rows = c .before .before .put-rows .ensures in
     let owner = c .before .before .before .before .before .before .put .ensures in
     let own = c .before .before .before .before .before .before .before .before .before .before .before .before .before .before .put-own .ensures in

@@ -1,15 +1,22 @@
--- `body::cred_storable`: test by test.
+-- `body::cred_storable`: the length, then test by test.
 use Rattle.rules.specs.Bodies.{credStorable}
 use borrow.Author.Needs.{needs}
+use borrow.Author.Tests.{eq-eqb, ne-eqb}
+use lib.ListN.{length}
 use Rattle.format.proofs.body.cred_storable.Statement.{statement}
 use Rattle.format.proofs.body.cred_storable.Tie as tie
 
 returns : tie.Need-returns
 unfolding credStorable
-returns c = cc
+returns c = rw (ne-eqb (length (c .before .before .args .row .now)) 21 (c .if1 .taken))
+
+returns-2 : tie.Need-returns-2
+unfolding credStorable
+returns-2 c = let test = c .before .before .before .before .before in rw (eq-eqb (length (test .before .before .args .row .now)) 21 (test .if1 .left)) (cc)
 
 pub cred-storable-spec : {M : Type 1} → statement M
 cred-storable-spec =
     tie.close
     (tie.spec
-    (λ c κs. search needs) (λ c κs. search needs) (λ c κs. search needs) (λ c κs. search needs) (λ c κs. search needs) returns)
+    returns
+    (λ c κs. search needs) (λ c κs. search needs) (λ c κs. search needs) (λ c κs. search needs) (λ c κs. search needs) returns-2)

@@ -20,7 +20,7 @@ returns-3 c = let at = c .before .before .before in rw (sym (at .before .kind .e
 
 returns-4 : tie.Need-returns-4
 unfolding subjectStorable
-returns-4 c = 
+returns-4 c =
     let is = c .before .kind .ensures in
     let none = c .match .rest in
     rw (ne-eqb _ 0 (λ e. none .0 .0 .1 (is ∙ e)), ne-eqb _ 1 (λ e. none .0 .1 (is ∙ e)), ne-eqb _ 2 (λ e. none .1 (is ∙ e)))

@@ -14,7 +14,7 @@ cast-next : tie.Need-cast-next
 cast-next c = let list = c .before .before .before .default-rows .ensures in omega (arith, default-count Creds _ _ list, default-sound Creds (now (c .before .before .before .before .before .args .list)) .few)
 
 returns : tie.Need-returns
-returns c = 
+returns c =
     let list = c .before .before .before .default-rows .ensures in
     creds-are (c .before .before .before .before .before .args .t) _ _ _ _ (default-count Creds _ _ list) (default-packed Creds _ _ _ _ list (c .before .put .ensures)) refl
 
