@@ -1,3 +1,4 @@
+-- `check_connection`: test by test.
 use Rattle.rules.specs.Checks.{mismatch}
 use borrow.Author.Needs.{needs}
 use Rattle.form.proofs.check_connection.Statement.{statement}

@@ -1,3 +1,4 @@
+-- `check_sound`: the test is the definition.
 use borrow.Author.Needs.{needs}
 use Rattle.form.proofs.check_sound.Statement.{statement}
 use Rattle.form.proofs.check_sound.Tie as tie

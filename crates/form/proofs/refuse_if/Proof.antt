@@ -1,3 +1,4 @@
+-- `refuse_if`: by the condition.
 use Rattle.rules.specs.Checks.{refuseIf}
 use Rattle.form.proofs.refuse_if.Statement.{statement}
 use Rattle.form.proofs.refuse_if.Tie as tie

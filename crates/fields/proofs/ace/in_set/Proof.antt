@@ -1,3 +1,4 @@
+-- `ace::in_set`: the bit is 1.
 use borrow.Author.Needs.{needs}
 use Rattle.fields.proofs.ace.in_set.Statement.{statement}
 use Rattle.fields.proofs.ace.in_set.Tie as tie
@@ -5,15 +6,12 @@ use Rattle.fields.proofs.ace.in_set.Reads as reads
 use Rattle.fields.proofs.ace.in_set.Lts as lts
 use Rattle.fields.proofs.bits.bit_at.Reads as bit-at-reads
 
--- src/ace.rt:54:17
 add-bit-at : tie.Need-add-bit-at
 add-bit-at c = search needs
 
--- src/ace.rt:54:5
 bit-at-requires : tie.Need-bit-at-requires
 bit-at-requires c κs = search needs
 
--- src/ace.rt:51:1
 returns : tie.Need-returns
 returns c = cc
 

@@ -1,3 +1,4 @@
+-- `ace::minus`: the field is 1.
 use borrow.Author.Needs.{needs}
 use Rattle.fields.proofs.ace.minus.Statement.{statement}
 use Rattle.fields.proofs.ace.minus.Tie as tie
@@ -5,11 +6,9 @@ use Rattle.fields.proofs.ace.minus.Reads as reads
 use Rattle.fields.proofs.ace.minus.Lts as lts
 use Rattle.fields.proofs.bits.field.Reads as field-reads
 
--- src/ace.rt:34:5
 field-requires : tie.Need-field-requires
 field-requires c κs = search needs
 
--- src/ace.rt:31:1
 returns : tie.Need-returns
 returns c = cc
 

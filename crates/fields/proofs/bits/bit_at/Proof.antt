@@ -1,3 +1,4 @@
+-- `bits::bit_at`: the definition's quotient and remainder.
 use mathlib.Core.Path.{ap}
 use Prim.Native.Nat.{ℕ, _/_, _%_, _-_, _^_}
 use borrow.Author.Needs.{needs}

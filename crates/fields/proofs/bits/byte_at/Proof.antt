@@ -1,3 +1,4 @@
+-- `bits::byte_at`: past the end 0.
 use mathlib.Core.Path.{sym}
 use denote.Ref.{now}
 use lib.ListN.{List·getD-eq-default}
