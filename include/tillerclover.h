@@ -217,8 +217,8 @@ tillerclover_tables tillerclover_clear(tillerclover_tables tables, const uint8_t
  *         of an empty buffer. A null pointer is never read through with length 0, which
  *         examples/yard.c tries; with any other length it is an error of the caller.
  * reply   points to at least `room` bytes that nothing else reads or writes during the call, none of
- *         them a byte of the record. Any content and any length are allowed, and
- *         TILLERCLOVER_REPLY_MAX fits every reply. The bytes behind the reply keep their contents,
+ *         them a byte of the record or of the default rows. Any content and any length are allowed,
+ *         and TILLERCLOVER_REPLY_MAX fits every reply. The bytes behind the reply keep their contents,
  *         and so do all of them where there is no reply. With room 0 the pointer is treated as that
  *         of a record of length 0.
  *

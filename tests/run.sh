@@ -9,7 +9,7 @@ set -uo pipefail
 cd "$(dirname "$0")/.." || exit 2
 
 ALL=(model compare runs example vectors inputs)
-mkdir -p target && work=$(mktemp -d "$PWD/target/tests.XXXXXX") || exit 2
+work=$(mktemp -d) || exit 2
 trap 'rm -rf "$work"' EXIT
 
 # ---- what the tests stand on

@@ -1,8 +1,8 @@
 // The fields of an access row, an access control entry.
-// Number, subject kind, permission, wildcards, set of resources, subject.
+// Number, subject kind, permission, wildcards, set of resources, subject. Each contract rules out the bit beside the field and one bit fewer.
 use crate::bits::bit_at;
 use crate::bits::field;
-use crate::part;
+use rows::part;
 ghost use mathlib.Core.Path.{_≡_};
 ghost use Rattle.rules.specs.Bits.{bits};
 ghost use Rattle.rules.specs.Bodies.{aceKind, acePermission, acePlus, aceMinus, aceStar, inSet, setKnown, aceSubject, aceRole, aceConnection};

@@ -1,5 +1,5 @@
 // The fields of the bodies of doxm and pstat.
-// Owned and device owner; target state.
+// Owned and device owner; target state. Each contract rules out the bit beside the field and one bit fewer.
 use crate::after;
 use crate::bits::field;
 ghost use mathlib.Core.Path.{_≡_};

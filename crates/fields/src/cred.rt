@@ -1,7 +1,7 @@
 // The fields of a credential row.
-// Number, subject UUID, role, type.
+// Number, subject UUID, role, type. Each contract rules out the bit beside the field and one bit fewer.
 use crate::bits::field;
-use crate::part;
+use rows::part;
 ghost use mathlib.Core.Path.{_≡_};
 ghost use Rattle.rules.specs.Bodies.{credSubject, credRole, credType};
 ghost use Rattle.rules.specs.Bits.{bits};

@@ -9,24 +9,8 @@ pub mod record;
 use bits::field;
 ghost use mathlib.Core.Path.{_≡_};
 ghost use Prim.Native.Nat.{min};
-ghost use lib.ListN.{take, drop};
+ghost use lib.ListN.{drop};
 ghost use Rattle.rules.specs.Bits.{bits};
-
-// The `n` bytes from `at` on, or as many as there are.
-// Rules out: a part that starts one byte later; one that fails where the bytes are too few.
-pub fn part(s: &[u8], at: usize, n: usize) -> &[u8]
-    ensures { λ r. ⌜ now r ≡ take n (drop at (now (s .entry))) ⌝ }
-{
-    let len = s.len();
-    if len <= at {
-        return &s[..0];
-    }
-    if len - at <= n {
-        return &s[at..];
-    }
-    let end = at + n;
-    &s[at..end]
-}
 
 // Of so many rows counted, as many as there is room for.
 // Rules out: all that are counted; one fewer.

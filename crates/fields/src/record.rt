@@ -1,5 +1,5 @@
 // The fields of a record's header, and its body.
-// A record too short for a field has 0 there; it is refused for its length.
+// A record too short for a field has 0 there; it is refused for its length. Each contract rules out the bit beside the field and one bit fewer.
 use crate::after;
 use crate::bits::field;
 ghost use mathlib.Core.Path.{_≡_};

@@ -1,6 +1,110 @@
-// What a body may hold, what a record asks for, and whether tables are sound.
-// Every public function is total: any bytes, any tables.
-pub mod action;
-mod body;
-pub mod defaults;
-pub mod soundness;
+// The values that a body may have, and what it could store as a row.
+// A test for each field, in the order of the layout; a body of another length is no row.
+use fields::ace;
+use fields::body;
+use fields::cred;
+use fields::word;
+use rows::part;
+use rules::Table;
+use rules::Uuid;
+ghost use mathlib.Core.Path.{_≡_};
+ghost use Rattle.rules.specs.Bodies.{isNil, ownerBody, stateBody, credStorable, subjectStorable, aceStorable};
+ghost use Rattle.rules.specs.Tables.{stride, capacity, storable};
+
+// Bytes of a row.
+// Rules out: one length for both tables; a length that a body does not have.
+pub fn stride_of(table: Table) -> usize
+    ensures { λ r. ⌜ r ≡ stride table ⌝ }
+{
+    match table {
+        Table::Creds => 21,
+        Table::Aces => 28,
+    }
+}
+
+// Rows at most.
+// Rules out: one row fewer; one capacity for both tables.
+pub fn capacity_of(table: Table) -> usize
+    ensures { λ r. ⌜ r ≡ capacity table ⌝ }
+{
+    match table {
+        Table::Creds => 24,
+        Table::Aces => 32,
+    }
+}
+
+// The UUID of nobody: sixteen zero bytes.
+// Rules out: fifteen zero bytes taken as nil; no bytes taken as nil.
+pub fn is_nil(uuid: &[u8]) -> bool
+    ensures { λ r. ⌜ r ≡ isNil (now (uuid .entry)) ⌝ }
+{
+    rows::same_bytes(uuid, &Uuid::NIL)
+}
+
+// doxm: owned is 1 exactly when the device owner is not nil.
+// Rules out: an owner with owned 0; nil with owned 1.
+pub fn owner_body(b: &[u8]) -> bool
+    ensures { λ r. ⌜ r ≡ ownerBody (now (b .entry)) ⌝ }
+{
+    let owned = !is_nil(body::new_owner(b)) as u16;
+    (body::owner_zeros(b) == 0) & (body::new_owned(b) == owned)
+}
+
+// pstat: a target state from 0 to 4.
+// Rules out: state 5 as a target; a set bit after the target.
+pub fn state_body(b: &[u8]) -> bool
+    ensures { λ r. ⌜ r ≡ stateBody (now (b .entry)) ⌝ }
+{
+    (body::target(b) <= 4) & (body::target_zeros(b) == 0)
+}
+
+// A credential row that a body could store.
+// Rules out: number 0; two bits of the type.
+pub fn cred_storable(row: &[u8]) -> bool
+    ensures { λ r. ⌜ r ≡ credStorable (now (row .entry)) ⌝ }
+{
+    if row.len() != 21 {
+        return false;
+    }
+    let numbered = word(row) != 0;
+    let named = !is_nil(cred::subject(row));
+    let typed = u16::count_ones(cred::type_bits(row)) <= 1;
+    numbered & named & typed & (cred::zeros(row) == 0)
+}
+
+fn subject_storable(row: &[u8]) -> bool
+    ensures { λ r. ⌜ r ≡ subjectStorable (now (row .entry)) ⌝ }
+{
+    let subject = ace::subject(row);
+    let kind = ace::kind(row);
+    match kind {
+        0 => !is_nil(subject),
+        1 => rows::all_zero(part(subject, 0, 14), 0) & (ace::role(row) != 0),
+        2 => rows::all_zero(part(subject, 0, 15), 0) & (ace::connection_zeros(row) == 0),
+        _ => false,
+    }
+}
+
+// An access row that a body could store.
+// Rules out: a resource in the set that is unknown; role 0 as a subject.
+pub fn ace_storable(row: &[u8]) -> bool
+    ensures { λ r. ⌜ r ≡ aceStorable (now (row .entry)) ⌝ }
+{
+    if row.len() != 28 {
+        return false;
+    }
+    let numbered = word(row) != 0;
+    let zeros = ace::zeros(row) == 0;
+    numbered & zeros & ace::set_known(row) & subject_storable(row)
+}
+
+// A row of the table that a body could store.
+// Rules out: one table's test for both; a row of the other table's length.
+pub fn row_storable(table: Table, row: &[u8]) -> bool
+    ensures { λ r. ⌜ r ≡ storable table (now (row .entry)) ⌝ }
+{
+    match table {
+        Table::Creds => cred_storable(row),
+        Table::Aces => ace_storable(row),
+    }
+}

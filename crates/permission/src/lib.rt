@@ -1,11 +1,11 @@
 // The effective permission of a record's sender on its resource.
 // The union of what the fitting access rows give, and all five bits for a security resource's owners.
-use fields::ace;
+use access::row_gives;
 use fields::cred;
 use fields::held;
-use fields::part;
 use fields::record::connection_of;
 use fields::record::resource_of;
+use rows::part;
 use rules::Permission;
 use rules::Tables;
 use rules::Uuid;
@@ -16,7 +16,7 @@ ghost use Prim.Native.Nat.{_*_, _≤_, min};
 ghost use lib.ListN.{length};
 ghost use Rattle.rows.specs.Rows.{rowsOf, unionOf};
 ghost use Rattle.rules.specs.Record.{sender};
-ghost use Rattle.rules.specs.Permission.{credentialIn, connectionOf, subjectFits, resourceFits, rowFits, gives, names, isOwner, all, permission};
+ghost use Rattle.rules.specs.Permission.{credentialIn, connectionOf, gives, names, isOwner, all, permission};
 
 // The credential row of the record's sender, or no bytes.
 fn credential_row<'a>(creds: &'a [u8], count: usize, record: &'a [u8]) -> &'a [u8]
@@ -40,46 +40,6 @@ fn sender_connection(record: &[u8]) -> u16
         return 0;
     }
     connection_of(record)
-}
-
-fn subject_fits(cred: &[u8], connection: u16, ace: &[u8]) -> bool
-    ensures { λ r. ⌜ r ≡ subjectFits (now (cred .entry)) connection (now (ace .entry)) ⌝ }
-{
-    let kind = ace::kind(ace);
-    match kind {
-        0 => (cred.len() != 0) & rows::same_bytes(ace::subject(ace), cred::subject(cred)),
-        1 => (cred.len() != 0) & (ace::role(ace) == cred::role(cred)),
-        2 => ace::connection(ace) == connection,
-        _ => false,
-    }
-}
-
-fn resource_fits(resource: u16, ace: &[u8]) -> bool
-    ensures { λ r. ⌜ r ≡ resourceFits resource (now (ace .entry)) ⌝ }
-{
-    let e = resource_row(resource as usize);
-    let star = e.known & !e.configuration;
-    let shown = star & e.discoverable;
-    ace::in_set(ace, resource)
-        | (ace::star(ace) & star)
-        | (ace::plus(ace) & (shown & e.secure))
-        | (ace::minus(ace) & (shown & e.unsecure))
-}
-
-fn row_fits(cred: &[u8], connection: u16, resource: u16, ace: &[u8]) -> bool
-    ensures { λ r. ⌜ r ≡ rowFits (now (cred .entry)) connection resource (now (ace .entry)) ⌝ }
-{
-    subject_fits(cred, connection, ace) & resource_fits(resource, ace)
-}
-
-// What an access row gives.
-fn row_gives(cred: &[u8], connection: u16, resource: u16, ace: &[u8]) -> u8
-    ensures { λ r. ⌜ r ≡ gives (now (cred .entry)) connection resource (now (ace .entry)) ⌝ }
-{
-    if row_fits(cred, connection, resource, ace) {
-        return ace::permission(ace) as u8;
-    }
-    0
 }
 
 // What the access rows give together.

@@ -1,9 +1,9 @@
 // Reading the tables back: the reply to a RETRIEVE of a security resource, its length and its bytes.
 // The resource's own body, its row owner, and its rows in table order.
 use fields::held;
-use fields::part;
 use fields::record::resource_of;
 use fields::record::verb_of;
+use rows::part;
 use rules::Tables;
 use rules::directory::resource_row;
 use text::put;

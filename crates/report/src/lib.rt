@@ -44,7 +44,7 @@ fn put_cut(out: &mut [u8], at: usize) -> usize
 fn start_tables() -> Tables
     ensures { λ r. ⌜ r ≡ fresh noDefaults ⌝ }
 {
-    format::defaults::fresh(b"", b"")
+    tables::defaults::fresh(b"", b"")
 }
 
 // Judges a record with a buffer that fits any reply.
@@ -81,6 +81,7 @@ fn put_lines(out: &mut [u8], at: usize, input: &[u8]) -> usize
 
 // The text of a run, as much of it as the buffer holds; the result is how many bytes that is.
 // `whole`: a buffer of 294,932 bytes holds all of it, for every run that the run program reads. `part`: a caller may take `&out[..r]`.
+// Rules out: every record judged on the first tables; a cut record judged.
 pub fn run_text(input: &[u8], out: &mut [u8]) -> usize
     ensures count { λ r. ⌜ r ≡ min (length (runText (now (input .entry)))) (length (now (out .entry))) ⌝ }
     ensures buffer { λ r. ⌜ now (out .exit) ≡ written (now (out .entry)) 0 (runText (now (input .entry))) ⌝ }

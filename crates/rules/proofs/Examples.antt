@@ -1,4 +1,4 @@
--- Theorems over the paper's own examples: the fourteen rows of 'Why a record is turned away', the worked run, the readings to guard against.
+-- Theorems over the paper's own examples: the fourteen rows of 'Why a record is turned away', the worked run, the readings to guard against; then examples of the requests.
 -- And one run for which the premise of 'The others alone' holds, so that demand 3 is not empty.
 use Prim.Native.Nat.{ℕ, zero, suc, _+_, _*_, _/_, _%_}
 use mathlib.Core.Path.{_≡_, refl}
@@ -249,7 +249,7 @@ pub subject-answers :
 unfolding definitions several deletes haulierRow owned5 uuid credRow
 subject-answers = refl
 
--- ---- places (U4): of the same deletes, of one row by its number, of all rows, and of all rows of an empty table
+-- ---- places (U4): of the same deletes, of one row by its number, of all rows, of all rows of an empty table, and of a row that is not there
 
 pub at-places : ℕ → ℕ → Places
 at-places first many = record { first = first; many = many }
@@ -294,6 +294,19 @@ one-bad-list = refl
 pub reset-restores : tablesAfter build (tablesAfter build several (deletes (0x00 ∷ 0x03 ∷ []))) (lent (0x50 ∷ 0x40 ∷ 0x00 ∷ 0x05 ∷ 0x00 ∷ [])) ≡ fresh build
 unfolding definitions build several deletes haulierRow owned5 credRow uuid aceRow weight
 reset-restores = refl
+
+-- all rows deleted by whoever stands at a terminal without an owner: the default rows are gone too
+pub emptied : Tables
+emptied = tablesAfter build (tablesAfter build (fresh build) (lent (0x60 ∷ 0x80 ∷ 0x00 ∷ 0x00 ∷ []))) (lent (0x60 ∷ 0xc0 ∷ 0x00 ∷ 0x00 ∷ []))
+
+pub defaults-deleted : emptied ≡ empty
+unfolding definitions emptied build haulierRow credRow uuid aceRow weight
+defaults-deleted = refl
+
+-- until the next RESET
+pub defaults-back : tablesAfter build emptied (lent (0x40 ∷ 0x40 ∷ 0x00 ∷ 0x00 ∷ 0x00 ∷ [])) ≡ fresh build
+unfolding definitions emptied build haulierRow credRow uuid aceRow weight
+defaults-back = refl
 
 -- ---- demand 3 is not empty: partner 7, a haulier who may read resource 8, is chosen, and the unauthenticated senders with it
 
@@ -342,7 +355,7 @@ calm-parts t h = search (and-left, and-right)
 
 calm-harmless : (t : Tables) → calm t ≡ true → Harmless chosen7 t
 unfolding chosen7
-calm-harmless t h = let p = calm-parts t h in record { hasOwner = not-true _ (p .owned); notOwner = owner p; notGranted = granted p }
+calm-harmless t h = let p = calm-parts t h in record { hasOwner = λ s c. not-true _ (p .owned); notOwner = owner p; notGranted = granted p }
   where
     owner : Calm t → (s : Sender) → chosen7 s ≡ true → namesOwner t s ≡ false
     owner p unauthenticated c = not-true _ (p .stranger-owner)

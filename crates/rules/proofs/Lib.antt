@@ -5,6 +5,7 @@ pub mod RecordLaws
 pub mod SetLaws
 pub mod CheckLaws
 pub mod Answers
+pub mod Others
 pub mod BodyLaws
 pub mod TableLaws
 pub mod Refusals

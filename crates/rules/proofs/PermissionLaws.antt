@@ -100,7 +100,7 @@ module _ (chosen : Sender → Bool) (t : Tables) (s : Sender) (n : ℕ) (safe : 
 
   unowned-none : byNoOwner t n ≡ 0
   unfolding byNoOwner
-  unowned-none = rw (sec, safe .hasOwner)
+  unowned-none = rw (sec, safe .hasOwner s c)
 
   -- a chosen sender alters no security resource
   pub effective-lacks : alters (effective t s n) ≡ false

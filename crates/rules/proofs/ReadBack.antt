@@ -4,11 +4,12 @@ use Prim.Native.Nat.{ℕ, zero, suc, _+_, _*_, _-_, _/_, _≤_, _<_}
 use native.Mathlib.Nat.{mul-div-cancel}
 use native.Mathlib.Omega.{arith}
 use mathlib.Core.Path.{_≡_, refl, sym, ap, ap₂, _∙_}
-use mathlib.Core.Bool.{true}
+use mathlib.Core.Bool.{Bool, true, false, cond}
 use mathlib.Core.List.{List, [], _∷_, _++_, append-nil}
+use lib.Dec.{ltb}
 use lib.ListN.{length, take, drop, length-append, length-drop, length-take}
 use lib.Seq.{length-take-le, drop-at}
-use borrow.Author.Tests.{ne-eqb}
+use borrow.Author.Tests.{ne-eqb, le-ltb}
 use Rattle.rows.specs.Rows.{Row, rowsOf, joined, storedAll}
 use Rattle.rows.proofs.Kept.{AllLong, every-long, length-joined, rowsOf-joined}
 use Rattle.rows.proofs.Restore.{restored}
@@ -16,8 +17,9 @@ use Rattle.rules.specs.declared.Tables.{Tables}
 use Rattle.rules.specs.declared.Table.{Table}
 use Rattle.rules.specs.declared.Table.the-variants.{Creds, Aces}
 use Rattle.rules.specs.Directory.{cred, acl2}
+use Rattle.rules.specs.Record.{resource}
 use Rattle.rules.specs.Tables.{stride, capacity, storable, rows, rowOwner, sound}
-use Rattle.rules.specs.Reading.{ownBody, rowBytes, contents}
+use Rattle.rules.specs.Reading.{ownBody, rowBytes, contents, reads, replyOf, tooShort}
 use Rattle.rules.proofs.Answers.{table-parts}
 use Rattle.rules.proofs.BodyLaws.{sized}
 use Rattle.rules.proofs.TableLaws.{few-rows}
@@ -93,8 +95,17 @@ owner-short : (t : Tables) (n : ℕ) → length (rowOwner t n) ≤ 16
 unfolding rowOwner
 owner-short t n = rw (length-take 16 (drop (n * 16) (t .rowners))) (omega arith)
 
--- a reply is 912 bytes long at most, so a buffer of that length never gets 15
+-- a reply is 912 bytes long at most
 pub reply-short : (t : Tables) (n : ℕ) → sound t ≡ true → length (t .devowner) ≡ 16 → length (contents t n) ≤ 912
 unfolding contents
 reply-short t n h l =
     simp length-append (omega (arith, parts-short t n h l, owner-short t n))
+
+-- so a record with a buffer of that length never gets 15
+pub room-enough : (t : Tables) (r : List ℕ) → sound t ≡ true → length (t .devowner) ≡ 16 → tooShort t r 912 ≡ false
+unfolding tooShort replyOf
+room-enough t r h l = go (reads r)
+  where
+    go : (b : Bool) → ltb 912 (length (cond b (contents t (resource r)) [])) ≡ false
+    go true = le-ltb 912 (length (contents t (resource r))) (reply-short t (resource r) h l)
+    go false = refl

@@ -107,6 +107,15 @@ refused-is d t q n = go (verdict (checks t (permission t (q .bytes)) q)) refl
     go Pass e a = absurd (omega arith)
     go (Refuse m) e a = refused-first (checks t (permission t (q .bytes)) q) (suc n) (e ∙ ap (λ (k : ℕ). Refuse k) a)
 
+-- and only then
+pub is-permitted : (d : Defaults) (t : Tables) (q : Request) → noneApplies (checks t (permission t (q .bytes)) q) ≡ true → replyTo d t q .answer ≡ 0
+unfolding outcome outcomeAt
+is-permitted d t q h = ap (λ (c : Check). outcomeOf d t (permission t (q .bytes)) (q .bytes) c .reply .answer) (none-permitted (checks t (permission t (q .bytes)) q) h)
+
+pub is-refused : (d : Defaults) (t : Tables) (q : Request) (n : ℕ) → FirstOf n (checks t (permission t (q .bytes)) q) → replyTo d t q .answer ≡ n
+unfolding outcome outcomeAt
+is-refused d t q n f = ap (λ (c : Check). outcomeOf d t (permission t (q .bytes)) (q .bytes) c .reply .answer) (first-refused (checks t (permission t (q .bytes)) q) n f)
+
 -- ---- a refusal
 
 -- any answer but 0 goes with permission 0, the empty payload, no reply, no places and the same tables

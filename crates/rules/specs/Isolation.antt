@@ -29,9 +29,9 @@ rowAlters a = someSecurity (λ n. resourceFits n a) && alters (acePermission a)
 unfoldable pub mayAlter : Tables → Sender → Bool
 mayAlter t s = some (λ a. subjectFits (credentialIn (rows Creds t) s) (connectionOf s) a && rowAlters a) (rows Aces t)
 
--- there is an owner, no chosen sender's credential row names one, and no access row that fits a chosen sender gives create, update or delete on a security resource
+-- where anybody is chosen: there is an owner, no chosen sender's credential row names one, and no access row that fits a chosen sender gives create, update or delete on a security resource
 pub record Harmless (chosen : Sender → Bool) (t : Tables) : Type 0 where
-  pub hasOwner : eqb (t .owned) 0 ≡ false
+  pub hasOwner : (s : Sender) → chosen s ≡ true → eqb (t .owned) 0 ≡ false
   pub notOwner : (s : Sender) → chosen s ≡ true → namesOwner t s ≡ false
   pub notGranted : (s : Sender) → chosen s ≡ true → mayAlter t s ≡ false
 

@@ -1,4 +1,4 @@
--- The rules of document 01, in the paper's order. Bits and Lookup serve all the others.
+-- The rules of document 01 and of the requests, in the paper's order. Bits and Lookup serve all the others.
 pub mod Bits
 pub mod Lookup
 pub mod Directory

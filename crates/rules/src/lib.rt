@@ -4,6 +4,7 @@ pub mod directory;
 
 ghost use mathlib.Core.Path.{_≡_};
 ghost use Rattle.rules.specs.Tables.{empty};
+ghost use Rattle.rules.specs.Checks.{refuseIf};
 
 // A UUID is sixteen bytes.
 pub struct Uuid {
@@ -86,6 +87,19 @@ pub struct Resource {
 pub enum Check {
     Pass,
     Refuse(u8),
+}
+
+impl Check {
+    // What the check with this number says where its condition is this.
+    // Rules out: a refusal with another number; a pass where the condition holds.
+    pub fn refuse_if(number: u8, applies: bool) -> Check
+        ensures { λ c. ⌜ c ≡ refuseIf number applies ⌝ }
+    {
+        if applies {
+            return Check::Refuse(number);
+        }
+        Check::Pass
+    }
 }
 
 // The two tables of rows: credentials, and access control entries.

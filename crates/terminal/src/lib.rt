@@ -29,7 +29,7 @@ pub struct Outcome {
 pub extern "C" fn tillerclover_fresh(creds: &[u8], aces: &[u8]) -> Tables
     ensures { λ r. ⌜ r ≡ fresh (defaults (now (creds .entry)) (now (aces .entry))) ⌝ }
 {
-    format::defaults::fresh(creds, aces)
+    tables::defaults::fresh(creds, aces)
 }
 
 // The clear button.
@@ -38,7 +38,7 @@ pub extern "C" fn tillerclover_fresh(creds: &[u8], aces: &[u8]) -> Tables
 pub extern "C" fn tillerclover_clear(t: Tables, creds: &[u8], aces: &[u8]) -> Tables
     ensures { λ r. ⌜ r ≡ cleared (defaults (now (creds .entry)) (now (aces .entry))) t ⌝ }
 {
-    judge::clear(t, creds, aces)
+    tables::defaults::clear(t, creds, aces)
 }
 
 // Where a payload of this length starts in its record.
@@ -65,7 +65,7 @@ pub extern "C" fn tillerclover_judge(
     let next = j.tables;
     let places = j.places;
     let answer = j.answer;
-    let length = judge::payload(record, answer).len();
+    let length = outcome::payload(record, answer).len();
     Outcome {
         answer: answer,
         permission: j.permission,

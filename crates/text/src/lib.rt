@@ -8,6 +8,7 @@ ghost use Rattle.text.specs.Text.{decimal};
 ghost use Rattle.text.specs.Buffer.{Puts, Counts};
 
 // One byte. The largest position stays where it is.
+// Rules out: a byte written past the end; a position that stops at the end.
 pub fn put_byte(out: &mut [u8], at: usize, b: u8) -> usize
     ensures { λ r. ⌜ Puts (now (out .entry)) at (b ∷ []) (now (out .exit)) r ⌝ }
 {
@@ -19,6 +20,7 @@ pub fn put_byte(out: &mut [u8], at: usize, b: u8) -> usize
 }
 
 // A text, byte by byte.
+// Rules out: a text cut one byte early; bytes before the position touched.
 pub fn put(out: &mut [u8], at: usize, text: &[u8]) -> usize
     ensures { λ r. ⌜ Puts (now (out .entry)) at (now (text .entry)) (now (out .exit)) r ⌝ }
 {
@@ -32,6 +34,7 @@ pub fn put(out: &mut [u8], at: usize, text: &[u8]) -> usize
 }
 
 // A number in decimal: the digits of its tenth, and then its last digit.
+// Rules out: zeros before the number; the digits the other way round.
 pub fn put_decimal(out: &mut [u8], at: usize, n: usize) -> usize
     ensures { λ r. ⌜ Puts (now (out .entry)) at (decimal n) (now (out .exit)) r ⌝ }
 {
@@ -44,6 +47,7 @@ pub fn put_decimal(out: &mut [u8], at: usize, n: usize) -> usize
 }
 
 // How many bytes stand in the buffer of a text that was put from its start and ends at a position.
+// Rules out: a count that goes past the buffer; 0 where the text is cut.
 pub fn within(out: &[u8], at: usize) -> usize
     ensures { λ r. ⌜ r ≡ min at (length (now (out .entry))) ⌝ }
     ensures { λ r. ⌜ Counts r (now (out .entry)) ⌝ }

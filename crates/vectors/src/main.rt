@@ -1,11 +1,12 @@
 // Judges the records of vectors.bin, which the second model wrote, and compares what comes of each.
 // The file's form stands in model/src/vectors.rs: tables to take, records with their outcome, tables that must be reached, default lists.
 use fields::after;
-use fields::part;
 use fields::word;
+use rows::part;
 use rules::Judgement;
 use rules::Places;
 use rules::Tables;
+ghost use Prim.Native.Nat.{_≤_};
 
 // What is held from entry to entry.
 struct Progress {
@@ -201,7 +202,7 @@ fn judged(p: Progress, s: &[u8], lists: &[u8]) -> Progress {
         word(behind) as usize,
     );
     let answer = j.answer;
-    let payload = judge::payload(record, answer);
+    let payload = outcome::payload(record, answer);
     let t = j.tables;
     let mut next = p;
     next.tables = t;
@@ -225,10 +226,17 @@ fn judge_within(
     buffer: &mut [u8],
     room: usize,
 ) -> Judgement {
-    if buffer.len() < room {
-        return judge::judge(t, creds, aces, record, buffer);
+    let n = smaller(room, buffer.len());
+    judge::judge(t, creds, aces, record, &mut buffer[..n])
+}
+
+fn smaller(a: usize, b: usize) -> usize
+    ensures { λ r. ⌜ r ≤ b ⌝ }
+{
+    if a < b {
+        return a;
     }
-    judge::judge(t, creds, aces, record, &mut buffer[..room])
+    b
 }
 
 // Whether the reply is the one behind its length and the places, and the buffer is as before behind it.

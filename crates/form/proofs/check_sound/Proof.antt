@@ -4,7 +4,7 @@ use Rattle.form.proofs.check_sound.Statement.{statement}
 use Rattle.form.proofs.check_sound.Tie as tie
 
 returns : tie.Need-returns
-returns c = cc
+returns c = rw (c .before .tables-sound .ensures) at (c .refuse-if .ensures)
 
 pub check-sound-spec : {M : Type 1} → statement M
 check-sound-spec =

@@ -20,7 +20,7 @@ use Rattle.rules.specs.Action.{action}
 use Rattle.rules.specs.declared.Places.{Places}
 use Rattle.rules.specs.Places.{placesOf}
 use Rattle.rules.specs.Reading.{replyOf, tooShort, filled}
-use Rattle.rules.specs.Checks.{verdict, numberOf, formChecks, requestChecks, roomChecks, checks}
+use Rattle.rules.specs.Checks.{verdict, numberOf, formChecks, askedChecks, roomChecks, checks}
 use Rattle.rules.specs.Outcome.{outcome, outcomeAt, outcomeOf, replyTo, judgementOf, refusal, effect}
 use Rattle.rules.proofs.CheckLaws.{stop-all, skip-all, last, not-applied}
 use Rattle.rules.proofs.Answers.{passed}
@@ -71,20 +71,20 @@ returns c =
     let r = now (s .args .«record») in
     let form = formChecks (s .args .t) r in
     turned (lists s) (s .args .t) (request s) _ _ _ _ (told .enum-told2 .given .1)
-    (stop-all (form ++ requestChecks (s .args .t) (permission (s .args .t) r) r (action r)) _ _ (stop-all form _ _ (told .before .before .check-form .ensures) (told .enum-told2 .given .1)) (told .enum-told2 .given .1))
+    (stop-all (form ++ askedChecks (s .args .t) (permission (s .args .t) r) r (action r)) _ _ (stop-all form _ _ (told .before .before .check-form .ensures) (told .enum-told2 .given .1)) (told .enum-told2 .given .1))
     (c .refused .ensures)
 
-check-request-requires : tie.Need-check-request-requires
-check-request-requires c κs = (is-sound (c .before .before), c .action-of .ensures)
+check-asked-requires : tie.Need-check-asked-requires
+check-asked-requires c κs = c .action-of .ensures
 
 -- the verdict of the checks up to 14
-fourteen : (c : tie.After-check-request) → let s = start (c .before .before .before) in let r = now (s .args .«record») in
-    c .check-request .result ≡ verdict (formChecks (s .args .t) r ++ requestChecks (s .args .t) (permission (s .args .t) r) r (action r))
+fourteen : (c : tie.After-check-asked) → let s = start (c .before .before .before) in let r = now (s .args .«record») in
+    c .check-asked .result ≡ verdict (formChecks (s .args .t) r ++ askedChecks (s .args .t) (permission (s .args .t) r) r (action r))
 fourteen c =
     let p = c .before .before .before in
     let s = start p in
     skip-all (formChecks (s .args .t) (now (s .args .«record»))) _ (p .before .before .check-form .ensures) (p .enum-told .given .1)
-    (rw (← c .before .before .effective .ensures, ← c .before .action-of .ensures) (c .check-request .ensures))
+    (rw (← c .before .before .effective .ensures, ← c .before .action-of .ensures) (c .check-asked .ensures))
 
 returns-2 : tie.Need-returns-2
 returns-2 c =
@@ -93,11 +93,11 @@ returns-2 c =
     let s = start (call .before .before .before) in
     let r = now (s .args .«record») in
     turned (lists s) (s .args .t) (request s) _ _ _ _ (told .enum-told4 .given .1)
-    (stop-all (formChecks (s .args .t) r ++ requestChecks (s .args .t) (permission (s .args .t) r) r (action r)) _ _ (fourteen call) (told .enum-told4 .given .1))
+    (stop-all (formChecks (s .args .t) r ++ askedChecks (s .args .t) (permission (s .args .t) r) r (action r)) _ _ (fourteen call) (told .enum-told4 .given .1))
     (c .refused2 .ensures)
 
 -- back from the check of the room
-abbrev before-room : tie.After-check-room → tie.After-check-request
+abbrev before-room : tie.After-check-room → tie.After-check-asked
 before-room c = c .before .before .before .before
 
 room-checked : (c : tie.After-check-room) → let s = start (before-room c .before .before .before) in
@@ -112,7 +112,7 @@ whole c =
     let call = before-room c in
     let s = start (call .before .before .before) in
     let r = now (s .args .«record») in
-    skip-all (formChecks (s .args .t) r ++ requestChecks (s .args .t) (permission (s .args .t) r) r (action r)) _ (fourteen call) (c .before .before .enum-told3 .given .1) (room-checked c)
+    skip-all (formChecks (s .args .t) r ++ askedChecks (s .args .t) (permission (s .args .t) r) r (action r)) _ (fourteen call) (c .before .before .enum-told3 .given .1) (room-checked c)
 
 returns-3 : tie.Need-returns-3
 returns-3 c =
@@ -133,16 +133,11 @@ reply-fits c =
     let s = start (before-room room .before .before .before) in
     ltb-false _ _ (passed (roomChecks (s .args .t) (request s)) (sym (room-checked room) ∙ c .enum-told5 .given .1) 15)
 
-places-of-requires : tie.Need-places-of-requires
-places-of-requires c κs =
-    let call = before-room (fitted (c .before .before) .before .before) in
-    (is-sound (call .before .before .before), call .before .action-of .ensures)
-
 apply-requires : tie.Need-apply-requires
 apply-requires c κs =
     let call = before-room (fitted (c .before .before .before) .before .before) in
     let s = start (call .before .before .before) in
-    (is-sound (call .before .before .before), call .before .action-of .ensures, passed (requestChecks (s .args .t) (call .before .before .effective .result) (now (s .args .«record»)) (call .before .action-of .result)) (sym (call .check-request .ensures) ∙ (fitted (c .before .before .before) .before .before .before .before .enum-told3 .given .1)) 14)
+    (is-sound (call .before .before .before), call .before .action-of .ensures, passed (askedChecks (s .args .t) (call .before .before .effective .result) (now (s .args .«record»)) (call .before .action-of .result)) (sym (call .check-asked .ensures) ∙ (fitted (c .before .before .before) .before .before .before .before .enum-told3 .given .1)) 14)
 
 same-length : tie.Need-same-length
 same-length c = puts-length (c .before .before .before .before .put-reply .ensures)
@@ -164,10 +159,9 @@ judge-spec =
     tie.close
     (tie.spec
     (λ c κs. search needs) (λ c. search needs) (λ c. search needs) (λ c κs. search needs) returns
-    (λ c κs. search needs) (λ c κs. search needs) check-request-requires
+    (λ c κs. search needs) (λ c κs. search needs) check-asked-requires
     (λ c. search needs) (λ c. search needs) (λ c κs. search needs) returns-2
     (λ c κs. search needs) (λ c κs. search needs) (λ c. search needs) (λ c. search needs) (λ c κs. search needs) returns-3
-    (λ c κs. search needs) places-of-requires
-    apply-requires
+    (λ c κs. search needs) (λ c κs. search needs) apply-requires
     same-length
     returns-4)

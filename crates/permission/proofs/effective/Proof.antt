@@ -16,7 +16,14 @@ credential-row-requires c κs =
 
 returns : tie.Need-returns
 unfolding permission effectiveOf byOwner byNoOwner rowsIn
-returns c = cc
+returns c =
+    let own = c .before .before .before in
+    let row = own .before in
+    let given = row .before in
+    let cred = given .before .before .before .before .before in
+    let who = cred .before .before .before in
+    let held = who .before .before in
+    rw (c .all-if2 .ensures, c .before .before .all-if .ensures, own .before .is-owner .ensures, row .before .resource-row .ensures, given .before .rows-give .ensures, cred .credential-row .ensures, who .sender-connection .ensures, who .before .resource-of .ensures, held .held2 .ensures, held .before .held .ensures)
 
 pub effective-spec : {M : Type 1} → statement M
 effective-spec =

@@ -7,7 +7,7 @@ use Rattle.permission.proofs.is_owner.Tie as tie
 
 returns : tie.Need-returns
 unfolding isOwner rowOwner
-returns c = cc
+returns c = rw (c .row-names2 .ensures, c .before .part .ensures, c .before .before .before .before .before .row-names .ensures)
 
 pub is-owner-spec : {M : Type 1} → statement M
 is-owner-spec =

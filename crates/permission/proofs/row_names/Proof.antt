@@ -7,7 +7,7 @@ use Rattle.permission.proofs.row_names.Tie as tie
 
 returns : tie.Need-returns
 unfolding names isNil nil
-returns c = cc
+returns c = rw (c .same-bytes2 .ensures, c .before .subject .ensures, c .before .before .same-bytes .ensures)
 
 pub row-names-spec : {M : Type 1} → statement M
 row-names-spec =

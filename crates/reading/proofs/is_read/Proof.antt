@@ -6,7 +6,7 @@ use Rattle.reading.proofs.is_read.Tie as tie
 
 returns : tie.Need-returns
 unfolding reads
-returns c = cc
+returns c = rw (c .before .verb-of .ensures, c .before .before .resource-row .ensures, c .before .before .before .resource-of .ensures)
 
 pub is-read-spec : {M : Type 1} → statement M
 is-read-spec =

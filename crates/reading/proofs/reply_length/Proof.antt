@@ -7,7 +7,7 @@ use Rattle.reading.proofs.reply_length.Tie as tie
 
 returns : tie.Need-returns
 unfolding replyOf
-returns c = rw (sym (c .before .before .before .is-read .ensures) ∙ c .before .before .if1 .taken) (cc)
+returns c = rw (sym (c .before .before .before .is-read .ensures) ∙ c .before .before .if1 .taken, c .contents-length .ensures, c .before .resource-of .ensures)
 
 returns-2 : tie.Need-returns-2
 unfolding replyOf

@@ -30,9 +30,7 @@ slice-aggregate-number c = let s = c .before .before .before in let h = s .pre .
 find-requires : tie.Need-find-requires
 find-requires c κs =
     let s = c .before .before .before .before in
-    let h = s .pre .0 in
-    let l : length (take 2 (s .args .rest .now)) ≡ 2 = length-take-le 2 (s .args .rest .now) (omega arith) in
-    (room (s .args .rest .now) (s .args .stride) (s .args .left) (h .1), omega arith)
+    room (s .args .rest .now) (s .args .stride) (s .args .left) (s .pre .0 .1)
 
 returns-2 : tie.Need-returns-2
 returns-2 c =

@@ -1,22 +1,16 @@
 -- `judge_within` is safe and ends: the lent part is as long as its room.
 use mathlib.Core.Path.{sym}
-use Prim.Native.Nat.{_≤_}
 use borrow.Author.Needs.{needs}
-use lib.ListN.{length}
 use lib.Seq.{length-take-le}
 use Rattle.vectors.proofs.judge_within.Statement.{statement}
 use Rattle.vectors.proofs.judge_within.Tie as tie
 
 slice-aggregate-judge : tie.Need-slice-aggregate-judge
-slice-aggregate-judge c =
-    let s = c .before .before .before .before .before .before in
-    let h : s .args .room ≤ length (s .args .buffer .now) = search needs in
-    sym (length-take-le (s .args .room) (s .args .buffer .now) h)
+slice-aggregate-judge c = let n = c .before in sym (length-take-le (n .smaller .result) _ (n .smaller .ensures))
 
 pub judge-within-spec : {M : Type 1} → statement M
 judge-within-spec =
     tie.close
     (tie.spec
-    (λ c κs. search needs) (λ c. search needs) (λ c. search needs) (λ c. search needs)
-    slice-aggregate-judge
+    (λ c κs. search needs) (λ c. search needs) slice-aggregate-judge
     (λ c κs. search needs) (λ c. search needs) (λ c. search needs))

@@ -13,7 +13,7 @@ bit-at-requires : tie.Need-bit-at-requires
 bit-at-requires c κs = search needs
 
 returns : tie.Need-returns
-returns c = cc
+returns c = rw (c .bit-at .ensures)
 
 pub in-set-spec : {M : Type 1} → statement M
 in-set-spec = tie.close (tie.spec add-bit-at bit-at-requires returns)

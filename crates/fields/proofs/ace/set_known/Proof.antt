@@ -7,7 +7,7 @@ use Rattle.fields.proofs.ace.set_known.Statement.{statement}
 use Rattle.fields.proofs.ace.set_known.Tie as tie
 
 returns : tie.Need-returns
-returns c = rw (set-ranges) (cc)
+returns c = rw (set-ranges, c .field5 .ensures, c .before .field4 .ensures, c .before .before .field3 .ensures, c .before .before .before .field2 .ensures, c .before .before .before .before .field .ensures)
 
 pub set-known-spec : {M : Type 1} → statement M
 set-known-spec =

@@ -1,0 +1,48 @@
+// What one access row, an access control entry, gives a sender on a resource.
+// The sender is its credential row, or no bytes, and its connection.
+use fields::ace;
+use fields::cred;
+use rules::directory::resource_row;
+ghost use mathlib.Core.Path.{_≡_};
+ghost use Rattle.rules.specs.Permission.{subjectFits, resourceFits, rowFits, gives};
+
+fn subject_fits(cred: &[u8], connection: u16, ace: &[u8]) -> bool
+    ensures { λ r. ⌜ r ≡ subjectFits (now (cred .entry)) connection (now (ace .entry)) ⌝ }
+{
+    let kind = ace::kind(ace);
+    match kind {
+        0 => (cred.len() != 0) & rows::same_bytes(ace::subject(ace), cred::subject(cred)),
+        1 => (cred.len() != 0) & (ace::role(ace) == cred::role(cred)),
+        2 => ace::connection(ace) == connection,
+        _ => false,
+    }
+}
+
+fn resource_fits(resource: u16, ace: &[u8]) -> bool
+    ensures { λ r. ⌜ r ≡ resourceFits resource (now (ace .entry)) ⌝ }
+{
+    let e = resource_row(resource as usize);
+    let star = e.known & !e.configuration;
+    let shown = star & e.discoverable;
+    ace::in_set(ace, resource)
+        | (ace::star(ace) & star)
+        | (ace::plus(ace) & (shown & e.secure))
+        | (ace::minus(ace) & (shown & e.unsecure))
+}
+
+fn row_fits(cred: &[u8], connection: u16, resource: u16, ace: &[u8]) -> bool
+    ensures { λ r. ⌜ r ≡ rowFits (now (cred .entry)) connection resource (now (ace .entry)) ⌝ }
+{
+    subject_fits(cred, connection, ace) & resource_fits(resource, ace)
+}
+
+// What the row gives: its permission where its subject and its resources fit, else nothing.
+// Rules out: a row for the other connection that fits; a wildcard that reaches a security resource.
+pub fn row_gives(cred: &[u8], connection: u16, resource: u16, ace: &[u8]) -> u8
+    ensures { λ r. ⌜ r ≡ gives (now (cred .entry)) connection resource (now (ace .entry)) ⌝ }
+{
+    if row_fits(cred, connection, resource, ace) {
+        return ace::permission(ace) as u8;
+    }
+    0
+}

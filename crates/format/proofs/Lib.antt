@@ -1,3 +1,0 @@
--- Laws for the proofs of this crate.
-mod BoolBytes
-mod DefaultLaws

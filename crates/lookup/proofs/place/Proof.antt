@@ -1,0 +1,47 @@
+-- `place`: by the table; its rows are those that there is room for.
+use mathlib.Core.Path.{_≡_, ap, _∙_}
+use Prim.Native.Nat.{ℕ, _≤_}
+use native.Mathlib.Omega.{arith}
+use lib.ListN.{length}
+use denote.Ref.{now}
+use Rattle.rows.specs.Rows.{rowsOf, placeOf, hasKey}
+use Rattle.rules.specs.declared.Table.the-variants.{Creds, Aces}
+use Rattle.rules.specs.Tables.{rowsIn}
+use borrow.Author.Needs.{needs}
+use Rattle.lookup.proofs.place.Statement.{statement}
+use Rattle.lookup.proofs.place.Tie as tie
+
+find-requires : tie.Need-find-requires
+find-requires c κs =
+    let told = c .before .before .before in
+    let start = told .before .before .before .before in
+    let l : length (start .args .t1 .creds) ≡ 504 = search needs in
+    omega (arith, told .held .ensures)
+
+find-requires-2 : tie.Need-find-requires-2
+find-requires-2 c κs =
+    let told = c .before .before .before in
+    let start = told .before .before .before .before in
+    let l : length (start .args .t1 .aces) ≡ 896 = search needs in
+    omega (arith, told .held2 .ensures)
+
+returns : tie.Need-returns
+unfolding rowsIn
+returns c =
+    let told = c .before .before .before .before in
+    rw (told .before .enum-told .given .1, ← told .held .ensures) (c .find .ensures)
+
+returns-2 : tie.Need-returns-2
+unfolding rowsIn
+returns-2 c =
+    let told = c .before .before .before .before in
+    rw (told .before .enum-told2 .given .1, ← told .held2 .ensures) (c .find2 .ensures)
+
+pub place-spec : {M : Type 1} → statement M
+place-spec =
+    tie.close
+    (tie.spec
+    (λ c. search needs) (λ c κs. search needs) find-requires
+    (λ c. search needs) (λ c κs. search needs) find-requires-2
+    returns
+    returns-2)

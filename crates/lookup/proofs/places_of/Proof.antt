@@ -1,0 +1,24 @@
+-- `places_of`: by the action.
+use mathlib.Core.Path.{_≡_, refl, sym, _∙_}
+use mathlib.Core.List.{[], _∷_}
+use denote.Ref.{now}
+use borrow.Author.Needs.{needs}
+use Rattle.rules.specs.Record.{body}
+use Rattle.rules.proofs.Others.{not-gap}
+use Rattle.lookup.proofs.places_of.Statement.{statement}
+use Rattle.lookup.proofs.places_of.Tie as tie
+
+returns : tie.Need-returns
+returns c =
+    let s = c .before .before .before in
+    c .no-places .ensures ∙ sym (not-gap (0 ∷ 1 ∷ 2 ∷ 3 ∷ 4 ∷ 5 ∷ 7 ∷ []) (s .args .t) (body (now (s .args .«record»))) (s .args .a) refl (c .before .match .keys2))
+
+returns-2 : tie.Need-returns-2
+returns-2 c = rw (c .before .before .before .a .given .1, ← c .before .body-of .ensures) (c .gap .ensures)
+
+pub places-of-spec : {M : Type 1} → statement M
+places-of-spec =
+    tie.close
+    (tie.spec
+    (λ c. search needs) (λ c κs. search needs) returns
+    (λ c κs. search needs) (λ c κs. search needs) returns-2)

@@ -1,0 +1,68 @@
+// The parts of an outcome that are the same for every record: a refusal, no places, the room for a reply, the payload.
+// Every function is total.
+use fields::after;
+use fields::record::resource_of;
+use rules::Check;
+use rules::Judgement;
+use rules::Places;
+use rules::Tables;
+use rules::directory::resource_row;
+ghost use mathlib.Core.Path.{_≡_};
+ghost use lib.Dec.{ltb};
+ghost use Rattle.rules.specs.Places.{nowhere};
+ghost use Rattle.rules.specs.Checks.{numberOf, refuseIf};
+ghost use Rattle.rules.specs.Outcome.{refusal, payloadAt};
+
+// Nothing to store.
+// Rules out: one place in an empty table; a place left from an earlier record.
+pub fn no_places() -> Places
+    ensures { λ r. ⌜ r ≡ nowhere ⌝ }
+{
+    Places { first: 0, many: 0 }
+}
+
+// A refusal hands the tables back as they are, with permission 0, no reply and no places.
+// Rules out: tables that are changed on a refusal; a refusal that says 0.
+pub fn refused(t: Tables, c: Check) -> Judgement
+    ensures { λ r. ⌜ r ≡ refusal t (numberOf c) ⌝ }
+{
+    match c {
+        Check::Pass => Judgement {
+            answer: 0,
+            permission: 0,
+            length: 0,
+            places: no_places(),
+            tables: t,
+        },
+        Check::Refuse(n) => Judgement {
+            answer: n,
+            permission: 0,
+            length: 0,
+            places: no_places(),
+            tables: t,
+        },
+    }
+}
+
+// The reply does not fit the room that the buffer has.
+// Rules out: 15 where it fits exactly; 15 for a record without a reply.
+pub fn check_room(room: usize, length: usize) -> Check
+    ensures { λ c. ⌜ c ≡ refuseIf 15 (ltb room length) ⌝ }
+{
+    Check::refuse_if(15, room < length)
+}
+
+// What a record with this answer passes on: a part of the caller's own bytes, empty on a refusal.
+// Rules out: a payload on a refusal; the body of a security record.
+pub fn payload(record: &[u8], answer: u8) -> &[u8]
+    ensures { λ r. ⌜ now r ≡ payloadAt answer (now («record» .entry)) ⌝ }
+{
+    if answer != 0 {
+        return &record[..0];
+    }
+    let e = resource_row(resource_of(record) as usize);
+    if e.configuration {
+        return &record[..0];
+    }
+    after(record, 4)
+}

@@ -1,0 +1,46 @@
+// Whether tables are sound.
+// The head, then each table: room for its rows, zeros after them, each row storable, distinct numbers.
+use crate::rows_storable;
+use format::capacity_of;
+use format::is_nil;
+use format::stride_of;
+use rules::Table;
+use rules::Tables;
+ghost use mathlib.Core.Path.{_≡_};
+ghost use Prim.Native.Nat.{_*_};
+ghost use lib.ListN.{length};
+ghost use Rattle.rules.specs.Tables.{stride, capacity, rowsSound, headSound, sound};
+
+fn rows_sound(table: Table, count: usize, bytes: &[u8]) -> bool
+    requires { ⌜ length (now bytes) ≡ capacity table * stride table ⌝ }
+    ensures { λ r. ⌜ r ≡ rowsSound table count (now (bytes .entry)) ⌝ }
+{
+    let most = capacity_of(table);
+    if most < count {
+        return false;
+    }
+    let long = stride_of(table);
+    let end = count * long;
+    rows::all_zero(bytes, end)
+        & rows_storable(table, bytes, count)
+        & rows::distinct(bytes, long, count)
+}
+
+fn head_sound(t: Tables) -> bool
+    ensures { λ r. ⌜ r ≡ headSound t ⌝ }
+{
+    let owned = !is_nil(&t.devowner) as u8;
+    let state = (1 <= t.state) & (t.state <= 4);
+    state & (t.owned == owned) & ((t.state == 1) | (t.owned == 1))
+}
+
+// Rules out: tables with a count over the capacity; tables with two rows of one number.
+pub fn tables_sound(t: Tables) -> bool
+    ensures { λ r. ⌜ r ≡ sound t ⌝ }
+{
+    let ncreds = t.ncreds as usize;
+    let naces = t.naces as usize;
+    head_sound(t)
+        & rows_sound(Table::Creds, ncreds, &t.creds)
+        & rows_sound(Table::Aces, naces, &t.aces)
+}

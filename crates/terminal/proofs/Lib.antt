@@ -1,0 +1,2 @@
+-- What follows from the C interface's contracts.
+pub mod Payload
