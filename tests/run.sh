@@ -37,8 +37,12 @@ log() {
     return 1
 }
 
-# The archive and the program are built from today's sources; rt does nothing where they are unchanged.
-library() { log rt staticlib terminal; }
+# The archive and the program are built from today's sources; rt proves the archive's crate each time, so once is enough.
+library_built=
+library() {
+    [ -n "$library_built" ] || log rt staticlib terminal || return 1
+    library_built=yes
+}
 run_program() { log rt check run; }
 
 in_model() { (cd model && "$@"); }
@@ -47,7 +51,7 @@ in_model() { (cd model && "$@"); }
 
 # The model's own tests.
 test_model() {
-    need_cargo && log in_model cargo test --quiet --locked
+    need_cargo && log in_model cargo test --quiet --release --locked
 }
 
 # The library and the model give the same for 300,000 records.
