@@ -1,5 +1,5 @@
-/* A weighbridge yard: the owner sets a terminal up and reads it back; a haulier, a stranger and a broken sender
- * call. Before that the program sees that its structs are laid out as the library's.
+/* A weighbridge yard: the owner sets a terminal up and reads it back, the office gets the access list as text; a
+ * haulier, a stranger and a broken sender call. Before that the program sees that its structs are laid out as the library's.
  *
  *     rt staticlib terminal
  *     cc -std=c11 -Wall -Wextra -Werror -Iinclude examples/yard.c target/staticlib/libterminal.a -o target/yard
@@ -39,6 +39,8 @@ static const char *const ANSWERS[] = {
     "table full",
     "buffer too short for the reply",
     "no endpoint for the connection",
+    "no list of tables that are not sound",
+    "buffer too short for the list",
 };
 
 static const char *const STATES[] = {"RESET", "RFOTM", "RFPRO", "RFNOP", "SRESET"};
@@ -293,6 +295,30 @@ static void buffers(void)
     expect(memcmp(buffer, before, sizeof buffer) == 0, "the longest reply has other bytes");
 }
 
+/* The access list in a buffer that just fits, in one that just does not, in none, and of tables that are not sound. */
+static void lists(void)
+{
+    tillerclover_tables t = after(tillerclover_fresh(NONE, 0, NONE, 0), store_ace(0, 1, TILLERCLOVER_MAY_RETRIEVE, TILLERCLOVER_WEIGHT, OWNER_UUID));
+    static const char expected[] = "{\"aclist2\":[{\"aceid\":1,\"subject\":{\"uuid\":\"5b0d3a64-9c21-4e7f-8a15-3de290c74618\"},"
+                                   "\"resources\":[{\"href\":\"/weight\"}],\"permission\":2}]}";
+    enum { LENGTH = sizeof expected - 1 };
+    uint8_t buffer[LENGTH + 1], before[sizeof buffer];
+    memset(buffer, 0xA5, sizeof buffer);
+    memset(before, 0xA5, sizeof before);
+    tillerclover_listed l = tillerclover_access_list(t, buffer, LENGTH - 1);
+    expect(l.answer == TILLERCLOVER_LIST_NO_ROOM && l.length == 0, "a list was put into a buffer that is too short");
+    expect(memcmp(buffer, before, sizeof buffer) == 0, "a list that does not fit wrote into the buffer");
+    l = tillerclover_access_list(t, NULL, 0);
+    expect(l.answer == TILLERCLOVER_LIST_NO_ROOM && l.length == 0, "a list was put into no buffer");
+    l = tillerclover_access_list(pattern(), buffer, sizeof buffer);
+    expect(l.answer == TILLERCLOVER_LIST_NOT_SOUND && l.length == 0, "tables of any bytes were listed");
+    expect(memcmp(buffer, before, sizeof buffer) == 0, "tables that are not sound wrote into the buffer");
+    l = tillerclover_access_list(t, buffer, LENGTH);
+    expect(l.answer == TILLERCLOVER_PERMITTED && l.length == LENGTH, "answer or length stands elsewhere in what is listed");
+    memcpy(before, expected, LENGTH);
+    expect(memcmp(buffer, before, sizeof buffer) == 0, "the list has another text");
+}
+
 /* A record of no bytes and a buffer of none, with pointers and without. */
 static void no_bytes(void)
 {
@@ -353,6 +379,15 @@ static void print_creds(size_t length)
     }
 }
 
+/* The access list for the office. */
+static void print_list(tillerclover_tables t)
+{
+    static uint8_t text[TILLERCLOVER_TEXT_MAX];
+    tillerclover_listed l = tillerclover_access_list(t, text, sizeof text);
+    printf("%-44s %2u %s\n    %.*s\n", "the office gets the access list", l.answer,
+           l.answer == TILLERCLOVER_PERMITTED ? "listed" : ANSWERS[l.answer], (int)l.length, (const char *)text);
+}
+
 /* A build whose clear brings back the service tool's credential, and an access row for it. */
 static void maker(tillerclover_tables t)
 {
@@ -372,6 +407,7 @@ int main(void)
     refused_tables();
     each_field();
     buffers();
+    lists();
     no_bytes();
     printf("layout: %zu bytes of tables in an outcome of %zu, as in the library\n", sizeof(tillerclover_tables),
            sizeof(tillerclover_outcome));
@@ -394,6 +430,8 @@ int main(void)
     call(&t, "and to read the access list", header(TILLERCLOVER_RETRIEVE, TILLERCLOVER_ACL2, HAULIER));
 
     print_creds(call(&t, "the owner's service tool reads cred back", header(TILLERCLOVER_RETRIEVE, TILLERCLOVER_CRED, OWNER)));
+
+    print_list(t);
 
     struct record strange = header(TILLERCLOVER_UPDATE, TILLERCLOVER_TARE, 0);
     add(&strange, "100 kg", 6);

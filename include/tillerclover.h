@@ -3,7 +3,7 @@
  * Link libterminal.a, which `rt staticlib terminal` writes to target/staticlib/. It is code for
  * x86-64 with the System V calling convention and needs nothing but memcpy, memmove and memset.
  *
- * What the three functions return, and what a reply holds, depends on their arguments alone. They
+ * What the four functions return, and what a reply or a text holds, depends on their arguments alone. They
  * keep no state between calls, allocate nothing, do no input or output, never fail and always
  * return. So any number of threads may call them at once, each with a buffer of its own. A thread
  * needs 16 KiB of free stack for a call; docs/BENCHMARKS.md has the measured depth.
@@ -43,7 +43,9 @@ enum {
     /* resources that have a row owner: doxm, pstat, cred and acl2 */
     TILLERCLOVER_ROW_OWNERS = 4,
     /* the longest reply: a row owner and all access rows */
-    TILLERCLOVER_REPLY_MAX = 912
+    TILLERCLOVER_REPLY_MAX = 912,
+    /* the longest text of tillerclover_access_list */
+    TILLERCLOVER_TEXT_MAX = 11693
 };
 
 /* ---- Numbers in tables and records */
@@ -97,8 +99,8 @@ enum tillerclover_permission {
     TILLERCLOVER_MAY_ALL = 31
 };
 
-/* Answers. 1 to 16 are refusals. The checks are made in this order, and the first that applies is
- * given: 1 to 7, then 16, then 8 to 15. */
+/* Answers. 1 to 16 are refusals of a record. The checks are made in this order, and the first that
+ * applies is given: 1 to 7, then 16, then 8 to 15. 17 and 18 are tillerclover_access_list's. */
 enum tillerclover_answer {
     TILLERCLOVER_PERMITTED = 0,
     /* the tables are not sound */
@@ -132,7 +134,11 @@ enum tillerclover_answer {
     TILLERCLOVER_NO_ROOM = 15,
     /* this application resource has no endpoint for the connection: none that is secure for
      * AUTH_CRYPT, none that is unsecure for ANON_CLEAR */
-    TILLERCLOVER_NO_ENDPOINT = 16
+    TILLERCLOVER_NO_ENDPOINT = 16,
+    /* no text: the tables are not sound */
+    TILLERCLOVER_LIST_NOT_SOUND = 17,
+    /* no text: it is longer than the buffer lent for it */
+    TILLERCLOVER_LIST_NO_ROOM = 18
 };
 
 /* ---- Structs */
@@ -188,16 +194,25 @@ typedef struct tillerclover_outcome {
     tillerclover_tables tables;
 } tillerclover_outcome;
 
+/* What becomes of a call for the access list. */
+typedef struct tillerclover_listed {
+    /* TILLERCLOVER_PERMITTED, TILLERCLOVER_LIST_NOT_SOUND or TILLERCLOVER_LIST_NO_ROOM */
+    uint8_t answer;
+    /* the text is the first `length` bytes of the caller's own buffer; 0 without a text */
+    size_t length;
+} tillerclover_listed;
+
 /* ---- Functions */
 
 /* The build's default rows.
  *
- * Each function takes them as two lists: `creds`, rows of TILLERCLOVER_CRED_LENGTH bytes one after
- * the other, and `aces`, rows of TILLERCLOVER_ACE_LENGTH bytes, each in the form of its body, with
- * the length of the list in bytes. A list has at most TILLERCLOVER_DEFAULTS_MAX rows. One with more,
- * with a row that no record could store, with a number twice or with half a row counts as none, by
- * itself and wholly. Hand every call of a terminal the same lists: they belong to its build. A list
- * of length 0 is none; its pointer is treated as that of a record of length 0.
+ * Each function but tillerclover_access_list takes them as two lists: `creds`, rows of
+ * TILLERCLOVER_CRED_LENGTH bytes one after the other, and `aces`, rows of TILLERCLOVER_ACE_LENGTH
+ * bytes, each in the form of its body, with the length of the list in bytes. A list has at most
+ * TILLERCLOVER_DEFAULTS_MAX rows. One with more, with a row that no record could store, with a
+ * number twice or with half a row counts as none, by itself and wholly. Hand all calls of a terminal
+ * the same lists: they belong to its build. A list of length 0 is none; its pointer is treated as
+ * that of a record of length 0.
  */
 
 /* The tables of a new terminal: state RFOTM, no owner, the default rows. */
@@ -234,6 +249,17 @@ tillerclover_outcome tillerclover_judge(tillerclover_tables tables, const uint8_
                                         const uint8_t *aces, size_t aces_length, const uint8_t *record, size_t length,
                                         uint8_t *reply, size_t room);
 
+/* The access list of `tables` as the office's JSON, `{"aclist2":[..]}` with the rows in table order: ASCII
+ * with no white space and no byte 0 at its end. Lists with different rows give different texts. Tables that
+ * are not sound are answered before a buffer that is too short.
+ *
+ * text    points to at least `room` bytes that nothing else reads or writes during the call.
+ *         TILLERCLOVER_TEXT_MAX fits every text. The bytes behind the text keep their contents, and so
+ *         do all of them where there is none. With room 0 the pointer is treated as that of a record
+ *         of length 0.
+ */
+tillerclover_listed tillerclover_access_list(tillerclover_tables tables, uint8_t *text, size_t room);
+
 /* ---- The layout that the library has */
 
 TILLERCLOVER_ASSERT(sizeof(tillerclover_tables) == 1484, "tables have 1,484 bytes");
@@ -256,6 +282,10 @@ TILLERCLOVER_ASSERT(offsetof(tillerclover_outcome, reply) == 24, "reply");
 TILLERCLOVER_ASSERT(offsetof(tillerclover_outcome, first) == 32, "first");
 TILLERCLOVER_ASSERT(offsetof(tillerclover_outcome, many) == 40, "many");
 TILLERCLOVER_ASSERT(offsetof(tillerclover_outcome, tables) == 48, "tables");
+
+TILLERCLOVER_ASSERT(sizeof(tillerclover_listed) == 16, "what is said of a list has 16 bytes");
+TILLERCLOVER_ASSERT(offsetof(tillerclover_listed, answer) == 0, "answer");
+TILLERCLOVER_ASSERT(offsetof(tillerclover_listed, length) == 8, "length");
 
 #ifdef __cplusplus
 }

@@ -15,7 +15,8 @@ use crate::tables::{
 pub struct Case {
     pub tables: Stored,
     pub record: Vec<u8>,
-    /// The length of the buffer that is lent for a reply.
+    /// The length of the buffer that is lent for a reply, or for the office
+    /// text of the tables.
     pub room: usize,
     /// The rows of fresh tables.
     pub defaults: Defaults,
@@ -243,21 +244,26 @@ impl Seen {
                 format!("tables changed in {changed} bytes, the first at {}", field(place))
             }
         };
-        let pattern = Case::pattern(self.buffer.len());
-        let written = (0..pattern.len()).rev().find(|&place| pattern[place] != self.buffer[place]);
-        let written = written.map_or("nothing written".into(), |place| format!("written up to byte {place}"));
         format!(
-            "answer {}, permission {}, payload from {} length {}, reply length {}, {written}, \
+            "answer {}, permission {}, payload from {} length {}, reply length {}, {}, \
              places from {} many {}, {tables}",
             self.answer,
             self.permission,
             self.payload.start,
             self.payload.len(),
             self.reply,
+            written(&self.buffer),
             self.first,
             self.many
         )
     }
+}
+
+/// How far a buffer that held the pattern was written to.
+pub fn written(buffer: &[u8]) -> String {
+    let pattern = Case::pattern(buffer.len());
+    let last = (0..pattern.len()).rev().find(|&place| pattern[place] != buffer[place]);
+    last.map_or("nothing written".into(), |place| format!("written up to byte {place}"))
 }
 
 /// The first byte in which tables or buffers differ.

@@ -9,6 +9,7 @@
 pub mod bits;
 pub mod defaults;
 pub mod directory;
+pub mod office;
 pub mod record;
 pub mod rules;
 pub mod run;
@@ -20,6 +21,7 @@ pub mod generate;
 pub mod random;
 pub mod spoil;
 pub mod systematic;
+pub mod texts;
 pub mod vectors;
 
 // What the programs share.

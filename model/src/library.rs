@@ -4,6 +4,7 @@ use std::ops::Range;
 
 use crate::case::{Case, Seen, BEHIND};
 use crate::defaults::Defaults;
+use crate::office::Listed;
 use crate::tables::{self, Stored};
 
 #[repr(C)]
@@ -31,6 +32,12 @@ pub struct Outcome {
     pub tables: Tables,
 }
 
+#[repr(C)]
+pub struct Listing {
+    pub answer: u8,
+    pub length: usize,
+}
+
 const _: () = assert!(size_of::<Tables>() == tables::SIZE);
 
 #[link(name = "terminal", kind = "static")]
@@ -54,6 +61,7 @@ extern "C" {
         reply: *mut u8,
         room: usize,
     ) -> Outcome;
+    fn tillerclover_access_list(t: Tables, text: *mut u8, room: usize) -> Listing;
 }
 
 impl Tables {
@@ -142,4 +150,18 @@ pub fn judge(case: &Case) -> Seen {
         many: outcome.many,
         tables: outcome.tables.bytes(),
     }
+}
+
+/// One call for the office text, as a C program makes it.
+#[inline]
+pub fn write_list(tables: &Tables, text: &mut [u8]) -> Listing {
+    unsafe { tillerclover_access_list(*tables, text.as_mut_ptr(), text.len()) }
+}
+
+/// The same in the model's terms.
+pub fn list(case: &Case) -> Listed {
+    // The buffer is longer than what is lent of it.
+    let mut buffer = Case::pattern(case.room + BEHIND);
+    let Listing { answer, length } = write_list(&Tables::from_bytes(&case.tables), &mut buffer[..case.room]);
+    Listed { answer, length, buffer }
 }

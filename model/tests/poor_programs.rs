@@ -3,7 +3,10 @@
 use model::case::{Case, Seen};
 use model::defaults::{Defaults, ListFault};
 use model::generate::walk;
-use model::tables::{fresh_bytes, read_uuid, Access, Credential, Row, Tables};
+use model::office::{text, Listed};
+use model::rules::judge;
+use model::tables::{fresh_bytes, read_uuid, Access, Credential, Row, Subject, Tables, Uuid};
+use model::texts::Picks;
 
 /// What a program makes of a case, given what is right.
 type Program = fn(&Case, Seen) -> Seen;
@@ -201,5 +204,202 @@ fn poor_programs_are_found() {
     });
     for (count, (name, _)) in found.iter().zip(PROGRAMS) {
         assert!(*count > 100, "a program that {name}: {count}");
+    }
+}
+
+/// What a program writes as office text, given what is right.
+type Writer = fn(&Case, Listed) -> Listed;
+
+fn untouched(answer: u8, case: &Case) -> Listed {
+    Listed { answer, length: 0, buffer: Case::pattern(case.room + model::case::BEHIND) }
+}
+
+/// Another text in the place of the right one; 18 when it does not fit.
+fn other_text(case: &Case, right: Listed, other: impl Fn(Vec<Access>) -> String) -> Listed {
+    let Ok(tables) = Tables::read(&case.tables) else {
+        return right;
+    };
+    let text = other(tables.accesses);
+    if text.len() > case.room {
+        return untouched(18, case);
+    }
+    let mut listed = Listed { length: text.len(), ..untouched(0, case) };
+    listed.buffer[..text.len()].copy_from_slice(text.as_bytes());
+    listed
+}
+
+/// The right text of other rows.
+fn other_rows(case: &Case, right: Listed, change: fn(&mut Vec<Access>)) -> Listed {
+    other_text(case, right, |mut rows| {
+        change(&mut rows);
+        text(&rows)
+    })
+}
+
+/// The text with one piece in the place of another.
+fn replaced(case: &Case, right: Listed, piece: &str, by: &str) -> Listed {
+    other_text(case, right, |rows| text(&rows).replace(piece, by))
+}
+
+const WRITERS: [(&str, Writer); 34] = [
+    ("turns all away", |case, _| untouched(18, case)),
+    ("never says 17", |case, right| match right.answer {
+        17 => Listed::expected(&Case { tables: fresh_bytes(), ..case.clone() }),
+        _ => right,
+    }),
+    ("says 1 for 17", |case, right| if right.answer == 17 { untouched(1, case) } else { right }),
+    ("says 15 for 18", |case, right| if right.answer == 18 { untouched(15, case) } else { right }),
+    ("says 18 before 17", |case, right| match right.answer {
+        17 if case.room < 14 => untouched(18, case),
+        _ => right,
+    }),
+    ("looks at the access rows only", |case, right| {
+        let rows = case.tables[588..].chunks(28).take(case.tables[3].into()).map(Access::read);
+        match rows.collect::<Option<Vec<Access>>>() {
+            Some(accesses) if right.answer == 17 => {
+                let tables = Tables { accesses, ..Tables::fresh() };
+                Listed::expected(&Case { tables: tables.bytes(), ..case.clone() })
+            }
+            _ => right,
+        }
+    }),
+    ("says 18 when the text just fits", |case, right| {
+        if right.length > 0 && right.length == case.room {
+            untouched(18, case)
+        } else {
+            right
+        }
+    }),
+    ("writes as much as fits", |case, mut right| {
+        if right.answer == 18 {
+            let whole = Listed::expected(&Case { room: 20_000, ..case.clone() });
+            right.buffer[..case.room].copy_from_slice(&whole.buffer[..case.room]);
+        }
+        right
+    }),
+    ("writes the rows that fit whole", |case, right| match Tables::read(&case.tables) {
+        Ok(mut tables) if right.answer == 18 => {
+            while text(&tables.accesses).len() > case.room && tables.accesses.pop().is_some() {}
+            Listed { answer: 18, length: 0, ..Listed::expected(&Case { tables: tables.bytes(), ..case.clone() }) }
+        }
+        _ => right,
+    }),
+    ("reports the length it would need", |case, right| match right.answer {
+        18 => Listed { length: Listed::expected(&Case { room: 20_000, ..case.clone() }).length, ..right },
+        _ => right,
+    }),
+    ("reports a length and writes nothing", |case, right| Listed { buffer: untouched(0, case).buffer, ..right }),
+    ("ends the text with a zero byte", |case, mut right| {
+        if right.answer == 0 && right.length < case.room {
+            right.buffer[right.length] = 0;
+        }
+        right
+    }),
+    ("writes a zero byte behind the buffer", |case, mut right| {
+        if right.answer == 0 && right.length == case.room {
+            right.buffer[right.length] = 0;
+        }
+        right
+    }),
+    ("clears the buffer behind the text", |case, mut right| {
+        right.buffer[right.length..case.room].fill(0);
+        right
+    }),
+    ("sorts the rows", |case, right| other_rows(case, right, |rows| rows.sort_by_key(Row::number))),
+    ("turns the rows round", |case, right| other_rows(case, right, |rows| rows.reverse())),
+    ("leaves the last row out", |case, right| {
+        other_rows(case, right, |rows| rows.truncate(rows.len().saturating_sub(1)))
+    }),
+    ("leaves the last place out", |case, right| other_rows(case, right, |rows| rows.truncate(31))),
+    ("leaves rows without permission out", |case, right| {
+        other_rows(case, right, |rows| rows.retain(|row| row.permission != 0))
+    }),
+    ("leaves rows without a resource out", |case, right| {
+        other_rows(case, right, |rows| rows.retain(|row| row.set != 0 || row.wildcards != Default::default()))
+    }),
+    ("leaves the security resources out", |case, right| {
+        other_rows(case, right, |rows| rows.iter_mut().for_each(|row| row.set = row.set << 8 >> 8))
+    }),
+    ("cuts row numbers to a byte", |case, right| {
+        other_rows(case, right, |rows| rows.iter_mut().for_each(|row| row.number %= 256))
+    }),
+    ("cuts roles to a byte", |case, right| {
+        other_rows(case, right, |rows| {
+            for row in rows {
+                if let Subject::Role(role) = &mut row.subject {
+                    *role %= 256;
+                }
+            }
+        })
+    }),
+    ("turns the bytes of a UUID round", |case, right| {
+        other_rows(case, right, |rows| {
+            for row in rows {
+                if let Subject::Uuid(uuid) = &mut row.subject {
+                    *uuid = Uuid::new(uuid.get().swap_bytes()).expect("not nil");
+                }
+            }
+        })
+    }),
+    ("writes letters of a UUID large", |case, right| {
+        other_text(case, right, |rows| {
+            let whole = text(&rows);
+            let mut pieces = whole.split(r#"{"uuid":""#);
+            let first = pieces.next().unwrap_or("").to_string();
+            pieces.fold(first, |text, piece| text + r#"{"uuid":""# + &piece[..36].to_uppercase() + &piece[36..])
+        })
+    }),
+    ("writes roles as numbers", |case, right| {
+        other_text(case, right, |rows| {
+            let roles = rows.iter().filter_map(|row| match row.subject {
+                Subject::Role(role) => Some(role),
+                _ => None,
+            });
+            roles.fold(text(&rows), |text, role| {
+                text.replace(&format!(r#""role":"{role}""#), &format!(r#""role":{role}"#))
+            })
+        })
+    }),
+    ("writes row numbers with two digits", |case, right| {
+        other_text(case, right, |rows| {
+            let small = rows.iter().map(Row::number).filter(|&number| number < 10);
+            small.fold(text(&rows), |text, number| {
+                text.replace(&format!(r#""aceid":{number},"#), &format!(r#""aceid":0{number},"#))
+            })
+        })
+    }),
+    ("takes one connection for the other", |case, right| replaced(case, right, "anon-clear", "auth-crypt")),
+    ("puts the wildcard - first", |case, right| {
+        replaced(case, right, r#"{"wc":"+"},{"wc":"-"}"#, r#"{"wc":"-"},{"wc":"+"}"#)
+    }),
+    ("puts the wildcard * before -", |case, right| {
+        replaced(case, right, r#"{"wc":"-"},{"wc":"*"}"#, r#"{"wc":"*"},{"wc":"-"}"#)
+    }),
+    ("puts /tare before /weight", |case, right| {
+        replaced(case, right, r#"{"href":"/weight"},{"href":"/tare"}"#, r#"{"href":"/tare"},{"href":"/weight"}"#)
+    }),
+    ("puts no comma before a wildcard", |case, right| replaced(case, right, r#"},{"wc""#, r#"}{"wc""#)),
+    ("puts a comma behind the last row", |case, right| replaced(case, right, "}]}", "},]}")),
+    ("puts a space behind each comma", |case, right| replaced(case, right, ",", ", ")),
+];
+
+#[test]
+fn poor_writers_are_found() {
+    let mut found = [0; WRITERS.len()];
+    let mut picks = Picks::new(1);
+    walk(1, 200_000, |_, case| {
+        let tables = judge(case).tables;
+        if let Some(case) = picks.pick(&tables) {
+            let right = Listed::expected(&case);
+            for (count, (_, writer)) in found.iter_mut().zip(WRITERS) {
+                if writer(&case, right.clone()) != right {
+                    *count += 1;
+                }
+            }
+        }
+        tables
+    });
+    for (count, (name, _)) in found.iter().zip(WRITERS) {
+        assert!(*count > 100, "a writer that {name}: {count}");
     }
 }

@@ -1,12 +1,15 @@
 // The C interface: one call each of the library, declared in include/tillerclover.h.
 // Tables pass by value, a record and a buffer as a pointer and a length each; the payload goes out as a start and a length within the record.
+use listing::Listed;
 use rules::Tables;
 ghost use mathlib.Core.Path.{_≡_};
 ghost use Rattle.rules.specs.Defaults.{defaults, fresh, cleared};
 ghost use lib.ListN.{length};
 ghost use Rattle.rules.specs.Record.{asked};
 ghost use Rattle.rules.specs.Reading.{filled};
+ghost use Rattle.rules.specs.Checks.{numberOf};
 ghost use Rattle.rules.specs.Outcome.{outcome, replyTo};
+ghost use Rattle.office.specs.Office.{officeVerdict, officeReply};
 ghost use Rattle.terminal.specs.Interface.{exported, startOf};
 
 // What becomes of a record. Without a payload both its start and its length are 0; `reply` is the length written to the lent buffer;
@@ -76,4 +79,15 @@ pub extern "C" fn tillerclover_judge(
         many: places.many,
         tables: next,
     }
+}
+
+// The access list as office text.
+// Rules out: a byte written on 17 or 18; another list's text; a length that is not the text's.
+#[no_mangle]
+pub extern "C" fn tillerclover_access_list(t: Tables, text: &mut [u8]) -> Listed
+    ensures answer { λ r. ⌜ r .answer ≡ numberOf (officeVerdict t (length (now (text .entry)))) ⌝ }
+    ensures length { λ r. ⌜ r .length ≡ length (officeReply t (length (now (text .entry)))) ⌝ }
+    ensures buffer { λ _. ⌜ now (text .exit) ≡ filled (now (text .entry)) (officeReply t (length (now (text .entry)))) ⌝ }
+{
+    listing::access_list(t, text)
 }

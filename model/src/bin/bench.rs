@@ -9,6 +9,7 @@ use model::case::Case as Put;
 use model::examples::{access, credential, uuid, AUTH};
 use model::generate::{record, session};
 use model::library::{self, Tables as Given};
+use model::office::{self, LONGEST_TEXT};
 use model::options::{Options, Program};
 use model::random::Random;
 use model::record::{compose, Verb, RETRIEVE_BIT, UPDATE_BIT};
@@ -23,8 +24,8 @@ bench --only CASE --rows ROWS --side SIDE [--calls N]
 
 Measures the time of a decision through the library, and through the model on
 the same tables and records. Each time is the least of several repetitions, in
-which the two take turns. Then come the growth with the rows, the stack of one
-decision and the size of the library.
+which the two take turns. Then come the growth with the rows, the office text of
+the access rows, the stack of one call and the size of the library.
 
 The second form makes one call again and again and measures nothing, for a
 program that counts instructions.
@@ -121,7 +122,12 @@ impl Case {
     }
 
     fn ask_library(&self, reply: &mut Reply) {
-        black_box(library::decide(black_box(&self.given), &self.put.defaults, black_box(&self.put.record), black_box(reply)));
+        black_box(library::decide(
+            black_box(&self.given),
+            &self.put.defaults,
+            black_box(&self.put.record),
+            black_box(reply),
+        ));
     }
 
     fn ask_model(&self) {
@@ -233,6 +239,7 @@ fn main() {
     decisions(repetitions);
     mixed(repetitions);
     growth(repetitions);
+    texts(repetitions);
     stack();
     size();
 }
@@ -346,6 +353,36 @@ fn growth(repetitions: u64) {
     }
 }
 
+/// The office text of the access rows.
+fn texts(repetitions: u64) {
+    println!("\ntime of the office text\n");
+    println!("tables   bytes    library       model  ratio");
+    let cases: Vec<(Rows, Stored)> = Rows::KINDS.iter().map(|&rows| (rows, rows.serving().bytes())).collect();
+    let library = |(_, stored): &(Rows, Stored), _: &mut Reply| ask_text(&Given::from_bytes(stored));
+    let model = |(_, stored): &(Rows, Stored)| {
+        let mut text = [0; LONGEST_TEXT];
+        let _ = black_box(office::write(black_box(stored), black_box(&mut text)));
+    };
+    let times = measure(&cases, repetitions, library, model);
+    for ((rows, stored), time) in cases.iter().zip(&times) {
+        let mut text = [0; LONGEST_TEXT];
+        let length = library::write_list(&Given::from_bytes(stored), &mut text).length;
+        println!(
+            "{:6}  {:6}  {:6.0} ns  {:7.0} ns  {:5.2}",
+            rows.name,
+            length,
+            time.library,
+            time.model,
+            time.library / time.model
+        );
+    }
+}
+
+fn ask_text(given: &Given) {
+    let mut text = [0; LONGEST_TEXT];
+    black_box(library::write_list(black_box(given), black_box(&mut text)));
+}
+
 // ---- The stack: a thread whose stack was painted beforehand.
 
 #[repr(C, align(16))]
@@ -370,8 +407,8 @@ const STACK: usize = 256 * 1024;
 struct Painted([u8; STACK]);
 
 struct Call<'a> {
-    case: &'a Case,
-    reply: Reply,
+    ask: &'a dyn Fn(&mut Buffer),
+    buffer: Buffer,
     /// Where the caller's frame stands.
     above: usize,
 }
@@ -381,20 +418,18 @@ extern "C" fn call(argument: *mut c_void) -> *mut c_void {
     let call = unsafe { &mut *argument.cast::<Call>() };
     let mark = 0u8;
     call.above = black_box(&raw const mark) as usize;
-    ask(call.case, &mut call.reply);
+    (call.ask)(&mut call.buffer);
     std::ptr::null_mut()
 }
 
-#[inline(never)]
-fn ask(case: &Case, reply: &mut Reply) {
-    case.ask_library(reply);
-}
+/// A buffer off the painted stack, for a reply or a text.
+type Buffer = Box<[u8; LONGEST_TEXT]>;
 
-/// Bytes of stack below the caller that one decision wrote to.
-fn depth(case: &Case) -> usize {
+/// Bytes of stack below the caller that one call wrote to.
+fn depth(ask: &dyn Fn(&mut Buffer)) -> usize {
     // A vector, so that the paint is not on a stack itself.
     let mut stack: Vec<Painted> = Vec::with_capacity(1);
-    let mut arguments = Call { case, reply: EMPTY, above: 0 };
+    let mut arguments = Call { ask, buffer: Box::new([0; LONGEST_TEXT]), above: 0 };
     let bytes = stack.spare_capacity_mut()[0].as_mut_ptr().cast::<u8>();
     // The stack is this function's until the thread is joined.
     unsafe {
@@ -413,13 +448,22 @@ fn depth(case: &Case) -> usize {
 }
 
 fn stack() {
+    let decide = |case: &Case, buffer: &mut Buffer| {
+        let reply: &mut Reply = buffer.first_chunk_mut().expect("a text is longer than a reply");
+        case.ask_library(reply);
+    };
     let deepest = Rows::KINDS
         .iter()
         .flat_map(|&rows| cases(rows))
-        .map(|case| (depth(&case), case.name))
+        .map(|case| (depth(&|buffer| decide(&case, buffer)), case.name))
         .max()
         .unwrap_or_default();
     println!("\nstack of a decision, tables and outcome included: at most {} bytes (`{}`)", deepest.0, deepest.1);
+    let given = Given::from_bytes(&Rows::KINDS[2].serving().bytes());
+    let text = depth(&|buffer| {
+        black_box(library::write_list(black_box(&given), black_box(&mut buffer[..])));
+    });
+    println!("stack of an office text of full tables, tables included: {text} bytes");
 }
 
 fn size() {

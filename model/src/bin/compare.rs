@@ -4,10 +4,12 @@ use model::case::{field, first_change, shrink, Case, Seen};
 use model::generate::{any_bytes, defaults, walk};
 use model::histogram::Histogram;
 use model::library;
+use model::office::Listed;
 use model::options::Program;
 use model::random::Random;
 use model::rules::judge;
 use model::tables::SIZE;
+use model::texts::{self, Counts, Picks};
 
 const PROGRAM: Program = Program {
     name: "compare",
@@ -19,13 +21,15 @@ Judges the same records on the same tables by the library and by the model,
 and compares answer, permission, payload, length of the reply, every byte of
 the lent buffer (and some behind it), the places to store after a delete and
 every byte of the tables; fresh tables and the clear button too. Default lists,
-good and bad, are drawn with the cases.
+good and bad, are drawn with the cases. The office text of many of the tables,
+and of some for it alone, is compared in the same way.
 
   --records N   so many records (default 300000)
   --seed S      another choice of records (default 1)
   --trace       print each case before it is judged
-  --replay CASE judge this one case and show both outcomes; ROOM is a decimal
-                number, all else hexadecimal digits
+  --replay CASE judge this one case and show both outcomes, also those of the
+                office text of its tables; ROOM, the length of the buffer for
+                either, is a decimal number, all else hexadecimal digits
   --help        this text
 
 Ends with 0 when all are equal, with 1 when one is not.
@@ -95,6 +99,10 @@ fn compare(records: u64, seed: u64, trace: bool) -> u64 {
         differences += check_clear(&Case { defaults: defaults(&mut random), ..Case::new(&tables, &[]) });
     }
 
+    let mut texts = Texts::new(trace);
+    texts::cases().for_each(|case| texts.compare(&case));
+    let mut picks = Picks::new(seed);
+
     let mut histogram = Histogram::new();
     let mut shown: Vec<(u8, u8)> = Vec::new();
     let mut judged = 0;
@@ -121,11 +129,50 @@ fn compare(records: u64, seed: u64, trace: bool) -> u64 {
         if judged % RECORDS_BETWEEN_CLEARS == 0 {
             differences += check_clear(case);
         }
+        if let Some(case) = picks.pick(&expected.tables) {
+            texts.compare(&case);
+        }
         expected.tables
     });
     print!("{histogram}");
     println!("fresh tables: {begun}, tables cleared: {cleared}");
-    differences
+    println!("{}", texts.counts);
+    differences + texts.differences
+}
+
+/// The office texts compared so far.
+struct Texts {
+    trace: bool,
+    counts: Counts,
+    differences: u64,
+    shown: Vec<(u8, u8)>,
+}
+
+impl Texts {
+    fn new(trace: bool) -> Texts {
+        Texts { trace, counts: Counts::default(), differences: 0, shown: Vec::new() }
+    }
+
+    fn compare(&mut self, case: &Case) {
+        if self.trace {
+            println!("{}", case.line());
+        }
+        let (expected, found) = listed(case);
+        self.counts.add(case, &expected);
+        if expected == found {
+            return;
+        }
+        self.differences += 1;
+        let pair = (expected.answer, found.answer);
+        if self.shown.len() < SHOWN && !self.shown.contains(&pair) {
+            self.shown.push(pair);
+            let small = texts::shrink(case.clone(), |case| text_differs_so(case, pair));
+            println!("a difference in the office text, made as small as it goes:");
+            println!("{}", small.line());
+            show_text(&small);
+            show_command(&small);
+        }
+    }
 }
 
 /// Where fresh tables differ.
@@ -168,12 +215,31 @@ fn show_case(case: &Case) {
     }
 }
 
+fn listed(case: &Case) -> (Listed, Listed) {
+    (Listed::expected(case), library::list(case))
+}
+
+/// Whether the office text of a case differs with just these two answers.
+fn text_differs_so(case: &Case, pair: (u8, u8)) -> bool {
+    let (expected, found) = listed(case);
+    (expected.answer, found.answer) == pair && expected != found
+}
+
+fn show_text(case: &Case) {
+    let (expected, found) = listed(case);
+    println!("  text by the model:   {}", expected.describe());
+    println!("  text by the library: {}", found.describe());
+    if let Some(place) = first_change(&expected.buffer, &found.buffer) {
+        println!("  the buffers afterwards differ first at byte {place}");
+    }
+}
+
 fn show_command(case: &Case) {
     let program = std::env::args().next().unwrap_or("compare".into());
     println!("  to replay: {program} --replay {}", case.line());
 }
 
-/// One case, with fresh tables and the clear button beside it.
+/// One case, with fresh tables, the clear button and the office text beside it.
 fn replay(case: &Case) -> u64 {
     show_case(case);
     let (expected, found) = outcomes(case);
@@ -186,5 +252,7 @@ fn replay(case: &Case) -> u64 {
         println!("  the clear button leaves {}", field(place));
         differences += 1;
     }
-    differences
+    show_text(case);
+    let (expected, found) = listed(case);
+    differences + u64::from(expected != found)
 }

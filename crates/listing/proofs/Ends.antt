@@ -1,0 +1,76 @@
+-- The text of the rows that are left, and what the entry point ends with.
+use Prim.Native.Nat.{ℕ, zero, suc, _+_, _*_, _-_, _≤_, _<_, min}
+use native.Mathlib.Omega.{arith}
+use mathlib.Core.Path.{_≡_, refl, ap, sym, _∙_}
+use mathlib.Core.Bool.{Bool, true, false, not}
+use mathlib.Core.List.{List, [], _∷_, _++_, map, append-assoc, append-nil}
+use borrow.Author.Tests.{lt-ltb, le-ltb}
+use lib.ListN.{length, take, drop}
+use Rattle.text.specs.Text.{ascii}
+use Rattle.text.specs.Buffer.{largest, written, Puts}
+use Rattle.text.proofs.Buffers.{puts-then, written-start}
+use Rattle.rows.specs.Rows.{rowsOf, joined}
+use Rattle.rows.proofs.Laws.{take-rest}
+use Rattle.rules.specs.declared.Tables.{Tables}
+use Rattle.rules.specs.Tables.{sound, rowsIn}
+use Rattle.rules.specs.Reading.{filled}
+use Rattle.rules.specs.Checks.{verdict, numberOf}
+use Rattle.office.specs.Office.{comma, separated, rowText, rowsText, listText, officeText, officeVerdict, officeReply}
+use Rattle.office.proofs.Bounds.{text-short}
+
+-- the text of so many rows
+abbrev pub entries : Bool → ℕ → List ℕ → List ℕ
+entries first n b = separated first (map rowText (rowsOf 28 n b))
+
+one-more : (first : Bool) (n : ℕ) (b : List ℕ) → entries first (suc n) b ≡ (comma first ++ rowText (take 28 b)) ++ entries false n (drop 28 b)
+unfolding rowsOf
+one-more first n b = refl
+
+pub entries-take : (first : Bool) (n : ℕ) (b : List ℕ) → 0 < n
+    → entries first n b ≡ (comma first ++ rowText (take 28 b)) ++ entries false (n - 1) (take (length b - 28) (drop 28 b))
+entries-take first n b h =
+    let e : n ≡ suc (n - 1) = omega arith in
+    ap (λ (k : ℕ). entries first k b) e
+    ∙ one-more first (n - 1) b
+    ∙ ap (λ (l : List ℕ). (comma first ++ rowText (take 28 b)) ++ entries false (n - 1) l) (sym (take-rest 28 b))
+
+pub entries-end : (first : Bool) (n : ℕ) (b : List ℕ) → n ≤ 0 → entries first n b ≡ []
+unfolding rowsOf
+entries-end first n b h = let e : n ≡ 0 = omega arith in ap (λ (k : ℕ). entries first k b) e
+
+-- the list, in the three parts in which the code puts it
+pub list-puts : {o o₁ o₂ o₃ : List ℕ} {at r₁ r₂ r₃ : ℕ} (t : Tables) (n : ℕ) → length o ≤ largest → n ≡ min (t .naces) 32
+    → Puts o at (ascii "{\"aclist2\":[") o₁ r₁ → Puts o₁ r₁ (rowsText (rowsOf 28 n (t .aces))) o₂ r₂ → Puts o₂ r₂ (ascii "]}") o₃ r₃
+    → Puts o at (officeText t) o₃ r₃
+unfolding listText rowsIn joined
+list-puts t n h e p q r =
+    rw (← e, append-nil, ← append-assoc (ascii "{\"aclist2\":[") (rowsText (rowsOf 28 n (t .aces))) (ascii "]}")) (puts-then h (puts-then h p q) r)
+
+-- ---- the three ends
+
+pub record Ends (t : Tables) (o o′ : List ℕ) (answer n : ℕ) : Type 0 where
+  pub says : answer ≡ numberOf (officeVerdict t (length o))
+  pub size : n ≡ length (officeReply t (length o))
+  pub buffer : o′ ≡ filled o (officeReply t (length o))
+
+module _ (t : Tables) (o : List ℕ) where
+  pub not-sound : sound t ≡ false → Ends t o o 17 0
+  unfolding officeReply officeVerdict verdict filled
+  not-sound e = record { says = rw e; size = rw e; buffer = rw e }
+
+  -- the length that was measured is the text's
+  measured : (n : ℕ) → n ≡ min (0 + length (officeText t)) largest → n ≡ length (officeText t)
+  measured n e = omega (arith, text-short t)
+
+  pub too-short : (n : ℕ) → sound t ≡ true → n ≡ min (0 + length (officeText t)) largest → length o < n → Ends t o o 18 0
+  unfolding officeReply officeVerdict verdict filled
+  too-short n e m h =
+      let l = lt-ltb (length o) (length (officeText t)) (omega (arith, measured n m)) in
+      record { says = rw (e, l); size = rw (e, l); buffer = rw (e, l) }
+
+  pub all-written : {o′ : List ℕ} (n r : ℕ) → sound t ≡ true → n ≡ min (0 + length (officeText t)) largest → n ≤ length o → Puts o 0 (officeText t) o′ r → Ends t o o′ 0 r
+  unfolding officeReply officeVerdict verdict filled
+  all-written {o′} n r e m h p =
+      let f : length (officeText t) ≤ length o = omega (arith, measured n m) in
+      let l = le-ltb (length o) (length (officeText t)) f in
+      record { says = rw (e, l); size = rw (e, l) (measured r (p .next)); buffer = rw (e, l) (p .buffer ∙ written-start o (officeText t) f) }

@@ -1,0 +1,85 @@
+// The tables' access list as office text, in a buffer that the caller lends.
+// The same walk measures, on an empty buffer, and writes: too short is decided before a byte is written.
+use entries::put_row;
+use fields::held;
+use resources::put_comma;
+use rules::Tables;
+use tables::soundness::tables_sound;
+use text::put;
+ghost use mathlib.Core.Path.{_≡_};
+ghost use mathlib.Core.List.{_++_};
+ghost use Prim.Native.Nat.{_*_, _≤_};
+ghost use lib.ListN.{length};
+ghost use Rattle.text.specs.Buffer.{Puts};
+ghost use Rattle.rows.specs.Rows.{rowsOf};
+ghost use Rattle.rules.specs.Reading.{filled};
+ghost use Rattle.rules.specs.Checks.{numberOf};
+ghost use Rattle.office.specs.Office.{comma, rowText, rowsText, officeText, officeVerdict, officeReply};
+
+// What the office is told: 0, 17 or 18, and how many bytes were written.
+#[repr(C)]
+pub struct Listed {
+    pub answer: u8,
+    pub length: usize,
+}
+
+fn put_entry(out: &mut [u8], at: usize, first: bool, row: &[u8]) -> usize
+    ensures { λ r. ⌜ Puts (now (out .entry)) at (comma first ++ rowText (now (row .entry))) (now (out .exit)) r ⌝ }
+{
+    let p = put_comma(out, at, first);
+    put_row(out, p, row)
+}
+
+fn put_rows(out: &mut [u8], at: usize, rows: &[u8], count: usize) -> usize
+    requires { ⌜ count * 28 ≤ length (now rows) ⌝ }
+    ensures { λ r. ⌜ Puts (now (out .entry)) at (rowsText (rowsOf 28 count (now (rows .entry)))) (now (out .exit)) r ⌝ }
+{
+    let mut p = at;
+    let mut first = true;
+    let mut rest = rows;
+    let mut left = count;
+    while 0 < left {
+        p = put_entry(out, p, first, &rest[..28]);
+        first = false;
+        rest = &rest[28..];
+        left -= 1;
+    }
+    p
+}
+
+fn put_list(out: &mut [u8], t: Tables) -> usize
+    ensures { λ r. ⌜ Puts (now (out .entry)) 0 (officeText t) (now (out .exit)) r ⌝ }
+{
+    let p = put(out, 0, b"{\"aclist2\":[");
+    let count = held(t.naces, 32);
+    let p = put_rows(out, p, &t.aces, count);
+    put(out, p, b"]}")
+}
+
+// The tables' access list as office text: the answer, the length of the text, and the lent buffer afterwards.
+// Rules out: a byte written on 18; 18 where the text fits exactly; the text of tables that are not sound.
+pub fn access_list(t: Tables, out: &mut [u8]) -> Listed
+    ensures answer { λ r. ⌜ r .answer ≡ numberOf (officeVerdict t (length (now (out .entry)))) ⌝ }
+    ensures length { λ r. ⌜ r .length ≡ length (officeReply t (length (now (out .entry)))) ⌝ }
+    ensures buffer { λ _. ⌜ now (out .exit) ≡ filled (now (out .entry)) (officeReply t (length (now (out .entry)))) ⌝ }
+{
+    if !tables_sound(t) {
+        return Listed {
+            answer: 17,
+            length: 0,
+        };
+    }
+    let mut none = [0u8; 0];
+    let n = put_list(&mut none, t);
+    if out.len() < n {
+        return Listed {
+            answer: 18,
+            length: 0,
+        };
+    }
+    let n = put_list(out, t);
+    Listed {
+        answer: 0,
+        length: n,
+    }
+}

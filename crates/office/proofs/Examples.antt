@@ -1,0 +1,55 @@
+-- Theorems over examples: the row of the request, a list of each kind of subject, no rows, and that the names are those of the known resources.
+use Prim.Native.Nat.{ℕ, zero, suc}
+use mathlib.Core.Path.{_≡_, refl}
+use mathlib.Core.Bool.{Bool, true, false, cond}
+use mathlib.Core.List.{List, [], _∷_, _++_, map}
+use lib.ListN.{replicate}
+use Rattle.text.specs.Text.{ascii, decimalIn, decimal}
+use Rattle.rows.specs.Rows.{Row, joined, same, allZero}
+use Rattle.rules.specs.Bits.{bit, bits}
+use Rattle.rules.specs.Directory.{resourceOf, known}
+use Rattle.rules.specs.Bodies.{nil, isNil, setKnown, subjectStorable, aceStorable}
+use Rattle.office.specs.Office.{hexDigit, dashed, dash, hexByte, uuidText, comma, uuidSubject, roleSubject, connectionSubject, subjectText, names, href, choices, chosen, braced, resourcesText, rowText, rowsText, listText}
+use Rattle.office.proofs.Apart.{storedRow}
+
+definitions : Unit {0}
+unfolding ascii decimalIn decimal joined bit bits hexDigit dashed dash hexByte uuidText comma uuidSubject roleSubject connectionSubject subjectText href choices chosen braced resourcesText rowText rowsText listText
+definitions = tt
+
+-- the known numbers from n on, of so many
+pub knownFrom : ℕ → ℕ → List ℕ
+knownFrom n zero = []
+knownFrom n (suc k) = cond (known n) (n ∷ knownFrom (suc n) k) (knownFrom (suc n) k)
+
+-- each known resource has its name, by rising number
+pub names-known : map (λ e. e .0) names ≡ knownFrom 0 64
+unfolding knownFrom resourceOf
+names-known = refl
+
+-- number 1, connection 0, permission 2, resource 8
+pub ofRequest : Row
+ofRequest = 0x00 ∷ 0x01 ∷ 0x84 ∷ 0x00 ∷ 0x00 ∷ 0x80 ∷ replicate 22 0
+
+-- it is one that the theorem speaks of
+pub request-stored : storedRow ofRequest ≡ true
+unfolding definitions storedRow aceStorable setKnown subjectStorable isNil nil same allZero resourceOf ofRequest
+request-stored = refl
+
+pub request-text : listText (ofRequest ∷ []) ≡
+    ascii "{\"aclist2\":[{\"aceid\":1,\"subject\":{\"conntype\":\"anon-clear\"},\"resources\":[{\"href\":\"/weight\"}],\"permission\":2}]}"
+unfolding definitions ofRequest
+request-text = refl
+
+pub no-rows-text : listText [] ≡ ascii "{\"aclist2\":[]}"
+unfolding definitions
+no-rows-text = refl
+
+-- number 258, a UUID, permission 31, "+" and "*", resources 3 and 14; number 65535, role 7, nothing; number 10, connection 1, permission 16, "-"
+pub three-text : listText (
+    (0x01 ∷ 0x02 ∷ 0x3f ∷ 0x40 ∷ 0x10 ∷ 0x02 ∷ replicate 6 0 ++ (0xab ∷ 0xcd ∷ 0x00 ∷ 0x01 ∷ replicate 12 0x11))
+    ∷ (0xff ∷ 0xff ∷ 0x40 ∷ 0x00 ∷ replicate 23 0 ++ (0x07 ∷ []))
+    ∷ (0x00 ∷ 0x0a ∷ 0xa0 ∷ 0x80 ∷ replicate 23 0 ++ (0x01 ∷ []))
+    ∷ [])
+    ≡ ascii "{\"aclist2\":[{\"aceid\":258,\"subject\":{\"uuid\":\"abcd0001-1111-1111-1111-111111111111\"},\"resources\":[{\"href\":\"/oic/sec/acl2\"},{\"href\":\"/display\"},{\"wc\":\"+\"},{\"wc\":\"*\"}],\"permission\":31},{\"aceid\":65535,\"subject\":{\"role\":\"7\"},\"resources\":[],\"permission\":0},{\"aceid\":10,\"subject\":{\"conntype\":\"auth-crypt\"},\"resources\":[{\"wc\":\"-\"}],\"permission\":16}]}"
+unfolding definitions
+three-text = refl

@@ -1,0 +1,2 @@
+-- What the office gets.
+pub mod Office
