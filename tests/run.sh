@@ -49,9 +49,9 @@ in_model() { (cd model && "$@"); }
 
 # ---- the tests
 
-# The model's own tests.
+# The model's own tests, and its programs are built.
 test_model() {
-    need_cargo && log in_model cargo test --quiet --release --locked
+    need_cargo && log in_model cargo test --quiet --release --locked && log in_model cargo build --quiet --release --locked
 }
 
 # The library and the model give the same for 300,000 records.
