@@ -1,5 +1,6 @@
 /* A weighbridge yard: the owner sets a terminal up and reads it back, the office gets the access list as text; a
- * haulier, a stranger and a broken sender call. Before that the program sees that its structs are laid out as the library's.
+ * haulier, two foremen, a stranger and a broken sender call. Before that the program sees that its structs are laid out
+ * as the library's.
  *
  *     rt staticlib terminal
  *     cc -std=c11 -Wall -Wextra -Werror -Iinclude examples/yard.c target/staticlib/libterminal.a -o target/yard
@@ -11,12 +12,20 @@
 
 #include "tillerclover.h"
 
-enum { OWNER = 5, HAULIER = 7, HAULIER_SPARE = 8, UNKNOWN = 9 };
+enum { OWNER = 5, HAULIER = 7, HAULIER_SPARE = 8, UNKNOWN = 9, FOREMAN = 20, OTHER_FOREMAN = 21 };
+
+/* Two hauliers both call their foremen role 7; the authority tells them apart. */
+enum { NO_ROLE = 0, FOREMAN_ROLE = 7, WORKS = 0, HAULIER_AUTHORITY = 2, OTHER_AUTHORITY = 3 };
 
 static const uint8_t OWNER_UUID[TILLERCLOVER_UUID_LENGTH] = {0x5b, 0x0d, 0x3a, 0x64, 0x9c, 0x21, 0x4e, 0x7f,
                                                              0x8a, 0x15, 0x3d, 0xe2, 0x90, 0xc7, 0x46, 0x18};
 static const uint8_t HAULIER_UUID[TILLERCLOVER_UUID_LENGTH] = {0xc4, 0x71, 0x0e, 0x95, 0x33, 0xda, 0x48, 0x02,
                                                                0xb6, 0x5f, 0x87, 0x1b, 0x2e, 0x60, 0xf9, 0xad};
+
+static const uint8_t FOREMAN_UUID[TILLERCLOVER_UUID_LENGTH] = {0x1e, 0x92, 0x7b, 0x04, 0xd8, 0x36, 0x4a, 0xc5,
+                                                               0x91, 0x70, 0x2f, 0x5d, 0xe8, 0x13, 0xb4, 0x6c};
+static const uint8_t OTHER_FOREMAN_UUID[TILLERCLOVER_UUID_LENGTH] = {0x83, 0x2c, 0xf1, 0x5e, 0x07, 0xb9, 0x43, 0x6d,
+                                                                     0xa2, 0xe4, 0x58, 0x19, 0xc6, 0x7f, 0x0b, 0xd3};
 
 /* The yard's build has no default rows; the maker's, further down, has some. */
 static const uint8_t NONE[1] = {0};
@@ -98,16 +107,37 @@ static struct record set_state(unsigned sender, enum tillerclover_state target)
     return r;
 }
 
-/* A credential row with no role and type 1. */
-static struct record store_cred(unsigned sender, unsigned number, const uint8_t uuid[TILLERCLOVER_UUID_LENGTH])
+static void add_number(struct record *r, unsigned number)
+{
+    add_byte(r, number >> 8);
+    add_byte(r, number);
+}
+
+/* A credential row with type 1. */
+static struct record store_role_cred(unsigned sender, unsigned number, const uint8_t uuid[TILLERCLOVER_UUID_LENGTH],
+                                     unsigned role, unsigned authority)
 {
     struct record r = header(TILLERCLOVER_UPDATE, TILLERCLOVER_CRED, sender);
-    add_byte(&r, number >> 8);
-    add_byte(&r, number);
+    add_number(&r, number);
     add(&r, uuid, TILLERCLOVER_UUID_LENGTH);
-    add_byte(&r, 0);
-    add_byte(&r, 0);
+    add_number(&r, role);
+    add_number(&r, authority);
     add_byte(&r, 1u << 2);
+    return r;
+}
+
+static struct record store_cred(unsigned sender, unsigned number, const uint8_t uuid[TILLERCLOVER_UUID_LENGTH])
+{
+    return store_role_cred(sender, number, uuid, NO_ROLE, WORKS);
+}
+
+/* The same row by the body without an authority. */
+static struct record store_short_cred(unsigned sender, unsigned number, const uint8_t uuid[TILLERCLOVER_UUID_LENGTH])
+{
+    struct record r = store_cred(sender, number, uuid);
+    size_t type = r.length - 1;
+    r.bytes[type - 2] = r.bytes[type];
+    r.length -= 2;
     return r;
 }
 
@@ -122,26 +152,41 @@ static struct record delete_subject(unsigned sender, const uint8_t uuid[TILLERCL
 static struct record delete_ace(unsigned sender, unsigned number)
 {
     struct record r = header(TILLERCLOVER_DELETE, TILLERCLOVER_ACL2, sender);
-    add_byte(&r, number >> 8);
-    add_byte(&r, number);
+    add_number(&r, number);
     return r;
 }
 
-/* An access row that gives a UUID one resource. */
-static struct record store_ace(unsigned sender, unsigned number, unsigned permission,
-                               enum tillerclover_resource resource, const uint8_t uuid[TILLERCLOVER_UUID_LENGTH])
+/* An access row that gives a subject one resource. */
+static struct record store_subject_ace(unsigned sender, unsigned number, unsigned kind, unsigned permission,
+                                       enum tillerclover_resource resource, const uint8_t subject[16])
 {
     struct record r = header(TILLERCLOVER_UPDATE, TILLERCLOVER_ACL2, sender);
     uint8_t set[8] = {0};
     set[resource / 8] = (uint8_t)(0x80u >> resource % 8);
-    add_byte(&r, number >> 8);
-    add_byte(&r, number);
-    /* subject kind 0, five bits of permission, no wildcard, six zero bits */
-    add_byte(&r, permission << 1);
+    add_number(&r, number);
+    /* two bits of subject kind, five of permission, no wildcard, six zero bits */
+    add_byte(&r, kind << 6 | permission << 1);
     add_byte(&r, 0);
     add(&r, set, sizeof set);
-    add(&r, uuid, TILLERCLOVER_UUID_LENGTH);
+    add(&r, subject, 16);
     return r;
+}
+
+static struct record store_ace(unsigned sender, unsigned number, unsigned permission,
+                               enum tillerclover_resource resource, const uint8_t uuid[TILLERCLOVER_UUID_LENGTH])
+{
+    return store_subject_ace(sender, number, 0, permission, resource, uuid);
+}
+
+static struct record store_role_ace(unsigned sender, unsigned number, unsigned permission,
+                                    enum tillerclover_resource resource, unsigned role, unsigned authority)
+{
+    uint8_t subject[16] = {0};
+    subject[12] = (uint8_t)(authority >> 8);
+    subject[13] = (uint8_t)authority;
+    subject[14] = (uint8_t)(role >> 8);
+    subject[15] = (uint8_t)role;
+    return store_subject_ace(sender, number, 1, permission, resource, subject);
 }
 
 /* ---- What is asked of the library */
@@ -225,7 +270,8 @@ static void each_field(void)
     }
     for (unsigned i = 0; i < TILLERCLOVER_CRED_CAPACITY; i++) {
         r = store_cred(0, 100 + i, OWNER_UUID);
-        t = after(t, r);
+        /* Both bodies store the row. */
+        t = after(t, i % 2 ? store_short_cred(0, 100 + i, OWNER_UUID) : r);
         expected.ncreds++;
         memcpy(expected.creds + i * TILLERCLOVER_CRED_LENGTH, r.bytes + TILLERCLOVER_HEADER_LENGTH, TILLERCLOVER_CRED_LENGTH);
         expect(same(&t, &expected), "creds or ncreds stands elsewhere");
@@ -375,7 +421,10 @@ static void print_creds(size_t length)
         const uint8_t *row = reply + at;
         printf("    credential %u: subject ", row[0] << 8 | row[1]);
         print_uuid(row + 2);
-        printf(", role %u, type %u\n", row[18] << 8 | row[19], row[20] >> 2);
+        if ((row[18] | row[19]) != 0) {
+            printf(", role %u of authority %u", row[18] << 8 | row[19], row[20] << 8 | row[21]);
+        }
+        printf(", type %u\n", row[22] >> 2);
     }
 }
 
@@ -417,9 +466,15 @@ int main(void)
     call(&t, "and gets its owner", set_owner(0, OWNER_UUID));
     call(&t, "the owner moves it to RFPRO", set_state(OWNER, TILLERCLOVER_RFPRO));
     call(&t, "stores the haulier's credential", store_cred(OWNER, HAULIER, HAULIER_UUID));
-    call(&t, "and a spare one", store_cred(OWNER, HAULIER_SPARE, HAULIER_UUID));
+    call(&t, "and a spare one", store_short_cred(OWNER, HAULIER_SPARE, HAULIER_UUID));
+    call(&t, "and its foreman's",
+         store_role_cred(OWNER, FOREMAN, FOREMAN_UUID, FOREMAN_ROLE, HAULIER_AUTHORITY));
+    call(&t, "and that of another haulier's foreman",
+         store_role_cred(OWNER, OTHER_FOREMAN, OTHER_FOREMAN_UUID, FOREMAN_ROLE, OTHER_AUTHORITY));
     call(&t, "lets the haulier write the tare", store_ace(OWNER, 1, TILLERCLOVER_MAY_UPDATE, TILLERCLOVER_TARE, HAULIER_UUID));
     call(&t, "and read the weight", store_ace(OWNER, 2, TILLERCLOVER_MAY_RETRIEVE, TILLERCLOVER_WEIGHT, HAULIER_UUID));
+    call(&t, "lets the haulier's foremen set the lamp",
+         store_role_ace(OWNER, 3, TILLERCLOVER_MAY_UPDATE, TILLERCLOVER_LAMP, FOREMAN_ROLE, HAULIER_AUTHORITY));
     call(&t, "and moves the terminal to RFNOP", set_state(OWNER, TILLERCLOVER_RFNOP));
 
     struct record tare = header(TILLERCLOVER_UPDATE, TILLERCLOVER_TARE, HAULIER);
@@ -428,6 +483,12 @@ int main(void)
     call(&t, "reads the weight", header(TILLERCLOVER_RETRIEVE, TILLERCLOVER_WEIGHT, HAULIER));
     call(&t, "tries to write the weight", header(TILLERCLOVER_UPDATE, TILLERCLOVER_WEIGHT, HAULIER));
     call(&t, "and to read the access list", header(TILLERCLOVER_RETRIEVE, TILLERCLOVER_ACL2, HAULIER));
+
+    struct record lamp = header(TILLERCLOVER_UPDATE, TILLERCLOVER_LAMP, FOREMAN);
+    add(&lamp, "green", 5);
+    call(&t, "the haulier's foreman sets the lamp", lamp);
+    lamp.bytes[3] = OTHER_FOREMAN;
+    call(&t, "the other haulier's foreman tries to", lamp);
 
     print_creds(call(&t, "the owner's service tool reads cred back", header(TILLERCLOVER_RETRIEVE, TILLERCLOVER_CRED, OWNER)));
 

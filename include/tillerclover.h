@@ -33,7 +33,8 @@ enum {
     TILLERCLOVER_HEADER_LENGTH = 4,
     /* a longer record is refused with TILLERCLOVER_BAD_LENGTH */
     TILLERCLOVER_RECORD_MAX = 256,
-    TILLERCLOVER_CRED_LENGTH = 21,
+    /* a row, and the body that stores it; a body of 21 bytes, without the authority, also stores a row */
+    TILLERCLOVER_CRED_LENGTH = 23,
     TILLERCLOVER_ACE_LENGTH = 28,
     /* rows */
     TILLERCLOVER_CRED_CAPACITY = 24,
@@ -145,7 +146,7 @@ enum tillerclover_answer {
 
 /* What a record is judged on.
  *
- * Every field is a byte or an array of bytes and there is no padding, so the 1,484 bytes may be
+ * Every field is a byte or an array of bytes and there is no padding, so the 1,532 bytes may be
  * kept in a file or in flash as they are. Any content is allowed: tables that are not sound, as
  * from worn memory, get TILLERCLOVER_NOT_SOUND for every record, and tillerclover_clear takes them.
  */
@@ -161,8 +162,12 @@ typedef struct tillerclover_tables {
     uint8_t devowner[TILLERCLOVER_UUID_LENGTH];
     /* the row owners of doxm, pstat, cred and acl2, each a UUID or nil */
     uint8_t rowners[TILLERCLOVER_ROW_OWNERS * TILLERCLOVER_UUID_LENGTH];
-    /* rows in the form of the body that stores one, in order of arrival, zeros behind the last */
+    /* Rows in order of arrival, zeros behind the last. A credential row: number (16 bits), subject (128),
+     * role (16), the role's authority (16), type (6), two zero bits. A body without the authority stores
+     * authority 0, the works' own. Role 0 is none and has authority 0. */
     uint8_t creds[TILLERCLOVER_CRED_CAPACITY * TILLERCLOVER_CRED_LENGTH];
+    /* An access row has the form of its body. Of a role subject the last 32 bits are authority and role,
+     * and it fits a credential with both. */
     uint8_t aces[TILLERCLOVER_ACE_CAPACITY * TILLERCLOVER_ACE_LENGTH];
 } tillerclover_tables;
 
@@ -208,7 +213,7 @@ typedef struct tillerclover_listed {
  *
  * Each function but tillerclover_access_list takes them as two lists: `creds`, rows of
  * TILLERCLOVER_CRED_LENGTH bytes one after the other, and `aces`, rows of TILLERCLOVER_ACE_LENGTH
- * bytes, each in the form of its body, with the length of the list in bytes. A list has at most
+ * bytes, each as the tables hold it, with the length of the list in bytes. A list has at most
  * TILLERCLOVER_DEFAULTS_MAX rows. One with more, with a row that no record could store, with a
  * number twice or with half a row counts as none, by itself and wholly. Hand all calls of a terminal
  * the same lists: they belong to its build. A list of length 0 is none; its pointer is treated as
@@ -239,7 +244,7 @@ tillerclover_tables tillerclover_clear(tillerclover_tables tables, const uint8_t
  *
  * A permitted RETRIEVE of a security resource is replied to: doxm with its body of 17 bytes, pstat
  * with its byte, the present state as target; then for all four the row owner, a UUID; then for cred
- * and acl2 all rows in table order, each in the form of its body.
+ * and acl2 all rows in table order, each as the tables hold it.
  *
  * The tables that were handed in are not changed; the outcome holds those that hold from now on.
  * Who sent the record is believed: the session layer vouches for the connection bit and the
@@ -262,7 +267,7 @@ tillerclover_listed tillerclover_access_list(tillerclover_tables tables, uint8_t
 
 /* ---- The layout that the library has */
 
-TILLERCLOVER_ASSERT(sizeof(tillerclover_tables) == 1484, "tables have 1,484 bytes");
+TILLERCLOVER_ASSERT(sizeof(tillerclover_tables) == 1532, "tables have 1,532 bytes");
 TILLERCLOVER_ASSERT(offsetof(tillerclover_tables, state) == 0, "state");
 TILLERCLOVER_ASSERT(offsetof(tillerclover_tables, owned) == 1, "owned");
 TILLERCLOVER_ASSERT(offsetof(tillerclover_tables, ncreds) == 2, "ncreds");
@@ -270,10 +275,10 @@ TILLERCLOVER_ASSERT(offsetof(tillerclover_tables, naces) == 3, "naces");
 TILLERCLOVER_ASSERT(offsetof(tillerclover_tables, devowner) == 4, "devowner");
 TILLERCLOVER_ASSERT(offsetof(tillerclover_tables, rowners) == 20, "rowners");
 TILLERCLOVER_ASSERT(offsetof(tillerclover_tables, creds) == 84, "creds");
-TILLERCLOVER_ASSERT(offsetof(tillerclover_tables, aces) == 588, "aces");
+TILLERCLOVER_ASSERT(offsetof(tillerclover_tables, aces) == 636, "aces");
 
 TILLERCLOVER_ASSERT(sizeof(size_t) == 8, "the library is for 64 bits");
-TILLERCLOVER_ASSERT(sizeof(tillerclover_outcome) == 1536, "an outcome has 1,536 bytes");
+TILLERCLOVER_ASSERT(sizeof(tillerclover_outcome) == 1584, "an outcome has 1,584 bytes");
 TILLERCLOVER_ASSERT(offsetof(tillerclover_outcome, answer) == 0, "answer");
 TILLERCLOVER_ASSERT(offsetof(tillerclover_outcome, permission) == 1, "permission");
 TILLERCLOVER_ASSERT(offsetof(tillerclover_outcome, start) == 8, "start");

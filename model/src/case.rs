@@ -308,7 +308,7 @@ mod tests {
             assert!(Case::from_line(&case.line().replace(":517:", ":5l7:")).is_err());
         }
         assert!(Case::from_line("00:00:0").is_err());
-        assert!(Case::from_line("00:00:0::").unwrap_err().contains("1484"));
+        assert!(Case::from_line("00:00:0::").unwrap_err().contains("1532"));
         assert!(Case::from_line("0g:00:0::").is_err());
     }
 
@@ -317,7 +317,7 @@ mod tests {
         // A program that takes the first two rows of a longer list.
         let wrong = |case: &Case| {
             let mut shorter = case.clone();
-            shorter.defaults.credentials.truncate(42);
+            shorter.defaults.credentials.truncate(46);
             shorter.expected()
         };
         let differs = |case: &Case| !wrong(case).same(&case.expected());
@@ -332,7 +332,7 @@ mod tests {
         };
         let small = shrink(found, differs);
         assert_eq!(small.record.len(), 5);
-        assert_eq!(small.defaults.credentials.len(), 43);
+        assert_eq!(small.defaults.credentials.len(), 47);
         assert!(small.defaults.accesses.is_empty());
         assert!(differs(&small));
     }
@@ -407,7 +407,8 @@ mod tests {
     fn fields_are_named() {
         assert_eq!(field(0), "byte 0 (state)");
         assert_eq!(field(83), "byte 83 (row owner 3)");
-        assert_eq!(field(587), "byte 587 (credential place 23)");
-        assert_eq!(field(1483), "byte 1483 (access place 31)");
+        assert_eq!(field(635), "byte 635 (credential place 23)");
+        assert_eq!(field(636), "byte 636 (access place 0)");
+        assert_eq!(field(1531), "byte 1531 (access place 31)");
     }
 }

@@ -5,8 +5,8 @@ use crate::tables::{Access, Credential, Row, Tables};
 /// The most rows in a list.
 pub const MOST: usize = 2;
 
-/// Two lists of rows in the form of their bodies, joined, as the build hands
-/// them in. They may be bad.
+/// Two lists of rows as the tables hold them, joined, as the build hands them
+/// in. They may be bad.
 #[derive(Clone, Debug, Default, PartialEq, Eq)]
 pub struct Defaults {
     pub credentials: Vec<u8>,
@@ -120,7 +120,8 @@ mod tests {
             assert_eq!(outcome.tables, fresh.bytes());
         }
         let by_hand = hex::write(&fresh.bytes());
-        let first = format!("01 00 02 02 {} 0384 {} 0000 10 0005", "00".repeat(80), "91".repeat(16)).replace(' ', "");
+        let first =
+            format!("01 00 02 02 {} 0384 {} 0000 0000 10 0005", "00".repeat(80), "91".repeat(16)).replace(' ', "");
         assert!(by_hand.starts_with(&first));
     }
 
@@ -157,7 +158,7 @@ mod tests {
         let defaults = two_and_two();
         let tables = judge_with(&defaults, &owned(State::Rfnop).bytes(), &reset(5)).tables;
         let outcome = judge_with(&defaults, &tables, &compose(Verb::Retrieve, 2, 900, &[]));
-        assert_eq!((outcome.answer, outcome.reply.len()), (0, 16 + 42));
+        assert_eq!((outcome.answer, outcome.reply.len()), (0, 16 + 46));
         assert_eq!(judge_with(&Defaults::none(), &tables, &compose(Verb::Retrieve, 2, 901, &[])).answer, 7);
     }
 
@@ -175,11 +176,15 @@ mod tests {
         let three = [1, 2, 3].map(|number| access(number, AUTH, 2, 0, &[8]));
         accesses.push((ListFault::TooManyRows, join(&three)));
         accesses.push((ListFault::NumberTwice, join(&[access(5, AUTH, 2, 0, &[]), access(5, ANON, 4, 1, &[])])));
-        for length in [1, 20, 22, 41, 43, 64] {
+        for length in [1, 20, 21, 22, 24, 42, 45, 47, 70] {
             let mut list = good.credentials.clone();
             list.resize(length, 0);
             credentials.push((ListFault::Length, list));
         }
+        // Rows in the form of a body without an authority.
+        let short: Vec<u8> = [1, 2].iter().flat_map(|&number| credential(number, uuid(0x91)).short_body()).collect();
+        credentials.push((ListFault::Length, short[..21].to_vec()));
+        credentials.push((ListFault::Length, short));
         for length in [1, 21, 27, 29, 55, 57] {
             let mut list = good.accesses.clone();
             list.resize(length, 0);
@@ -187,10 +192,10 @@ mod tests {
         }
         // Each forbidden row in each place, alone or beside a good one.
         for (_, fault) in CREDENTIAL_FAULTS {
-            for rows in [0..21, 0..42] {
-                for place in rows.clone().step_by(21) {
+            for rows in [0..23, 0..46] {
+                for place in rows.clone().step_by(23) {
                     let mut list = good.credentials[rows.clone()].to_vec();
-                    fault(&mut list[place..place + 21], &mut random);
+                    fault(&mut list[place..place + 23], &mut random);
                     credentials.push((ListFault::Row, list));
                 }
             }

@@ -6,7 +6,7 @@ use crate::hex;
 use crate::record::{compose, device_owner_body, target_body, Verb};
 use crate::rules::LONGEST_REPLY;
 use crate::tables::{fresh_bytes, CREDENTIAL_COUNT};
-use crate::tables::{Access, Connection, Credential, Row, State, Stored, Subject, Tables, Uuid, Wildcards};
+use crate::tables::{Access, Connection, Credential, Role, Row, State, Stored, Subject, Tables, Uuid, Wildcards};
 
 /// A record, the tables before it, and what is to come of it.
 pub struct Example {
@@ -41,6 +41,10 @@ pub fn access(number: u16, subject: Subject, permission: u8, wildcards: u8, reso
         wildcards: Wildcards::from_number(wildcards),
         set: resources.iter().fold(0, |set, &number| set | set_bit(number)),
     }
+}
+
+pub fn role(authority: u16, number: u16) -> Subject {
+    Subject::Role(Role { authority, number })
 }
 
 pub const ANON: Subject = Subject::Connection(Connection::AnonClear);
@@ -88,7 +92,7 @@ pub fn refusals() -> Vec<Example> {
             tables,
             record: hex::literal(&record),
             // One short of the reply that example 15 would get.
-            room: 16 + 24 * 21 - 1,
+            room: 16 + 24 * 23 - 1,
             answer,
             permission: 0,
         })
@@ -182,6 +186,33 @@ pub fn decided() -> Vec<Example> {
     add("subject of access rows", &fresh, compose(Verb::Delete, 3, 0, &[0x11; 16]), 10, 0);
     add("delete all of none", &fresh, compose(Verb::Delete, 2, 0, &[]), 0, 31);
     add("delete all of none", &fresh, compose(Verb::Delete, 3, 0, &[]), 0, 31);
+
+    // Two hauliers who both call their foremen role 7.
+    let mut foremen =
+        with_access(State::Rfnop, vec![access(1, role(2, 7), 2, 0, &[8]), access(2, role(0, 9), 4, 0, &[8])]);
+    for (number, authority, role) in [(6, 2, 7), (7, 3, 7), (8, 0, 7), (9, 0, 9), (10, 7, 2)] {
+        let role = Some(Role { authority, number: role });
+        foremen.credentials.push(Credential { role, ..credential(number, uuid(0x60)) });
+    }
+    add("role 7 of authority 2", &foremen, compose(Verb::Retrieve, 8, 6, &[]), 0, 2);
+    add("role 7 of authority 3", &foremen, compose(Verb::Retrieve, 8, 7, &[]), 8, 0);
+    add("role 7 of the works", &foremen, compose(Verb::Retrieve, 8, 8, &[]), 8, 0);
+    add("role 2 of authority 7", &foremen, compose(Verb::Retrieve, 8, 10, &[]), 8, 0);
+    add("no role at all", &foremen, compose(Verb::Retrieve, 8, 5, &[]), 8, 0);
+    add("role 9 of the works", &foremen, compose(Verb::Update, 8, 9, &[]), 0, 4);
+    let subject = "22".repeat(16);
+    let store = |body: &str| hex::literal(&format!("40800000 0006 {subject} {body}"));
+    add("a body without an authority", &fresh, store("0007 04"), 0, 31);
+    add("a body with authority 0", &fresh, store("0007 0000 04"), 0, 31);
+    add("a body with an authority", &fresh, store("0007 0003 04"), 0, 31);
+    add("no role and no authority", &fresh, store("0000 0000 04"), 0, 31);
+    add("an authority beside role 0", &fresh, store("0000 0003 04"), 10, 0);
+    add("half an authority", &fresh, store("0007 00 04"), 10, 0);
+    let store = |subject: &str| hex::literal(&format!("40c00000 0006 4400 0080000000000000 {subject:0>32}"));
+    add("a role row of an authority", &fresh, store("00030007"), 0, 31);
+    add("a role row of the works", &fresh, store("0007"), 0, 31);
+    add("a role row of role 0", &fresh, store("00030000"), 10, 0);
+    add("a bit before the authority", &fresh, store("100030007"), 10, 0);
 
     let credentials = (1..=24).map(|number| credential(number, uuid(0x22))).collect();
     let accesses = (1..=32).map(|number| access(number, ANON, 1, 1, &[])).collect();

@@ -11,7 +11,8 @@ use crate::run::LONGEST_RUN;
 use crate::spoil;
 use crate::systematic;
 use crate::tables::{
-    fresh_bytes, uuid_bytes, Access, Connection, Credential, Row, State, Stored, Subject, Tables, Uuid, Wildcards, SIZE,
+    fresh_bytes, uuid_bytes, Access, Connection, Credential, Role, Row, State, Stored, Subject, Tables, Uuid,
+    Wildcards, SIZE,
 };
 
 // Values from small pools, so that they meet again, and near misses of them.
@@ -27,6 +28,7 @@ const SUBJECTS: [u128; 8] = [
     0x0000_0000_0000_0000_0001_0000_0000_0000,
 ];
 const ROLES: [u16; 6] = [1, 7, 0x0700, 0x0100, 0x8000, 0xFFFF];
+const AUTHORITIES: [u16; 6] = [1, 0x0100, 7, 0x0700, 0x8000, 0xFFFF];
 const NUMBERS: [u16; 8] = [5, 0x0500, 0x0001, 0x0100, 0x0101, 0x8000, 0xFF00, 0xFFFF];
 
 pub fn uuid(random: &mut Random) -> Uuid {
@@ -43,12 +45,20 @@ fn maybe_uuid(random: &mut Random) -> Option<Uuid> {
     random.chance(60).then(|| uuid(random))
 }
 
-fn role(random: &mut Random) -> u16 {
-    if random.chance(95) {
-        random.pick(&ROLES)
-    } else {
-        random.between(1, 0xFFFF) as u16
-    }
+/// Mostly one of two numbers, so that equal ones of other authorities meet.
+fn role(random: &mut Random) -> Role {
+    let number = match random.below(20) {
+        0 => random.between(1, 0xFFFF) as u16,
+        1..=12 => random.pick(&ROLES[..2]),
+        _ => random.pick(&ROLES),
+    };
+    let authority = match random.below(20) {
+        0 => random.between(0, 0xFFFF) as u16,
+        1..=9 => 0,
+        10..=15 => random.pick(&AUTHORITIES[..2]),
+        _ => random.pick(&AUTHORITIES),
+    };
+    Role { authority, number }
 }
 
 /// A row number, never 0.
@@ -77,6 +87,25 @@ pub fn credential(random: &mut Random, held: &[u16]) -> Credential {
         role: random.chance(50).then(|| role(random)),
         kind: random.pick(&[0, 1, 2, 4, 8, 16, 32]),
     }
+}
+
+/// Makes the role of an access row one that a partner has, or one beside it.
+fn meet(random: &mut Random, row: &mut Access, partners: &[Credential]) {
+    let held: Vec<Role> = partners.iter().filter_map(|partner| partner.role).collect();
+    let Subject::Role(role) = &mut row.subject else {
+        return;
+    };
+    if held.is_empty() || random.chance(25) {
+        return;
+    }
+    let Role { authority, number } = random.pick(&held);
+    *role = match random.below(10) {
+        0 | 1 => Role { authority: authority ^ 1 << random.below(16), number },
+        2 | 3 => Role { authority: random.pick(&AUTHORITIES), number },
+        4 => Role { authority: 0, number },
+        5 => Role { authority: number, number: authority.max(1) },
+        _ => Role { authority, number },
+    };
 }
 
 /// An access row with a number that none of `held` is.
@@ -143,7 +172,9 @@ fn sound(random: &mut Random, fill: Fill) -> Tables {
     };
     for _ in 0..rows {
         let held: Vec<u16> = tables.accesses.iter().map(Row::number).collect();
-        tables.accesses.push(access(random, &held));
+        let mut row = access(random, &held);
+        meet(random, &mut row, &tables.credentials);
+        tables.accesses.push(row);
     }
     if state != State::Rfotm || random.chance(60) {
         // Mostly somebody who holds a credential.
@@ -199,7 +230,12 @@ pub fn defaults(random: &mut Random) -> Defaults {
     if random.chance(15) {
         return Defaults::none();
     }
-    let credentials = default_list(random, credential, &spoil::CREDENTIAL_FAULTS);
+    let mut credentials = default_list(random, credential, &spoil::CREDENTIAL_FAULTS);
+    if random.chance(3) {
+        // In the form of a body without an authority.
+        let rows = random.between(1, MOST);
+        credentials = (0..rows).flat_map(|_| credential(random, &[]).short_body()).collect();
+    }
     let accesses = default_list(random, access, &spoil::ACCESS_FAULTS);
     Defaults { credentials, accesses }
 }
@@ -477,11 +513,18 @@ fn store_credential(random: &mut Random, tables: &Tables) -> Wish {
             row.subject = held.subject;
         }
     }
-    Wish::new(Verb::Update, 2, row.bytes())
+    let mut body = row.bytes();
+    match random.below(20) {
+        0..=6 => body = row.short_body(),
+        7 => spoil::AUTHORITY_BESIDE_ROLE_0.1(&mut body, random),
+        _ => {}
+    }
+    Wish::new(Verb::Update, 2, body)
 }
 
 fn store_access(random: &mut Random, tables: &Tables) -> Wish {
     let mut row = access(random, &[]);
+    meet(random, &mut row, &tables.credentials);
     if !tables.accesses.is_empty() && random.chance(20) {
         row.number = tables.accesses[random.below(tables.accesses.len())].number;
     }
@@ -676,7 +719,7 @@ fn mixed(random: &mut Random, tables: &Tables) -> Vec<u8> {
         }
         8 => target(if random.chance(10) { 0 } else { random.between(1, 4) as u8 }),
         9 => {
-            let length = random.pick(&[0, 1, 2, 16, 17, 21, 28]);
+            let length = random.pick(&[0, 1, 2, 16, 17, 21, 23, 28]);
             let body = if random.chance(50) { vec![0; length] } else { random.bytes(length) };
             Wish::new(random.pick(&Verb::ALL), random.below(4) as u8, body)
         }

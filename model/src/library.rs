@@ -16,7 +16,7 @@ pub struct Tables {
     naces: u8,
     devowner: [u8; 16],
     rowners: [u8; 64],
-    creds: [u8; 504],
+    creds: [u8; 552],
     aces: [u8; 896],
 }
 

@@ -3,7 +3,7 @@
 
 use crate::case::{written, Case, BEHIND};
 use crate::directory::DIRECTORY;
-use crate::tables::{Access, Connection, Stored, Subject, Tables, Uuid, Wildcards};
+use crate::tables::{Access, Connection, Role, Stored, Subject, Tables, Uuid, Wildcards};
 
 /// Why there is no text; the value is its number.
 #[derive(Clone, Copy, Debug, PartialEq, Eq)]
@@ -46,7 +46,7 @@ fn row(row: &Access) -> String {
 fn subject(subject: Subject) -> String {
     match subject {
         Subject::Uuid(uuid) => pair("uuid", &uuid_text(uuid)),
-        Subject::Role(role) => pair("role", &role.to_string()),
+        Subject::Role(Role { authority, number }) => format!(r#"{{"authority":"{authority}","role":"{number}"}}"#),
         Subject::Connection(Connection::AnonClear) => pair("conntype", "anon-clear"),
         Subject::Connection(Connection::AuthCrypt) => pair("conntype", "auth-crypt"),
     }
@@ -111,7 +111,7 @@ impl Listed {
 mod tests {
     use super::*;
     use crate::directory;
-    use crate::examples::{access, owned, uuid, ANON, AUTH};
+    use crate::examples::{access, owned, role, uuid, ANON, AUTH};
     use crate::generate;
     use crate::random::Random;
     use crate::spoil::TABLE_FAULTS;
@@ -150,13 +150,13 @@ mod tests {
     #[test]
     fn rows_in_table_order() {
         let rows = [
-            access(9, Subject::Role(7), 31, 1, &[14, 3]),
+            access(9, role(0, 7), 31, 1, &[14, 3]),
             access(10, Subject::Uuid(uuid(0xA1)), 4, 0, &[]),
             access(2, AUTH, 16, 6, &[0]),
         ];
         let expected = concat!(
             r#"{"aclist2":["#,
-            r#"{"aceid":9,"subject":{"role":"7"},"#,
+            r#"{"aceid":9,"subject":{"authority":"0","role":"7"},"#,
             r#""resources":[{"href":"/oic/sec/acl2"},{"href":"/display"},{"wc":"*"}],"permission":31},"#,
             r#"{"aceid":10,"subject":{"uuid":"a1a1a1a1-a1a1-a1a1-a1a1-a1a1a1a1a1a1"},"#,
             r#""resources":[],"permission":4},"#,
@@ -246,13 +246,14 @@ mod tests {
         // Zeros in front count.
         assert_eq!(uuid(1), r#"{"uuid":"00000000-0000-0000-0000-000000000001"}"#);
         assert_eq!(uuid(0xA << 124), r#"{"uuid":"a0000000-0000-0000-0000-000000000000"}"#);
-        for (role, digits) in
+        for (number, digits) in
             [(1, "1"), (7, "7"), (9, "9"), (10, "10"), (99, "99"), (100, "100"), (256, "256"), (1792, "1792")]
         {
-            assert_eq!(subject_of(Subject::Role(role)), format!(r#"{{"role":"{digits}"}}"#));
+            assert_eq!(subject_of(role(0, number)), format!(r#"{{"authority":"0","role":"{digits}"}}"#));
+            assert_eq!(subject_of(role(number, 3)), format!(r#"{{"authority":"{digits}","role":"3"}}"#));
         }
-        assert_eq!(subject_of(Subject::Role(10_000)), r#"{"role":"10000"}"#);
-        assert_eq!(subject_of(Subject::Role(65_535)), r#"{"role":"65535"}"#);
+        assert_eq!(subject_of(role(10_000, 65_535)), r#"{"authority":"10000","role":"65535"}"#);
+        assert_eq!(subject_of(role(65_535, 10_000)), r#"{"authority":"65535","role":"10000"}"#);
     }
 
     #[test]
@@ -393,7 +394,10 @@ mod tests {
         match subject.split_once(r#"":""#)? {
             ("conntype", "anon-clear") => Some(ANON),
             ("conntype", "auth-crypt") => Some(AUTH),
-            ("role", digits) => Some(Subject::Role(read_decimal(digits)?)),
+            ("authority", behind) => {
+                let (authority, number) = behind.split_once(r#"","role":""#)?;
+                Some(role(read_decimal(authority)?, read_decimal(number)?))
+            }
             ("uuid", form) => {
                 let parts: Vec<&str> = form.split('-').collect();
                 let lengths: Vec<usize> = parts.iter().map(|part| part.len()).collect();
@@ -503,7 +507,7 @@ mod tests {
                 check(&rows[..kept.min(rows.len())]);
             }
         }
-        let rows = [access(1, Subject::Role(1), 0, 0, &[]), access(11, Subject::Role(11), 10, 1, &[8])];
+        let rows = [access(1, role(0, 1), 0, 0, &[]), access(11, role(1, 11), 10, 1, &[8])];
         for near in a_bit_away(&rows) {
             for nearer in a_bit_away(&near).into_iter().step_by(5) {
                 check(&nearer);

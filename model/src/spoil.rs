@@ -11,16 +11,20 @@ use crate::tables::{
 /// A fault of a row: afterwards the row is forbidden, whatever it was.
 pub type RowFault = (&'static str, fn(&mut [u8], &mut Random));
 
-pub const CREDENTIAL_FAULTS: [RowFault; 4] = [
+/// The first `SHORT_CREDENTIAL_FAULTS` of them are those of a body without an
+/// authority, too.
+pub const CREDENTIAL_FAULTS: [RowFault; 5] = [
     ("number 0", |row, _| row[..2].fill(0)),
     ("nil subject", |row, _| row[2..18].fill(0)),
     ("two bits of type", |row, random| {
         let first = random.below(6);
         let second = (first + random.between(1, 5)) % 6;
-        row[20] = 4 << first | 4 << second;
+        row[row.len() - 1] = 4 << first | 4 << second;
     }),
-    ("zero bit", |row, random| row[20] |= 1 << random.below(2)),
+    ("zero bit", |row, random| row[row.len() - 1] |= 1 << random.below(2)),
+    AUTHORITY_BESIDE_ROLE_0,
 ];
+pub const SHORT_CREDENTIAL_FAULTS: usize = 4;
 
 pub const ACCESS_FAULTS: [RowFault; 8] = [
     ("number 0", |row, _| row[..2].fill(0)),
@@ -34,15 +38,17 @@ pub const ACCESS_FAULTS: [RowFault; 8] = [
         set_kind(row, 0);
         row[12..].fill(0);
     }),
-    ("role 0", |row, _| {
+    ("role 0", |row, random| {
         set_kind(row, 1);
         row[12..].fill(0);
+        row[24 + random.below(2)] = random.pick(&[0, 1, 7, 0x80]);
     }),
-    ("bit before the role", |row, random| {
+    ("bit before the authority", |row, random| {
         set_kind(row, 1);
         row[12..].fill(0);
+        row[25] = random.pick(&[0, 1, 7]);
         row[27] = random.byte();
-        set_bit(&mut row[12..], random.below(112));
+        set_bit(&mut row[12..], random.below(96));
     }),
     ("bit before the connection", |row, random| {
         set_kind(row, 2);
@@ -51,6 +57,11 @@ pub const ACCESS_FAULTS: [RowFault; 8] = [
         set_bit(&mut row[12..], random.below(127));
     }),
 ];
+
+pub const AUTHORITY_BESIDE_ROLE_0: RowFault = ("authority beside role 0", |row, random| {
+    row[18..22].fill(0);
+    row[20 + random.below(2)] = random.between(1, 255) as u8;
+});
 
 fn set_kind(row: &mut [u8], kind: u8) {
     row[2] = row[2] & 0x3F | kind << 6;
@@ -75,7 +86,7 @@ pub fn unknown_resource(random: &mut Random) -> usize {
 /// sound no longer.
 pub type TableFault = (&'static str, fn(&mut Stored, &mut Random) -> bool);
 
-pub const TABLE_FAULTS: [TableFault; 18] = [
+pub const TABLE_FAULTS: [TableFault; 19] = [
     ("state 0", |stored, _| {
         stored[STATE] = 0;
         true
@@ -129,6 +140,9 @@ pub const TABLE_FAULTS: [TableFault; 18] = [
     ("forbidden credential", |stored, random| {
         let fault = random.pick(&CREDENTIAL_FAULTS);
         spoil_row::<Credential>(stored, random, fault, CREDENTIAL_COUNT, CREDENTIALS.start)
+    }),
+    ("authority beside role 0", |stored, random| {
+        spoil_row::<Credential>(stored, random, AUTHORITY_BESIDE_ROLE_0, CREDENTIAL_COUNT, CREDENTIALS.start)
     }),
     ("forbidden access", |stored, random| {
         let fault = random.pick(&ACCESS_FAULTS);
@@ -228,6 +242,7 @@ pub fn spoil_body(body: &mut Vec<u8>, random: &mut Random) {
             _ => body[1..].fill(0),
         },
         Credential::LENGTH => (random.pick(&CREDENTIAL_FAULTS).1)(body, random),
+        Credential::SHORT_BODY => (random.pick(&CREDENTIAL_FAULTS[..SHORT_CREDENTIAL_FAULTS]).1)(body, random),
         Access::LENGTH => (random.pick(&ACCESS_FAULTS).1)(body, random),
         _ => body.push(0),
     }
@@ -285,6 +300,11 @@ mod tests {
                 let mut row = generate::credential(&mut random, &[]).bytes();
                 fault(&mut row, &mut random);
                 assert_eq!(Credential::read(&row), None, "{name}");
+            }
+            for (name, fault) in &CREDENTIAL_FAULTS[..SHORT_CREDENTIAL_FAULTS] {
+                let mut body = generate::credential(&mut random, &[]).short_body();
+                fault(&mut body, &mut random);
+                assert_eq!(Credential::from_body(&body), None, "{name}, no authority");
             }
             for (name, fault) in ACCESS_FAULTS {
                 let mut row = generate::access(&mut random, &[]).bytes();

@@ -3,13 +3,13 @@
 
 use crate::defaults::Defaults;
 use crate::directory::{self, DIRECTORY};
-use crate::examples::{self, access, owned, uuid, ANON, AUTH};
+use crate::examples::{self, access, owned, role, uuid, ANON, AUTH};
 use crate::generate;
 use crate::random::Random;
 use crate::record::{compose, device_owner_body, target_body, Header, Verb};
 use crate::spoil::{ACCESS_FAULTS, CREDENTIAL_FAULTS, TABLE_FAULTS};
 use crate::tables::{
-    fresh_bytes, uuid_bytes, Access, Connection, Credential, Row, State, Stored, Subject, Tables, Uuid, ACCESSES,
+    fresh_bytes, uuid_bytes, Access, Connection, Credential, Role, Row, State, Stored, Subject, Tables, Uuid, ACCESSES,
     ACCESS_COUNT, CREDENTIALS, CREDENTIAL_COUNT, OWNED, SIZE, STATE,
 };
 
@@ -34,7 +34,7 @@ const OWNER: u16 = 5;
 const HAULIER: u16 = 0x0500;
 const FOREMAN: u16 = 7;
 const MISSING: u16 = 9;
-const ROLE: u16 = 0x0107;
+const ROLE: Role = Role { authority: 0x0203, number: 0x0107 };
 
 /// All groups; the seed decides only what the random bytes in them are.
 pub fn groups(seed: u64) -> Vec<Group> {
@@ -50,6 +50,7 @@ pub fn groups(seed: u64) -> Vec<Group> {
     owner_bodies(&mut groups);
     access_rows(&mut groups);
     owners(&mut groups);
+    roles(&mut groups);
     near_misses(&mut groups);
     places(&mut groups, &mut random);
     replies(&mut groups, &mut random);
@@ -217,15 +218,43 @@ fn credential_bodies(groups: &mut Vec<Group>) {
     for tables in [&stages()[0], &stages()[2], &stages()[4]] {
         let sender = if tables.owned() { OWNER } else { 0 };
         let mut records = Vec::new();
-        let body = Credential { number: 6, subject: uuid(0x44), role: Some(7), kind: 0 }.bytes();
-        records.extend(flips(&compose(Verb::Update, 2, sender, &body), 4));
-        // One bit of the subject: turned over it is nil.
-        let slight = Credential { number: 1, subject: 1u128.try_into().unwrap(), role: None, kind: 1 }.bytes();
-        records.extend(flips(&compose(Verb::Update, 2, sender, &slight), 4));
-        for last in 0..=255 {
-            let mut body = body.clone();
-            body[20] = last;
-            records.push(compose(Verb::Update, 2, sender, &body));
+        let role = Role { authority: 0, number: 7 };
+        let plain = Credential { number: 6, subject: uuid(0x44), role: Some(role), kind: 0 };
+        // One bit of the subject: turned over it is nil. One of the role: turned
+        // over it is none, with an authority and without.
+        let one = 1u128.try_into().unwrap();
+        let slight = Credential { number: 1, subject: one, role: None, kind: 1 };
+        let other = Credential { role: Some(Role { authority: 0x0801, number: 4 }), ..slight.clone() };
+        for row in [&plain, &slight, &other] {
+            for body in [row.bytes(), row.short_body()] {
+                records.extend(flips(&compose(Verb::Update, 2, sender, &body), 4));
+            }
+        }
+        for body in [plain.bytes(), plain.short_body(), other.bytes()] {
+            for last in 0..=255 {
+                let mut body = body.clone();
+                *body.last_mut().unwrap() = last;
+                records.push(compose(Verb::Update, 2, sender, &body));
+            }
+        }
+        // Roles and authorities side by side, 0 among them, and bodies a byte
+        // shorter or longer.
+        for role in [0, 1, 7, 0x0100, 0xFFFF] {
+            for authority in [0, 1, 7, 0x0100, 0xFFFF] {
+                let mut body = plain.bytes();
+                body[18..20].copy_from_slice(&u16::to_be_bytes(role));
+                body[20..22].copy_from_slice(&u16::to_be_bytes(authority));
+                records.push(compose(Verb::Update, 2, sender, &body));
+                for gap in 18..23 {
+                    let mut body = body.clone();
+                    body.remove(gap);
+                    records.push(compose(Verb::Update, 2, sender, &body));
+                    body.remove(gap.min(21));
+                    records.push(compose(Verb::Update, 2, sender, &body));
+                }
+                body.push(0);
+                records.push(compose(Verb::Update, 2, sender, &body));
+            }
         }
         groups.push(Group::new("credential bodies", tables, records));
     }
@@ -237,12 +266,12 @@ fn access_bodies(groups: &mut Vec<Group>) {
         let mut records = Vec::new();
         let one = 1u128.try_into().unwrap();
         for subject in
-            [Subject::Uuid(uuid(0x44)), Subject::Uuid(one), Subject::Role(1), Subject::Role(0x8100), ANON, AUTH]
+            [Subject::Uuid(uuid(0x44)), Subject::Uuid(one), role(0, 1), role(0, 0x8100), role(0x0801, 2), ANON, AUTH]
         {
             let body = access(6, subject, 3, 0, &[8]).bytes();
             records.extend(flips(&compose(Verb::Update, 3, sender, &body), 4));
             // Kind, permission and wildcards in all their values.
-            for value in (0..1024u16).filter(|value| value % 2 == 0 || subject == Subject::Role(1)) {
+            for value in (0..1024u16).filter(|value| value % 2 == 0 || subject == role(0, 1)) {
                 let mut body = body.clone();
                 body[2..4].copy_from_slice(&(value << 6).to_be_bytes());
                 records.push(compose(Verb::Update, 3, sender, &body));
@@ -285,7 +314,9 @@ fn access_rows(groups: &mut Vec<Group>) {
         Subject::Uuid(uuid(0x11)),
         Subject::Uuid(uuid(0x55)),
         Subject::Role(ROLE),
-        Subject::Role(0x0007),
+        role(ROLE.authority, 0x0007),
+        role(0, ROLE.number),
+        role(ROLE.number, ROLE.authority),
         ANON,
         AUTH,
     ];
@@ -343,6 +374,24 @@ fn owners(groups: &mut Vec<Group>) {
     }
 }
 
+/// Each role that a partner may have against each that a row may be for.
+fn roles(groups: &mut Vec<Group>) {
+    let mut pool = Vec::new();
+    for authority in [0, 1, 7, 0x0100, 0x0700, 0x8000, 0xFFFF] {
+        pool.extend([1, 7, 0x0100].map(|number| Role { authority, number }));
+    }
+    let mut tables = owned(State::Rfnop);
+    for (number, &role) in (0x0600..).zip(&pool) {
+        tables.credentials.push(Credential { role: Some(role), ..examples::credential(number, uuid(0x66)) });
+    }
+    let partners: Vec<u16> = tables.credentials.iter().map(Row::number).collect();
+    for &wanted in &pool {
+        tables.accesses = vec![access(1, Subject::Role(wanted), 18, 0, &[2, 8])];
+        let records = partners.iter().flat_map(|&partner| [2, 8].map(|to| compose(Verb::Retrieve, to, partner, &[])));
+        groups.push(Group::new("roles", &tables, records.collect()));
+    }
+}
+
 /// Values that differ from the fitting one in a single bit, at each place.
 fn near_misses(groups: &mut Vec<Group>) {
     let mut add = |tables: &Tables, records| {
@@ -365,9 +414,11 @@ fn near_misses(groups: &mut Vec<Group>) {
     let mut by_role = base();
     by_role.accesses = vec![access(0x0505, Subject::Role(ROLE), 31, 1, &[2, 3])];
     for bit in 0..16 {
-        let mut other = by_role.clone();
-        other.accesses[0].subject = Subject::Role(ROLE ^ 1 << bit);
-        add(&other, vec![compose(Verb::Retrieve, 2, FOREMAN, &[])]);
+        for near in [role(ROLE.authority, ROLE.number ^ 1 << bit), role(ROLE.authority ^ 1 << bit, ROLE.number)] {
+            let mut other = by_role.clone();
+            other.accesses[0].subject = near;
+            add(&other, vec![compose(Verb::Retrieve, 2, FOREMAN, &[])]);
+        }
     }
     // Senders, rows to delete and rows to replace, each a bit off.
     by_role.state = State::Sreset;
@@ -412,6 +463,7 @@ fn places(groups: &mut Vec<Group>, random: &mut Random) {
                 let mut row = generate::credential(random, &[]);
                 row.number = number;
                 records.push(compose(Verb::Update, 2, sender, &row.bytes()));
+                records.push(compose(Verb::Update, 2, sender, &row.short_body()));
                 records.push(compose(Verb::Delete, 2, sender, &number.to_be_bytes()));
             }
             for number in (0x01F0..0x01F0 + accesses + 2).chain([1, 0xF0, 0xF001, 0xFFFF]) {
@@ -612,8 +664,8 @@ fn default_lists(groups: &mut Vec<Group>, random: &mut Random) {
     for place in [0, 1, 2] {
         for (_, fault) in CREDENTIAL_FAULTS {
             let mut list = good.clone();
-            list.credentials.truncate(if place == 2 { 21 } else { 42 });
-            fault(&mut list.credentials[place % 2 * 21..][..21], random);
+            list.credentials.truncate(if place == 2 { 23 } else { 46 });
+            fault(&mut list.credentials[place % 2 * 23..][..23], random);
             lists.push(list);
         }
         for (_, fault) in ACCESS_FAULTS {
@@ -622,6 +674,11 @@ fn default_lists(groups: &mut Vec<Group>, random: &mut Random) {
             fault(&mut list.accesses[place % 2 * 28..][..28], random);
             lists.push(list);
         }
+    }
+    // Bodies without an authority are no rows.
+    for count in 1..=3 {
+        let short = credentials[..count].iter().flat_map(Credential::short_body).collect();
+        lists.push(Defaults { credentials: short, ..good.clone() });
     }
     // The lists in each other's place.
     lists.push(Defaults { credentials: good.accesses.clone(), accesses: good.credentials.clone() });
@@ -724,10 +781,12 @@ fn soundness(groups: &mut Vec<Group>, random: &mut Random) {
 
     // Every bit of a small row turned over: most stay sound.
     let mut small = rows(0);
-    small.credentials.push(Credential { number: OWNER, subject: uuid(0x11), role: Some(1), kind: 0 });
-    small.accesses.push(access(1, Subject::Role(1), 2, 0, &[2]));
+    let one = Role { authority: 0, number: 1 };
+    small.credentials.push(Credential { number: OWNER, subject: uuid(0x11), role: Some(one), kind: 0 });
+    small.credentials.push(Credential { number: HAULIER, subject: uuid(0x22), role: None, kind: 0 });
+    small.accesses.push(access(1, Subject::Role(one), 2, 0, &[2]));
     small.accesses.push(access(2, AUTH, 2, 0, &[2]));
-    for place in 0..CREDENTIALS.start + Credential::LENGTH {
+    for place in 0..CREDENTIALS.start + 2 * Credential::LENGTH {
         for bit in 0..8 {
             let mut stored = small.bytes();
             stored[place] ^= 1 << bit;

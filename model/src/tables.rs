@@ -1,4 +1,4 @@
-//! The tables, read from and written to their 1,484 bytes.
+//! The tables, read from and written to their 1,532 bytes.
 
 use std::num::NonZeroU128;
 use std::ops::Range;
@@ -9,15 +9,15 @@ use crate::directory::{self, Security};
 /// The bytes of the tables.
 pub type Stored = [u8; SIZE];
 
-pub const SIZE: usize = 1484;
+pub const SIZE: usize = 1532;
 pub const STATE: usize = 0;
 pub const OWNED: usize = 1;
 pub const CREDENTIAL_COUNT: usize = 2;
 pub const ACCESS_COUNT: usize = 3;
 pub const DEVICE_OWNER: Range<usize> = 4..20;
 pub const ROW_OWNERS: Range<usize> = 20..84;
-pub const CREDENTIALS: Range<usize> = 84..588;
-pub const ACCESSES: Range<usize> = 588..1484;
+pub const CREDENTIALS: Range<usize> = 84..636;
+pub const ACCESSES: Range<usize> = 636..1532;
 
 /// A UUID other than nil; nil is `None`.
 pub type Uuid = NonZeroU128;
@@ -44,44 +44,88 @@ pub enum Connection {
     AuthCrypt = 1,
 }
 
-/// A row of either table, in the form of its body.
+/// A row of either table.
 pub trait Row: Sized {
+    /// Of a row in the tables, in a reply and in a default list, and of the body
+    /// that has all its fields.
     const LENGTH: usize;
     const CAPACITY: usize;
 
-    /// None for another length or a forbidden value.
-    fn read(body: &[u8]) -> Option<Self>;
+    /// The row that a body stores; None for another length or a forbidden value.
+    fn from_body(body: &[u8]) -> Option<Self>;
     fn bytes(&self) -> Vec<u8>;
     fn number(&self) -> u16;
+
+    /// None for another length than a row's or a forbidden value.
+    fn read(row: &[u8]) -> Option<Self> {
+        if row.len() == Self::LENGTH {
+            Self::from_body(row)
+        } else {
+            None
+        }
+    }
+}
+
+/// A role of an authority. Authority 0 is the works; role 0 is none and does not
+/// occur here.
+#[derive(Clone, Copy, Debug, PartialEq, Eq, PartialOrd, Ord)]
+pub struct Role {
+    pub authority: u16,
+    pub number: u16,
+}
+
+impl Role {
+    /// None for number 0.
+    fn new(authority: u16, number: u16) -> Option<Role> {
+        (number != 0).then_some(Role { authority, number })
+    }
 }
 
 #[derive(Clone, Debug, PartialEq, Eq)]
 pub struct Credential {
     pub number: u16,
     pub subject: Uuid,
-    pub role: Option<u16>,
+    pub role: Option<Role>,
     /// Kept, and asked by no rule.
     pub kind: u8,
 }
 
+impl Credential {
+    /// The length of a body without an authority, which means authority 0.
+    pub const SHORT_BODY: usize = 21;
+
+    /// The body without the authority.
+    pub fn short_body(&self) -> Vec<u8> {
+        let mut body = self.bytes();
+        body.drain(20..22);
+        body
+    }
+}
+
 impl Row for Credential {
-    const LENGTH: usize = 21;
+    const LENGTH: usize = 23;
     const CAPACITY: usize = 24;
 
-    fn read(body: &[u8]) -> Option<Credential> {
-        if body.len() != Self::LENGTH {
-            return None;
-        }
+    fn from_body(body: &[u8]) -> Option<Credential> {
+        let has_authority = match body.len() {
+            Self::LENGTH => true,
+            Self::SHORT_BODY => false,
+            _ => return None,
+        };
         let mut fields = Fields::new(body);
         let number = fields.take(16) as u16;
         let subject = Uuid::new(fields.take(128))?;
         let role = fields.take(16) as u16;
+        let authority = if has_authority { fields.take(16) as u16 } else { 0 };
         let kind = fields.take(6) as u8;
         let zeros = fields.take(2);
         if number == 0 || kind.count_ones() > 1 || zeros != 0 {
             return None;
         }
-        let role = if role == 0 { None } else { Some(role) };
+        let role = Role::new(authority, role);
+        if role.is_none() && authority != 0 {
+            return None;
+        }
         Some(Credential { number, subject, role, kind })
     }
 
@@ -89,7 +133,8 @@ impl Row for Credential {
         Packer::new()
             .put(self.number.into(), 16)
             .put(self.subject.get(), 128)
-            .put(self.role.unwrap_or(0).into(), 16)
+            .put(self.role.map_or(0, |role| role.number).into(), 16)
+            .put(self.role.map_or(0, |role| role.authority).into(), 16)
             .put(self.kind.into(), 6)
             .put(0, 2)
             .bytes()
@@ -113,7 +158,7 @@ pub struct Access {
 #[derive(Clone, Copy, Debug, PartialEq, Eq)]
 pub enum Subject {
     Uuid(Uuid),
-    Role(u16),
+    Role(Role),
     Connection(Connection),
 }
 
@@ -134,7 +179,7 @@ impl Row for Access {
     const LENGTH: usize = 28;
     const CAPACITY: usize = 32;
 
-    fn read(body: &[u8]) -> Option<Access> {
+    fn from_body(body: &[u8]) -> Option<Access> {
         if body.len() != Self::LENGTH {
             return None;
         }
@@ -151,10 +196,10 @@ impl Row for Access {
         }
         let subject = match kind {
             0 => Subject::Uuid(Uuid::new(subject)?),
-            1 => match subject {
-                1..=0xFFFF => Subject::Role(subject as u16),
-                _ => return None,
-            },
+            1 => {
+                let authority = u16::try_from(subject >> 16).ok()?;
+                Subject::Role(Role::new(authority, subject as u16)?)
+            }
             2 => match subject {
                 0 => Subject::Connection(Connection::AnonClear),
                 1 => Subject::Connection(Connection::AuthCrypt),
@@ -168,7 +213,7 @@ impl Row for Access {
     fn bytes(&self) -> Vec<u8> {
         let (kind, subject) = match self.subject {
             Subject::Uuid(uuid) => (0, uuid.get()),
-            Subject::Role(role) => (1, role as u128),
+            Subject::Role(Role { authority, number }) => (1, u128::from(authority) << 16 | u128::from(number)),
             Subject::Connection(connection) => (2, connection as u128),
         };
         Packer::new()
@@ -320,6 +365,7 @@ fn write_rows<R: Row>(bytes: &mut [u8], rows: &[R]) {
 mod tests {
     use super::*;
     use crate::generate;
+    use crate::hex;
     use crate::random::Random;
 
     #[test]
@@ -356,13 +402,54 @@ mod tests {
     #[test]
     fn credential_types() {
         let row = Credential { number: 5, subject: Uuid::new(1).unwrap(), role: None, kind: 0 };
-        let mut body = row.bytes();
-        let allowed: Vec<u8> = (0..=255)
-            .filter(|&last| {
-                body[20] = last;
-                Credential::read(&body).is_some()
-            })
-            .collect();
-        assert_eq!(allowed, [0, 4, 8, 16, 32, 64, 128]);
+        for mut body in [row.bytes(), row.short_body()] {
+            let allowed: Vec<u8> = (0..=255)
+                .filter(|&byte| {
+                    *body.last_mut().unwrap() = byte;
+                    Credential::from_body(&body).is_some()
+                })
+                .collect();
+            assert_eq!(allowed, [0, 4, 8, 16, 32, 64, 128]);
+        }
+    }
+
+    #[test]
+    fn credential_bodies_of_both_lengths() {
+        let subject = "11".repeat(16);
+        let body = |behind: &str| hex::literal(&format!("0005 {subject} {behind}"));
+        let role = |behind: &str| Credential::from_body(&body(behind)).map(|row| row.role);
+        let seven = |authority| Some(Some(Role { authority, number: 7 }));
+        assert_eq!(role("0007 04"), seven(0));
+        assert_eq!(role("0007 0000 04"), seven(0));
+        assert_eq!(role("0007 0102 04"), seven(0x0102));
+        assert_eq!(role("0000 04"), Some(None));
+        assert_eq!(role("0000 0000 04"), Some(None));
+        // An authority, and no role that it gives.
+        assert_eq!(role("0000 0001 04"), None);
+        assert_eq!(role("0000 8000 04"), None);
+        assert_eq!(role("0007 00 04"), None);
+        assert_eq!(role("0007 0000 00 04"), None);
+        // Both are stored in one form, which alone is a row's.
+        let row = Credential::from_body(&body("0007 04")).unwrap();
+        assert_eq!(row.bytes(), body("0007 0000 04"));
+        assert_eq!(row.short_body(), body("0007 04"));
+        assert_eq!(Credential::read(&row.bytes()), Some(row.clone()));
+        assert_eq!(Credential::read(&row.short_body()), None);
+    }
+
+    #[test]
+    fn roles_of_access_rows() {
+        let subject = |last: &str| {
+            let body = hex::literal(&format!("0005 4000 0000000000000000 {last:0>32}"));
+            Access::from_body(&body).map(|row| row.subject)
+        };
+        let role = |authority, number| Some(Subject::Role(Role { authority, number }));
+        assert_eq!(subject("0007"), role(0, 7));
+        assert_eq!(subject("00010007"), role(1, 7));
+        assert_eq!(subject("ffffffff"), role(0xFFFF, 0xFFFF));
+        assert_eq!(subject("00070000"), None);
+        assert_eq!(subject("0000"), None);
+        assert_eq!(subject("100000007"), None);
+        assert_eq!(subject("80000000000000000000000000000007"), None);
     }
 }

@@ -6,7 +6,7 @@ use std::fmt;
 use crate::case::{self, Case};
 use crate::defaults::Defaults;
 use crate::directory::{self, DIRECTORY};
-use crate::examples::{access, ANON, AUTH};
+use crate::examples::{access, role, ANON, AUTH};
 use crate::generate::any_sound;
 use crate::office::{text, Listed, NoText, LONGEST_TEXT};
 use crate::random::Random;
@@ -101,11 +101,12 @@ fn not_sound() -> Vec<Stored> {
     spoilt.collect()
 }
 
-/// Every number, and every role beside another number.
+/// Every number, every role and every authority, each beside another.
 fn numbers_and_roles() -> Vec<Access> {
-    (1..=u16::MAX)
-        .map(|number| access(number, Subject::Role(number.wrapping_neg()), (number % 32) as u8, 0, &[]))
-        .collect()
+    let row =
+        |number: u16, authority| access(number, role(authority, number.wrapping_neg()), (number % 32) as u8, 0, &[]);
+    // There is an authority more than there are numbers.
+    (1..=u16::MAX).map(|number| row(number, number - 1)).chain([row(1, u16::MAX)]).collect()
 }
 
 /// Every set of resources with every choice of wildcards.
@@ -208,7 +209,7 @@ mod tests {
     use crate::generate::walk;
     use crate::rules::judge;
     use crate::spoil;
-    use crate::tables::{ACCESS_COUNT, CREDENTIAL_COUNT, STATE};
+    use crate::tables::{Role, ACCESS_COUNT, CREDENTIAL_COUNT, STATE};
     use std::collections::BTreeSet;
 
     #[test]
@@ -216,7 +217,7 @@ mod tests {
         let mut picks = Picks::new(1);
         let mut counts = Counts::default();
         let mut full = 0;
-        walk(1, 200_000, |_, case| {
+        walk(1, 250_000, |_, case| {
             let tables = judge(case).tables;
             if let Some(case) = picks.pick(&tables) {
                 assert_eq!(case.tables, tables);
@@ -248,6 +249,7 @@ mod tests {
     fn own_tables_have_everything() {
         let mut numbers = BTreeSet::new();
         let mut roles = BTreeSet::new();
+        let mut authorities = BTreeSet::new();
         let mut resources = BTreeSet::new();
         let mut permissions = BTreeSet::new();
         for tables in tables() {
@@ -257,12 +259,13 @@ mod tests {
                 permissions.insert(row.permission);
                 let Wildcards { plus, minus, star } = row.wildcards;
                 resources.insert((row.set, plus, minus, star));
-                if let Subject::Role(role) = row.subject {
-                    roles.insert(role);
+                if let Subject::Role(Role { authority, number }) = row.subject {
+                    roles.insert(number);
+                    authorities.insert(authority);
                 }
             }
         }
-        assert_eq!((numbers.len(), roles.len()), (65_535, 65_535));
+        assert_eq!((numbers.len(), roles.len(), authorities.len()), (65_535, 65_535, 65_536));
         assert_eq!(resources.len(), 8 * 2048);
         assert_eq!(permissions.len(), 32);
         let mut counts = Counts::default();

@@ -1,13 +1,13 @@
 //! A file of vectors for another program to read.
 //!
 //! Entries follow one another, each behind a tag byte:
-//! 0: tables (1,484 bytes), from now on the current ones;
+//! 0: tables (1,532 bytes), from now on the current ones;
 //! 1: a record behind its length (16 bits), the length of the lent buffer (16
 //!    bits), then answer, permission (a byte each), payload start and payload
 //!    length (16 bits each; start 0 when the length is 0), length of the reply
 //!    (16 bits), first place to store and how many (a byte each), the reply;
 //!    the tables afterwards are the current ones;
-//! 2: tables (1,484 bytes) that the current ones must equal;
+//! 2: tables (1,532 bytes) that the current ones must equal;
 //! 3: default lists, of credentials and of accesses, each behind its length (a
 //!    byte), from now on the current ones. Both are empty at first.
 //! Numbers of 16 bits have their high byte first.
@@ -194,7 +194,7 @@ impl Vectors {
             fault(&mut list.accesses[..Access::LENGTH], random);
             lists.push(list);
         }
-        for length in [1, 20, 22, 27, 29, 41] {
+        for length in [1, 20, 21, 22, 24, 27, 29, 42, 45] {
             let cut = |list: &[u8]| list[..length].to_vec();
             lists.push(Defaults { credentials: cut(&good.credentials), ..good.clone() });
             lists.push(Defaults { accesses: cut(&good.accesses), ..good.clone() });

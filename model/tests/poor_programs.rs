@@ -5,7 +5,10 @@ use model::defaults::{Defaults, ListFault};
 use model::generate::walk;
 use model::office::{text, Listed};
 use model::rules::judge;
-use model::tables::{fresh_bytes, read_uuid, Access, Credential, Row, Subject, Tables, Uuid};
+use model::tables::{
+    fresh_bytes, read_uuid, Access, Credential, Role, Row, Subject, Tables, Uuid, ACCESSES, CREDENTIALS,
+    CREDENTIAL_COUNT,
+};
 use model::texts::Picks;
 
 /// What a program makes of a case, given what is right.
@@ -43,7 +46,46 @@ fn reset_with(case: &Case, right: Seen, other: fn(&mut Defaults) -> Defaults) ->
     }
 }
 
-const PROGRAMS: [(&str, Program); 35] = [
+/// The body of an UPDATE of a security resource that gets as far as its form.
+fn update_of<'a>(resource: u8, case: &'a Case, right: &Seen) -> Option<&'a [u8]> {
+    let update = case.record.len() > 4 && case.record[0] & 0xEF == 0x40 && case.record[1] == resource << 6;
+    (update && matches!(right.answer, 0 | 10..=14)).then(|| &case.record[4..])
+}
+
+const CRED: u8 = 2;
+const ACL2: u8 = 3;
+
+/// What is right, but with the answer and permission of other tables.
+fn permitted_by(case: &Case, right: Seen, change: fn(&mut Tables)) -> Seen {
+    // No permission is asked for before these.
+    if matches!(right.answer, 1..=7 | 16) {
+        return right;
+    }
+    let mut tables = Tables::read(&case.tables).expect("sound");
+    change(&mut tables);
+    let other = Case { tables: tables.bytes(), ..case.clone() }.expected();
+    Seen { answer: other.answer, permission: other.permission, ..right }
+}
+
+/// The roles that credentials have.
+fn held_roles(tables: &mut Tables) -> impl Iterator<Item = &mut Role> {
+    tables.credentials.iter_mut().filter_map(|row| row.role.as_mut())
+}
+
+/// The roles that access rows are for.
+fn wanted_roles(rows: &mut [Access]) -> impl Iterator<Item = &mut Role> {
+    rows.iter_mut().filter_map(|row| match &mut row.subject {
+        Subject::Role(role) => Some(role),
+        _ => None,
+    })
+}
+
+/// The stored row of a body, in the tables afterwards.
+fn stored_row<'a>(right: &'a mut Seen, body: &[u8]) -> Option<&'a mut [u8]> {
+    right.tables[CREDENTIALS].chunks_exact_mut(Credential::LENGTH).find(|row| row[..2] == body[..2])
+}
+
+const PROGRAMS: [(&str, Program); 45] = [
     ("turns all away", |case, _| refused(8, case)),
     ("permits all", |case, right| if right.answer == 0 { right } else { refused(0, case) }),
     ("never alters the tables", |case, right| Seen { tables: case.tables, ..right }),
@@ -137,23 +179,25 @@ const PROGRAMS: [(&str, Program); 35] = [
     ("resets to no rows", |case, right| reset_with(case, right, |_| Defaults::none())),
     ("takes the first rows of too long a list", |case, right| {
         reset_with(case, right, |defaults| {
-            defaults.credentials.truncate(42);
-            defaults.accesses.truncate(56);
+            defaults.credentials.truncate(2 * Credential::LENGTH);
+            defaults.accesses.truncate(2 * Access::LENGTH);
             defaults.clone()
         })
     }),
     ("takes the whole rows of a list", |case, right| {
         reset_with(case, right, |defaults| {
-            defaults.credentials.truncate(defaults.credentials.len() / 21 * 21);
-            defaults.accesses.truncate(defaults.accesses.len() / 28 * 28);
+            let Defaults { credentials, accesses } = defaults;
+            credentials.truncate(credentials.len() / Credential::LENGTH * Credential::LENGTH);
+            accesses.truncate(accesses.len() / Access::LENGTH * Access::LENGTH);
             defaults.clone()
         })
     }),
     ("takes the good rows of a list", |case, right| {
         reset_with(case, right, |defaults| {
             let good = |row: &&[u8]| Credential::read(row).is_some() || Access::read(row).is_some();
-            defaults.credentials = defaults.credentials.chunks(21).filter(good).collect::<Vec<_>>().concat();
-            defaults.accesses = defaults.accesses.chunks(28).filter(good).collect::<Vec<_>>().concat();
+            let Defaults { credentials, accesses } = defaults;
+            *credentials = credentials.chunks(Credential::LENGTH).filter(good).collect::<Vec<_>>().concat();
+            *accesses = accesses.chunks(Access::LENGTH).filter(good).collect::<Vec<_>>().concat();
             defaults.clone()
         })
     }),
@@ -161,11 +205,11 @@ const PROGRAMS: [(&str, Program); 35] = [
         let mut twice = right.clone();
         if is_reset(case, &right) && case.defaults.read_credentials() == Err(ListFault::NumberTwice) {
             twice.tables[2] = 2;
-            twice.tables[84..126].copy_from_slice(&case.defaults.credentials);
+            twice.tables[CREDENTIALS][..2 * Credential::LENGTH].copy_from_slice(&case.defaults.credentials);
         }
         if is_reset(case, &right) && case.defaults.read_accesses() == Err(ListFault::NumberTwice) {
             twice.tables[3] = 2;
-            twice.tables[588..644].copy_from_slice(&case.defaults.accesses);
+            twice.tables[ACCESSES][..2 * Access::LENGTH].copy_from_slice(&case.defaults.accesses);
         }
         twice
     }),
@@ -188,12 +232,83 @@ const PROGRAMS: [(&str, Program); 35] = [
         [first, second, ..] if right.answer == 0 && first & 0x1F == 0 && second & 0x3F == 0 => refused(16, case),
         _ => right,
     }),
+    ("fits a role of any authority", |case, right| {
+        permitted_by(case, right, |tables| {
+            held_roles(tables).for_each(|role| role.authority = 0);
+            wanted_roles(&mut tables.accesses).for_each(|role| role.authority = 0);
+        })
+    }),
+    ("fits any role of an authority", |case, right| {
+        permitted_by(case, right, |tables| {
+            held_roles(tables).for_each(|role| role.number = 1);
+            wanted_roles(&mut tables.accesses).for_each(|role| role.number = 1);
+        })
+    }),
+    ("fits the low byte of an authority", |case, right| {
+        permitted_by(case, right, |tables| {
+            held_roles(tables).for_each(|role| role.authority %= 256);
+            wanted_roles(&mut tables.accesses).for_each(|role| role.authority %= 256);
+        })
+    }),
+    ("refuses a body without an authority", |case, right| match update_of(CRED, case, &right) {
+        Some(body) if body.len() == 21 => refused(10, case),
+        _ => right,
+    }),
+    ("refuses a body with an authority", |case, right| match update_of(CRED, case, &right) {
+        Some(body) if body.len() == 23 => refused(10, case),
+        _ => right,
+    }),
+    ("stores an authority beside role 0", |case, right| match update_of(CRED, case, &right) {
+        Some(body) if right.answer == 10 && body.len() == 23 && body[18..20] == [0, 0] => {
+            let mut bare = case.clone();
+            bare.record[4 + 20..4 + 22].fill(0);
+            bare.expected()
+        }
+        _ => right,
+    }),
+    ("takes an authority beside role 0 for sound", |case, right| {
+        if right.answer != 1 {
+            return right;
+        }
+        let mut bare = case.clone();
+        let held = usize::from(case.tables[CREDENTIAL_COUNT]);
+        for row in bare.tables[CREDENTIALS].chunks_exact_mut(Credential::LENGTH).take(held) {
+            if row[18..20] == [0, 0] {
+                row[20..22].fill(0);
+            }
+        }
+        Seen { tables: right.tables, ..bare.expected() }
+    }),
+    ("refuses an authority in a role row", |case, right| match update_of(ACL2, case, &right) {
+        Some(body) if right.answer != 10 && body.len() > 26 && body[2] >> 6 == 1 && body[24..26] != [0, 0] => {
+            refused(10, case)
+        }
+        _ => right,
+    }),
+    ("puts zeros behind a body without an authority", |case, mut right| {
+        if let Some(body) = update_of(CRED, case, &right).filter(|body| body.len() == 21 && right.answer == 0) {
+            let row = stored_row(&mut right, body).expect("stored");
+            row[20..].copy_from_slice(&[body[20], 0, 0]);
+        }
+        right
+    }),
+    ("keeps the authority that a shorter body leaves out", |case, mut right| {
+        let before = case.tables;
+        if let Some(body) = update_of(CRED, case, &right).filter(|body| body.len() == 21 && right.answer == 0) {
+            let mut rows = before[CREDENTIALS].chunks_exact(Credential::LENGTH);
+            if let Some(held) = rows.find(|row| row[..2] == body[..2]) {
+                let row = stored_row(&mut right, body).expect("stored");
+                row[20..22].copy_from_slice(&held[20..22]);
+            }
+        }
+        right
+    }),
 ];
 
 #[test]
 fn poor_programs_are_found() {
     let mut found = [0; PROGRAMS.len()];
-    walk(1, 200_000, |_, case| {
+    walk(1, 250_000, |_, case| {
         let right = case.expected();
         for (count, (_, program)) in found.iter_mut().zip(PROGRAMS) {
             if !right.same(&program(case, right.clone())) {
@@ -236,12 +351,23 @@ fn other_rows(case: &Case, right: Listed, change: fn(&mut Vec<Access>)) -> Liste
     })
 }
 
+/// The text with the roles written otherwise.
+fn other_roles(case: &Case, right: Listed, other: fn(Role) -> String) -> Listed {
+    other_text(case, right, |mut rows| {
+        let whole = text(&rows);
+        wanted_roles(&mut rows).fold(whole, |text, &mut role| {
+            let Role { authority, number } = role;
+            text.replace(&format!(r#""authority":"{authority}","role":"{number}""#), &other(role))
+        })
+    })
+}
+
 /// The text with one piece in the place of another.
 fn replaced(case: &Case, right: Listed, piece: &str, by: &str) -> Listed {
     other_text(case, right, |rows| text(&rows).replace(piece, by))
 }
 
-const WRITERS: [(&str, Writer); 34] = [
+const WRITERS: [(&str, Writer); 38] = [
     ("turns all away", |case, _| untouched(18, case)),
     ("never says 17", |case, right| match right.answer {
         17 => Listed::expected(&Case { tables: fresh_bytes(), ..case.clone() }),
@@ -254,7 +380,7 @@ const WRITERS: [(&str, Writer); 34] = [
         _ => right,
     }),
     ("looks at the access rows only", |case, right| {
-        let rows = case.tables[588..].chunks(28).take(case.tables[3].into()).map(Access::read);
+        let rows = case.tables[ACCESSES].chunks(Access::LENGTH).take(case.tables[3].into()).map(Access::read);
         match rows.collect::<Option<Vec<Access>>>() {
             Some(accesses) if right.answer == 17 => {
                 let tables = Tables { accesses, ..Tables::fresh() };
@@ -324,12 +450,14 @@ const WRITERS: [(&str, Writer); 34] = [
         other_rows(case, right, |rows| rows.iter_mut().for_each(|row| row.number %= 256))
     }),
     ("cuts roles to a byte", |case, right| {
+        other_rows(case, right, |rows| wanted_roles(rows).for_each(|role| role.number %= 256))
+    }),
+    ("cuts authorities to a byte", |case, right| {
+        other_rows(case, right, |rows| wanted_roles(rows).for_each(|role| role.authority %= 256))
+    }),
+    ("takes role and authority for each other", |case, right| {
         other_rows(case, right, |rows| {
-            for row in rows {
-                if let Subject::Role(role) = &mut row.subject {
-                    *role %= 256;
-                }
-            }
+            wanted_roles(rows).for_each(|role| (role.authority, role.number) = (role.number, role.authority))
         })
     }),
     ("turns the bytes of a UUID round", |case, right| {
@@ -350,15 +478,13 @@ const WRITERS: [(&str, Writer); 34] = [
         })
     }),
     ("writes roles as numbers", |case, right| {
-        other_text(case, right, |rows| {
-            let roles = rows.iter().filter_map(|row| match row.subject {
-                Subject::Role(role) => Some(role),
-                _ => None,
-            });
-            roles.fold(text(&rows), |text, role| {
-                text.replace(&format!(r#""role":"{role}""#), &format!(r#""role":{role}"#))
-            })
-        })
+        other_roles(case, right, |Role { authority, number }| format!(r#""authority":{authority},"role":{number}"#))
+    }),
+    ("leaves authorities out", |case, right| {
+        other_roles(case, right, |Role { number, .. }| format!(r#""role":"{number}""#))
+    }),
+    ("puts the role first", |case, right| {
+        other_roles(case, right, |Role { authority, number }| format!(r#""role":"{number}","authority":"{authority}""#))
     }),
     ("writes row numbers with two digits", |case, right| {
         other_text(case, right, |rows| {
@@ -387,7 +513,7 @@ const WRITERS: [(&str, Writer); 34] = [
 fn poor_writers_are_found() {
     let mut found = [0; WRITERS.len()];
     let mut picks = Picks::new(1);
-    walk(1, 200_000, |_, case| {
+    walk(1, 250_000, |_, case| {
         let tables = judge(case).tables;
         if let Some(case) = picks.pick(&tables) {
             let right = Listed::expected(&case);

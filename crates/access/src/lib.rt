@@ -12,7 +12,11 @@ fn subject_fits(cred: &[u8], connection: u16, ace: &[u8]) -> bool
     let kind = ace::kind(ace);
     match kind {
         0 => (cred.len() != 0) & rows::same_bytes(ace::subject(ace), cred::subject(cred)),
-        1 => (cred.len() != 0) & (ace::role(ace) == cred::role(cred)),
+        1 => {
+            (cred.len() != 0)
+                & (ace::role(ace) == cred::role(cred))
+                & (ace::authority(ace) == cred::authority(cred))
+        }
         2 => ace::connection(ace) == connection,
         _ => false,
     }
@@ -37,7 +41,7 @@ fn row_fits(cred: &[u8], connection: u16, resource: u16, ace: &[u8]) -> bool
 }
 
 // What the row gives: its permission where its subject and its resources fit, else nothing.
-// Rules out: a row for the other connection that fits; a wildcard that reaches a security resource.
+// Rules out: a row for the other connection that fits; a role of another authority that fits; a wildcard that reaches a security resource.
 pub fn row_gives(cred: &[u8], connection: u16, resource: u16, ace: &[u8]) -> u8
     ensures { λ r. ⌜ r ≡ gives (now (cred .entry)) connection resource (now (ace .entry)) ⌝ }
 {

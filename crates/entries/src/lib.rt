@@ -73,11 +73,19 @@ fn put_uuid_subject(out: &mut [u8], at: usize, row: &[u8]) -> usize
     put(out, p, b"\"}")
 }
 
+// A key and a number.
+fn put_number(out: &mut [u8], at: usize, key: &[u8], n: u16) -> usize
+    ensures { λ r. ⌜ Puts (now (out .entry)) at (now (key .entry) ++ decimal n) (now (out .exit)) r ⌝ }
+{
+    let p = put(out, at, key);
+    put_decimal(out, p, n as usize)
+}
+
 fn put_role_subject(out: &mut [u8], at: usize, row: &[u8]) -> usize
     ensures { λ r. ⌜ Puts (now (out .entry)) at (roleSubject (now (row .entry))) (now (out .exit)) r ⌝ }
 {
-    let p = put(out, at, b"{\"role\":\"");
-    let p = put_decimal(out, p, ace::role(row) as usize);
+    let p = put_number(out, at, b"{\"authority\":\"", ace::authority(row));
+    let p = put_number(out, p, b"\",\"role\":\"", ace::role(row));
     put(out, p, b"\"}")
 }
 
@@ -100,14 +108,6 @@ fn put_subject(out: &mut [u8], at: usize, row: &[u8]) -> usize
         2 => put_connection_subject(out, at, row),
         _ => put(out, at, b""),
     }
-}
-
-// A key and a number.
-fn put_number(out: &mut [u8], at: usize, key: &[u8], n: u16) -> usize
-    ensures { λ r. ⌜ Puts (now (out .entry)) at (now (key .entry) ++ decimal n) (now (out .exit)) r ⌝ }
-{
-    let p = put(out, at, key);
-    put_decimal(out, p, n as usize)
 }
 
 // A key and the subject.

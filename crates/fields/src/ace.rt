@@ -5,7 +5,7 @@ use crate::bits::field;
 use rows::part;
 ghost use mathlib.Core.Path.{_≡_};
 ghost use Rattle.rules.specs.Bits.{bits};
-ghost use Rattle.rules.specs.Bodies.{aceKind, acePermission, acePlus, aceMinus, aceStar, inSet, setKnown, aceSubject, aceRole, aceConnection};
+ghost use Rattle.rules.specs.Bodies.{aceKind, acePermission, acePlus, aceMinus, aceStar, inSet, setKnown, aceSubject, aceAuthority, aceRole, aceConnection};
 
 // 0 UUID, 1 role, 2 connection
 pub fn kind(row: &[u8]) -> u16
@@ -58,6 +58,13 @@ pub fn subject(row: &[u8]) -> &[u8]
     ensures { λ r. ⌜ now r ≡ aceSubject (now (row .entry)) ⌝ }
 {
     part(row, 12, 16)
+}
+
+// Whose role it is.
+pub fn authority(row: &[u8]) -> u16
+    ensures { λ n. ⌜ n ≡ aceAuthority (now (row .entry)) ⌝ }
+{
+    field(row, 192, 16)
 }
 
 pub fn role(row: &[u8]) -> u16

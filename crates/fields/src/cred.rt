@@ -1,9 +1,9 @@
 // The fields of a credential row.
-// Number, subject UUID, role, type. Each contract rules out the bit beside the field and one bit fewer.
+// Number, subject UUID, role, its authority, type. Each contract rules out the bit beside the field and one bit fewer.
 use crate::bits::field;
 use rows::part;
 ghost use mathlib.Core.Path.{_≡_};
-ghost use Rattle.rules.specs.Bodies.{credSubject, credRole, credType};
+ghost use Rattle.rules.specs.Bodies.{credSubject, credRole, credAuthority, credType};
 ghost use Rattle.rules.specs.Bits.{bits};
 
 pub fn subject(row: &[u8]) -> &[u8]
@@ -18,15 +18,22 @@ pub fn role(row: &[u8]) -> u16
     field(row, 144, 16)
 }
 
+// Whose role it is.
+pub fn authority(row: &[u8]) -> u16
+    ensures { λ n. ⌜ n ≡ credAuthority (now (row .entry)) ⌝ }
+{
+    field(row, 160, 16)
+}
+
 // Decides nothing; at most one bit of the six is set.
 pub fn type_bits(row: &[u8]) -> u16
     ensures { λ n. ⌜ n ≡ credType (now (row .entry)) ⌝ }
 {
-    field(row, 160, 6)
+    field(row, 176, 6)
 }
 
 pub fn zeros(row: &[u8]) -> u16
-    ensures { λ n. ⌜ n ≡ bits (now (row .entry)) 166 2 ⌝ }
+    ensures { λ n. ⌜ n ≡ bits (now (row .entry)) 182 2 ⌝ }
 {
-    field(row, 166, 2)
+    field(row, 182, 2)
 }

@@ -17,7 +17,7 @@ pub fn stride_of(table: Table) -> usize
     ensures { λ r. ⌜ r ≡ stride table ⌝ }
 {
     match table {
-        Table::Creds => 21,
+        Table::Creds => 23,
         Table::Aces => 28,
     }
 }
@@ -59,17 +59,18 @@ pub fn state_body(b: &[u8]) -> bool
 }
 
 // A credential row that a body could store.
-// Rules out: number 0; two bits of the type.
+// Rules out: number 0; two bits of the type; an authority without a role.
 pub fn cred_storable(row: &[u8]) -> bool
     ensures { λ r. ⌜ r ≡ credStorable (now (row .entry)) ⌝ }
 {
-    if row.len() != 21 {
+    if row.len() != 23 {
         return false;
     }
     let numbered = word(row) != 0;
     let named = !is_nil(cred::subject(row));
+    let role = (cred::role(row) != 0) | (cred::authority(row) == 0);
     let typed = u16::count_ones(cred::type_bits(row)) <= 1;
-    numbered & named & typed & (cred::zeros(row) == 0)
+    numbered & named & role & typed & (cred::zeros(row) == 0)
 }
 
 fn subject_storable(row: &[u8]) -> bool
@@ -79,7 +80,7 @@ fn subject_storable(row: &[u8]) -> bool
     let kind = ace::kind(row);
     match kind {
         0 => !is_nil(subject),
-        1 => rows::all_zero(part(subject, 0, 14), 0) & (ace::role(row) != 0),
+        1 => rows::all_zero(part(subject, 0, 12), 0) & (ace::role(row) != 0),
         2 => rows::all_zero(part(subject, 0, 15), 0) & (ace::connection_zeros(row) == 0),
         _ => false,
     }

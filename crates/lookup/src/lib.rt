@@ -46,7 +46,7 @@ pub fn place(t: Tables, table: Table, at: usize, key: &[u8]) -> Found
     match table {
         Table::Creds => {
             let count = held(t.ncreds, 24);
-            rows::find(&t.creds, 21, count, at, key)
+            rows::find(&t.creds, 23, count, at, key)
         }
         Table::Aces => {
             let count = held(t.naces, 32);

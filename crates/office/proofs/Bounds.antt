@@ -80,7 +80,7 @@ subject-length w =
     cond-cases Few (eqb (aceKind w) 0)
     (λ _. simp length-append (omega (arith, uuid-short (aceSubject w) (rw (length-take 16 (drop 12 w)) (omega arith)))))
     (λ _. cond-cases Few (eqb (aceKind w) 1)
-    (λ _. simp length-append (omega (arith, word-length w 208)))
+    (λ _. simp length-append (omega (arith, word-length w 192, word-length w 208)))
     (λ _. cond-cases Few (eqb (aceKind w) 2)
     (λ _. cond-cases Few (eqb (aceConnection w) 1) (λ _. omega arith) (λ _. omega arith))
     (λ _. omega arith)))

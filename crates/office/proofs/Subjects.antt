@@ -11,7 +11,7 @@ use borrow.Author.Tests.{ltb-true, ltb-false, eqb-true, eqb-false}
 use Rattle.text.specs.Text.{ascii, decimal}
 use Rattle.rows.specs.Rows.{Row, allZero, joined}
 use Rattle.rules.specs.Bits.{bits}
-use Rattle.rules.specs.Bodies.{aceKind, aceSubject, aceRole, aceConnection, isNil, subjectStorable}
+use Rattle.rules.specs.Bodies.{aceKind, aceSubject, aceAuthority, aceRole, aceConnection, isNil, subjectStorable}
 use Rattle.rules.proofs.Bools.{and-left, and-right, and-both, cond-cases, contradiction}
 use Rattle.rules.proofs.BitLaws.{bits-small}
 use Rattle.office.specs.Office.{hexDigit, dash, hexByte, uuidFrom, uuidText, uuidSubject, roleSubject, connectionSubject, subjectText}
@@ -54,7 +54,7 @@ uuid-told i (a ∷ u) (b ∷ v) {s} {t} l hu hv e =
 
 data Subject (w : Row) : Type 0 where
   uuid : aceKind w ≡ 0 → subjectText w ≡ uuidSubject w → Subject w
-  role : aceKind w ≡ 1 → subjectText w ≡ roleSubject w → allZero (take 14 (aceSubject w)) ≡ true → Subject w
+  role : aceKind w ≡ 1 → subjectText w ≡ roleSubject w → allZero (take 12 (aceSubject w)) ≡ true → Subject w
   connection : aceKind w ≡ 2 → subjectText w ≡ connectionSubject w → allZero (take 15 (aceSubject w)) ≡ true → bits w 216 7 ≡ 0 → Subject w
 
 subject : (w : Row) → subjectStorable w ≡ true → Subject w
@@ -62,7 +62,7 @@ unfolding subjectStorable subjectText
 subject w h = go (eqb (aceKind w) 0) (eqb (aceKind w) 1) (eqb (aceKind w) 2) refl refl refl h
   where
     go : (a b c : Bool) → eqb (aceKind w) 0 ≡ a → eqb (aceKind w) 1 ≡ b → eqb (aceKind w) 2 ≡ c
-        → cond a (not (isNil (aceSubject w))) (cond b (allZero (take 14 (aceSubject w)) && not (eqb (aceRole w) 0)) (cond c (allZero (take 15 (aceSubject w)) && eqb (bits w 216 7) 0) false)) ≡ true
+        → cond a (not (isNil (aceSubject w))) (cond b (allZero (take 12 (aceSubject w)) && not (eqb (aceRole w) 0)) (cond c (allZero (take 15 (aceSubject w)) && eqb (bits w 216 7) 0) false)) ≡ true
         → Subject w
     go true b c p q o h = uuid (eqb-true _ 0 p) (rw p)
     go false true c p q o h = role (eqb-true _ 1 q) (rw (p, q)) (and-left _ _ h)
@@ -72,7 +72,7 @@ subject w h = go (eqb (aceKind w) 0) (eqb (aceKind w) 1) (eqb (aceKind w) 2) ref
 -- the first letter of the key tells the kind
 abbrev letter : {w : Row} → Subject w → ℕ
 letter (uuid k e) = 117
-letter (role k e z) = 114
+letter (role k e z) = 97
 letter (connection k e z b) = 99
 
 letter-at : {w : Row} (k : Subject w) (s : List ℕ) → getD (subjectText w ++ s) 2 0 ≡ letter k
@@ -135,11 +135,12 @@ module _ (w v : Row) (l : length w ≡ length v) where
       in
       (r .0, append-cancel-left (ascii "\"}") s t (r .1))
 
-  roles : {s t : List ℕ} → roleSubject w ++ s ≡ roleSubject v ++ t → (aceRole w ≡ aceRole v) × (s ≡ t)
+  roles : {s t : List ℕ} → roleSubject w ++ s ≡ roleSubject v ++ t → (aceAuthority w ≡ aceAuthority v) × (aceRole w ≡ aceRole v) × (s ≡ t)
   unfolding roleSubject joined ascii
   roles {s} {t} h =
-      let r = decimal-told (aceRole w) (aceRole v) refl refl (append-cancel-left (ascii "{\"role\":\"") _ _ (simp append-assoc at h)) in
-      (r .0, append-cancel-left (ascii "\"}") s t (r .1))
+      let a = decimal-told (aceAuthority w) (aceAuthority v) refl refl (append-cancel-left (ascii "{\"authority\":\"") _ _ (simp append-assoc at h)) in
+      let r = decimal-told (aceRole w) (aceRole v) refl refl (append-cancel-left (ascii "\",\"role\":\"") _ _ (a .1)) in
+      (a .0, r .0, append-cancel-left (ascii "\"}") s t (r .1))
 
   connections : {s t : List ℕ} → connectionSubject w ++ s ≡ connectionSubject v ++ t → (aceConnection w ≡ aceConnection v) × (s ≡ t)
   unfolding connectionSubject connectionText
@@ -154,7 +155,7 @@ module _ (w v : Row) (l : length w ≡ length v) where
       (record { kind = k ∙ sym k′; bytes = λ f. agree-part w v 12 16 f (r .0) }, r .1)
   both {s} {t} bw bv (role k e z) (role k′ e′ z′) h =
       let r = roles (rw (e, e′) at h) in
-      (record { kind = k ∙ sym k′; bytes = λ f. agree-field w v 208 16 (agree-part w v 12 14 f (part 14 (omega arith) (zeros-same _ _ (length-part 14) z z′))) (r .0) }, r .1)
+      (record { kind = k ∙ sym k′; bytes = λ f. agree-field w v 208 16 (agree-field w v 192 16 (agree-part w v 12 12 f (part 12 (omega arith) (zeros-same _ _ (length-part 12) z z′))) (r .0)) (r .1) }, r .2)
   both {s} {t} bw bv (connection k e z b) (connection k′ e′ z′ b′) h =
       let r = connections (rw (e, e′) at h) in
       (record { kind = k ∙ sym k′; bytes = λ f. agree-field w v 223 1 (agree-field w v 216 7 (agree-part w v 12 15 f (part 15 (omega arith) (zeros-same _ _ (length-part 15) z z′))) (b ∙ sym b′)) (r .0) }, r .1)

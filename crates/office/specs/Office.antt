@@ -13,7 +13,7 @@ use Rattle.rules.specs.declared.Table.the-variants.{Aces}
 use Rattle.rules.specs.declared.Check.{Check}
 use Rattle.rules.specs.declared.Check.the-variants.{Pass, Refuse}
 use Rattle.rules.specs.Lookup.{lookup}
-use Rattle.rules.specs.Bodies.{rowNumber, aceKind, acePermission, acePlus, aceMinus, aceStar, inSet, aceSubject, aceRole, aceConnection}
+use Rattle.rules.specs.Bodies.{rowNumber, aceKind, acePermission, acePlus, aceMinus, aceStar, inSet, aceSubject, aceAuthority, aceRole, aceConnection}
 use Rattle.rules.specs.Tables.{rows, sound}
 use Rattle.rules.specs.Checks.{verdict}
 
@@ -57,7 +57,7 @@ unfoldable pub uuidSubject : Row → List ℕ
 uuidSubject w = joined (ascii "{\"uuid\":\"" ∷ uuidText (aceSubject w) ∷ ascii "\"}" ∷ [])
 
 unfoldable pub roleSubject : Row → List ℕ
-roleSubject w = joined (ascii "{\"role\":\"" ∷ decimal (aceRole w) ∷ ascii "\"}" ∷ [])
+roleSubject w = joined (ascii "{\"authority\":\"" ∷ decimal (aceAuthority w) ∷ ascii "\",\"role\":\"" ∷ decimal (aceRole w) ∷ ascii "\"}" ∷ [])
 
 unfoldable pub connectionSubject : Row → List ℕ
 connectionSubject w = cond (eqb (aceConnection w) 1) (ascii "{\"conntype\":\"auth-crypt\"}") (ascii "{\"conntype\":\"anon-clear\"}")

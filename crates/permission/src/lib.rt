@@ -20,8 +20,8 @@ ghost use Rattle.rules.specs.Permission.{credentialIn, connectionOf, gives, nam
 
 // The credential row of the record's sender, or no bytes.
 fn credential_row<'a>(creds: &'a [u8], count: usize, record: &'a [u8]) -> &'a [u8]
-    requires { ⌜ count * 21 ≤ length (now creds) ⌝ }
-    ensures { λ r. ⌜ now r ≡ credentialIn (rowsOf 21 count (now (creds .entry))) (sender (now («record» .entry))) ⌝ }
+    requires { ⌜ count * 23 ≤ length (now creds) ⌝ }
+    ensures { λ r. ⌜ now r ≡ credentialIn (rowsOf 23 count (now (creds .entry))) (sender (now («record» .entry))) ⌝ }
 {
     if record.len() < 4 {
         return &record[..0];
@@ -29,7 +29,7 @@ fn credential_row<'a>(creds: &'a [u8], count: usize, record: &'a [u8]) -> &'a [u
     if connection_of(record) != 1 {
         return &record[..0];
     }
-    rows::row_with(creds, 21, count, 0, &record[2..4])
+    rows::row_with(creds, 23, count, 0, &record[2..4])
 }
 
 // The connection of the record's sender: of one too short to have a sender, 0.

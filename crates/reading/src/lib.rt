@@ -38,7 +38,7 @@ fn rows_length(t: Tables, resource: u16) -> usize
     ensures { λ r. ⌜ (r ≡ length (rowBytes t resource)) × (r ≤ 896) ⌝ }
 {
     match resource {
-        2 => held(t.ncreds, 24) * 21,
+        2 => held(t.ncreds, 24) * 23,
         3 => held(t.naces, 32) * 28,
         _ => 0,
     }
@@ -85,7 +85,7 @@ fn put_rows(out: &mut [u8], at: usize, t: Tables, resource: u16) -> usize
 {
     match resource {
         2 => {
-            let n = held(t.ncreds, 24) * 21;
+            let n = held(t.ncreds, 24) * 23;
             put(out, at, part(&t.creds, 0, n))
         }
         3 => {

@@ -14,11 +14,11 @@ use Rattle.rules.specs.declared.Table.the-variants.{Creds, Aces}
 use Rattle.rules.specs.Bits.{bit, bits, word}
 use Rattle.rules.specs.Directory.{resourceOf, someSecurity}
 use Rattle.rules.specs.Record.{Request, asked, Sender, unauthenticated, partner, sender, payloadOf}
-use Rattle.rules.specs.Bodies.{nil, isNil, ownerBody, stateBody, credStorable, setKnown, subjectStorable, aceStorable}
+use Rattle.rules.specs.Bodies.{nil, isNil, ownerBody, stateBody, credStorable, credRowOf, setKnown, subjectStorable, aceStorable}
 use Rattle.rules.specs.Tables.{rowsIn, withRows, rowsSound, headSound, sound, empty, rowOwner}
 use Rattle.rules.specs.Defaults.{Defaults, noDefaults, goodList, defaultRows, fresh}
 use Rattle.rules.specs.Permission.{has, subjectFits, resourceFits, rowFits, gives, names, isOwner, byOwner, byNoOwner, effectiveOf, effective, permission}
-use Rattle.rules.specs.Action.{ifAllowed, updateDoxm, updatePstat, updateRows, updateAction, deleteNumber, deleteAces, deleteCreds, deleteAction, readAction, securityAction, action}
+use Rattle.rules.specs.Action.{ifAllowed, updateDoxm, updatePstat, storeRow, updateRows, updateAction, deleteNumber, deleteAces, deleteCreds, deleteAction, readAction, securityAction, action}
 use Rattle.rules.specs.States.{writeAllowed, moveListed, moveAllowed}
 use Rattle.rules.specs.declared.Places.{Places}
 use Rattle.rules.specs.Places.{nowhere, gapOf}
@@ -32,7 +32,7 @@ use Rattle.rules.proofs.Isolated.{isolation}
 
 -- `unfolding definitions` opens all that its own line names
 definitions : Unit {0}
-unfolding ones onesIn rowsBefore gapOf rowsOf joined packed allZero same hasKey numberedAs placeFrom firstRow some every without distinctNumbers stored unionOf withRow bit bits has resourceOf word sender payloadOf nil isNil ownerBody stateBody credStorable setKnown subjectStorable aceStorable rowsIn rowsSound headSound sound empty goodList defaultRows fresh rowOwner subjectFits resourceFits rowFits gives names isOwner byOwner byNoOwner effectiveOf permission ownBody rowBytes contents reads replyOf tooShort ifAllowed updateDoxm updatePstat updateRows updateAction deleteNumber deleteAces deleteCreds deleteAction readAction securityAction action writeAllowed moveListed moveAllowed badLength noVerb zeroBitSet mismatch unknownResource noCredential noEndpoint notPermitted offered notOffered verdict entered outcomeAt outcome
+unfolding ones onesIn rowsBefore gapOf rowsOf joined packed allZero same hasKey numberedAs placeFrom firstRow some every without distinctNumbers stored unionOf withRow bit bits has resourceOf word sender payloadOf nil isNil ownerBody stateBody credStorable credRowOf setKnown subjectStorable aceStorable rowsIn rowsSound headSound sound empty goodList defaultRows fresh rowOwner subjectFits resourceFits rowFits gives names isOwner byOwner byNoOwner effectiveOf permission ownBody rowBytes contents reads replyOf tooShort ifAllowed updateDoxm updatePstat storeRow updateRows updateAction deleteNumber deleteAces deleteCreds deleteAction readAction securityAction action writeAllowed moveListed moveAllowed badLength noVerb zeroBitSet mismatch unknownResource noCredential noEndpoint notPermitted offered notOffered verdict entered outcomeAt outcome
 definitions = tt
 
 -- a record with a buffer that fits any reply
@@ -46,8 +46,13 @@ answer t r = replyTo noDefaults t (lent r) .answer
 pub uuid : List ℕ
 uuid = replicate 16 0x11
 
+-- a body of 21 bytes, as in the paper
+pub credBody : ℕ → List ℕ
+credBody n = 0 ∷ n ∷ (uuid ++ (0 ∷ 0 ∷ 4 ∷ []))
+
+-- the row that it stores
 pub credRow : ℕ → Row
-credRow n = 0 ∷ n ∷ (uuid ++ (0 ∷ 0 ∷ 4 ∷ []))
+credRow n = 0 ∷ n ∷ (uuid ++ (0 ∷ 0 ∷ 0 ∷ 0 ∷ 4 ∷ []))
 
 -- n rows, numbered from n down to 1
 credRows : ℕ → List Row
@@ -56,7 +61,7 @@ credRows (suc n) = credRow (suc n) ∷ credRows n
 
 -- 25 credential rows are claimed where 24 stand: nothing else is wrong
 overfull : Tables
-overfull = record { state = 1; owned = 0; ncreds = 25; naces = 0; devowner = nil; rowners = replicate 64 0; creds = packed 504 (credRows 24); aces = replicate 896 0 }
+overfull = record { state = 1; owned = 0; ncreds = 25; naces = 0; devowner = nil; rowners = replicate 64 0; creds = packed 552 (credRows 24); aces = replicate 896 0 }
 
 -- state 2, the owner in row 5
 pub owned5 : Tables
@@ -89,11 +94,11 @@ examples =
     ∷ example owned5 (0x50 ∷ 0x00 ∷ 0x00 ∷ 0x05 ∷ 0x80 ∷ uuid)
     ∷ example (fresh noDefaults) (0x40 ∷ 0x40 ∷ 0x00 ∷ 0x00 ∷ 0x60 ∷ [])
     ∷ example (fresh noDefaults) (0x60 ∷ 0x80 ∷ 0x00 ∷ 0x00 ∷ 0x00 ∷ 0x05 ∷ [])
-    ∷ example full24 (0x40 ∷ 0x80 ∷ 0x00 ∷ 0x00 ∷ credRow 25)
+    ∷ example full24 (0x40 ∷ 0x80 ∷ 0x00 ∷ 0x00 ∷ credBody 25)
     ∷ []
 
 pub fourteen : map (λ e. answer (e .tables) (e .bytes)) examples ≡ 1 ∷ 2 ∷ 3 ∷ 4 ∷ 5 ∷ 6 ∷ 7 ∷ 8 ∷ 9 ∷ 10 ∷ 11 ∷ 12 ∷ 13 ∷ 14 ∷ []
-unfolding definitions uuid credRow credRows overfull owned5 full24 example examples
+unfolding definitions uuid credBody credRow credRows overfull owned5 full24 example examples
 fourteen = refl
 
 -- ---- the worked run
@@ -101,7 +106,7 @@ fourteen = refl
 -- the records: a credential row 5, an owner, and three moves to state 2
 pub workedRun : List (List ℕ)
 workedRun =
-    (0x40 ∷ 0x80 ∷ 0x00 ∷ 0x00 ∷ credRow 5)
+    (0x40 ∷ 0x80 ∷ 0x00 ∷ 0x00 ∷ credBody 5)
     ∷ (0x40 ∷ 0x00 ∷ 0x00 ∷ 0x00 ∷ 0x80 ∷ uuid)
     ∷ (0x40 ∷ 0x40 ∷ 0x00 ∷ 0x00 ∷ 0x40 ∷ [])
     ∷ (0x50 ∷ 0x40 ∷ 0x00 ∷ 0x05 ∷ 0x40 ∷ [])
@@ -113,7 +118,7 @@ pub line : Tables → Request → List ℕ
 line t q = replyTo noDefaults t q .answer ∷ replyTo noDefaults t q .permission ∷ tablesAfter noDefaults t q .state ∷ []
 
 pub worked : replies line (tablesAfter noDefaults) (fresh noDefaults) (map lent workedRun) ≡ (0 ∷ 31 ∷ 1 ∷ []) ∷ (0 ∷ 31 ∷ 1 ∷ []) ∷ (8 ∷ 0 ∷ 1 ∷ []) ∷ (0 ∷ 31 ∷ 2 ∷ []) ∷ (12 ∷ 0 ∷ 2 ∷ []) ∷ []
-unfolding definitions line workedRun uuid credRow
+unfolding definitions line workedRun uuid credBody credRow
 worked = refl
 
 -- ---- readings to guard against
@@ -161,7 +166,7 @@ unfolding definitions owned5 serving aceRow weight none connected uuid credRow
 guards = refl
 
 -- nil fits nobody, not even a credential row that has no bytes, or one whose subject is nil
-pub nil-fits-nobody : names nil [] ∷ names nil (replicate 21 0) ∷ [] ≡ false ∷ false ∷ []
+pub nil-fits-nobody : names nil [] ∷ names nil (replicate 23 0) ∷ [] ≡ false ∷ false ∷ []
 unfolding definitions
 nil-fits-nobody = refl
 
@@ -187,8 +192,8 @@ reply room r = let o = replyTo noDefaults owned5 (asked r room) in o .answer ∷
 pub replies-read :
     reply 33 (0x30 ∷ 0x00 ∷ 0x00 ∷ 0x05 ∷ [])
     ∷ reply 17 (0x30 ∷ 0x40 ∷ 0x00 ∷ 0x05 ∷ [])
-    ∷ reply 37 (0x30 ∷ 0x80 ∷ 0x00 ∷ 0x05 ∷ [])
-    ∷ reply 36 (0x30 ∷ 0x80 ∷ 0x00 ∷ 0x05 ∷ [])
+    ∷ reply 39 (0x30 ∷ 0x80 ∷ 0x00 ∷ 0x05 ∷ [])
+    ∷ reply 38 (0x30 ∷ 0x80 ∷ 0x00 ∷ 0x05 ∷ [])
     ∷ reply 16 (0x30 ∷ 0xc0 ∷ 0x00 ∷ 0x05 ∷ [])
     ∷ reply 0 (0x90 ∷ 0xc0 ∷ 0x00 ∷ 0x05 ∷ [])
     ∷ []
@@ -224,7 +229,7 @@ endpoints-exempt = refl
 -- ---- delete by subject (U3): two rows of a haulier between others; the order of the rest is kept
 
 pub haulierRow : ℕ → Row
-haulierRow n = 0 ∷ n ∷ (replicate 16 0x22 ++ (0 ∷ 0 ∷ 4 ∷ []))
+haulierRow n = 0 ∷ n ∷ (replicate 16 0x22 ++ (0 ∷ 0 ∷ 0 ∷ 0 ∷ 4 ∷ []))
 
 -- state 2, the owner in row 5
 pub several : Tables
@@ -279,7 +284,7 @@ good-lists = refl
 pub bad-lists :
     defaultRows Creds (credRow 1 ++ credRow 2 ++ credRow 3)
     ∷ defaultRows Creds (credRow 1 ++ haulierRow 1)
-    ∷ defaultRows Creds (credRow 1 ++ replicate 21 0)
+    ∷ defaultRows Creds (credRow 1 ++ replicate 23 0)
     ∷ defaultRows Creds (credRow 1 ++ (0 ∷ 9 ∷ []))
     ∷ []
     ≡ [] ∷ [] ∷ [] ∷ [] ∷ []
@@ -308,13 +313,51 @@ pub defaults-back : tablesAfter build emptied (lent (0x40 ∷ 0x40 ∷ 0x00 ∷ 
 unfolding definitions emptied build haulierRow credRow uuid aceRow weight
 defaults-back = refl
 
+-- ---- roles of an authority (U7): foremen of two hauliers, both with role 7
+
+-- role 7 of authority a
+pub foremanRow : ℕ → ℕ → Row
+foremanRow n a = 0 ∷ n ∷ (replicate 16 0x22 ++ (0 ∷ 7 ∷ 0 ∷ a ∷ 4 ∷ []))
+
+-- as the subject of an access row
+pub foreman : ℕ → List ℕ
+foreman a = replicate 13 0 ++ (a ∷ 0 ∷ 7 ∷ [])
+
+-- U on resource 8 for the role of authority 1, R for that of our works
+pub foremen : Tables
+foremen = withRows Creds (serving (aceRow 1 1 4 0 weight (foreman 1) ∷ aceRow 2 1 2 0 weight (foreman 0) ∷ [])) (credRow 5 ∷ foremanRow 1 1 ∷ foremanRow 2 2 ∷ foremanRow 3 0 ∷ [])
+
+-- a role fits with its authority alone
+pub roles-fit : effective foremen (partner 1) 8 ∷ effective foremen (partner 2) 8 ∷ effective foremen (partner 3) 8 ∷ effective foremen (partner 5) 8 ∷ [] ≡ 4 ∷ 0 ∷ 2 ∷ 0 ∷ []
+unfolding definitions foremen foremanRow foreman owned5 serving aceRow weight uuid credRow
+roles-fit = refl
+
+-- 21 bytes store the row of 23 with authority 0; an authority beside role 0 is a forbidden value, of a role row none is
+pub roles-stored :
+    credRowOf (credBody 9)
+    ∷ credRowOf (credRow 9)
+    ∷ []
+    ≡ credRow 9 ∷ credRow 9 ∷ []
+unfolding definitions uuid credBody credRow
+roles-stored = refl
+
+pub roles-answered :
+    answer owned5 (0x50 ∷ 0x80 ∷ 0x00 ∷ 0x05 ∷ foremanRow 9 1)
+    ∷ answer owned5 (0x50 ∷ 0x80 ∷ 0x00 ∷ 0x05 ∷ 0 ∷ 9 ∷ (uuid ++ (0 ∷ 0 ∷ 0 ∷ 1 ∷ 4 ∷ [])))
+    ∷ answer owned5 (0x50 ∷ 0x80 ∷ 0x00 ∷ 0x05 ∷ 0 ∷ 9 ∷ (uuid ++ (0 ∷ 7 ∷ 1 ∷ 4 ∷ [])))
+    ∷ answer owned5 (0x50 ∷ 0xc0 ∷ 0x00 ∷ 0x05 ∷ aceRow 1 1 4 0 weight (foreman 1))
+    ∷ []
+    ≡ 0 ∷ 10 ∷ 10 ∷ 0 ∷ []
+unfolding definitions foremanRow foreman owned5 aceRow weight uuid credRow
+roles-answered = refl
+
 -- ---- demand 3 is not empty: partner 7, a haulier who may read resource 8, is chosen, and the unauthenticated senders with it
 
 haulier : List ℕ
 haulier = replicate 16 0x22
 
 pub yard : Tables
-yard = withRows Creds (serving (aceRow 1 0 2 0 weight haulier ∷ aceRow 2 2 2 0 weight (connected 0) ∷ [])) (credRow 5 ∷ (0 ∷ 7 ∷ (haulier ++ (0 ∷ 0 ∷ 4 ∷ []))) ∷ [])
+yard = withRows Creds (serving (aceRow 1 0 2 0 weight haulier ∷ aceRow 2 2 2 0 weight (connected 0) ∷ [])) (credRow 5 ∷ (0 ∷ 7 ∷ (haulier ++ (0 ∷ 0 ∷ 0 ∷ 0 ∷ 4 ∷ []))) ∷ [])
 
 pub chosen7 : Sender → Bool
 chosen7 unauthenticated = true

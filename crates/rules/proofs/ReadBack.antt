@@ -74,7 +74,7 @@ same-rows k t h l =
 -- ---- the longest reply
 
 rows-short : (k : Table) (t : Tables) → sound t ≡ true → length (joined (rows k t)) ≤ 896
-rows-short Creds t h = let l = length-joined 21 (rows Creds t) (long-rows Creds t h) in omega (arith, l, few-rows Creds t h)
+rows-short Creds t h = let l = length-joined 23 (rows Creds t) (long-rows Creds t h) in omega (arith, l, few-rows Creds t h)
 rows-short Aces t h = let l = length-joined 28 (rows Aces t) (long-rows Aces t h) in omega (arith, l, few-rows Aces t h)
 
 parts-short : (t : Tables) (n : ℕ) → sound t ≡ true → length (t .devowner) ≡ 16 → length (ownBody t n) + length (rowBytes t n) ≤ 896

@@ -21,7 +21,7 @@ use Rattle.rules.specs.declared.Action.the-variants.{Serve, Read, SetRow
 use Rattle.rules.specs.Lookup.{lookup}
 use Rattle.rules.specs.Record.{Request, body}
 use Rattle.rules.specs.Bodies.{nil, isNil}
-use Rattle.rules.specs.Tables.{stride, capacity, storable, count, bytes, rows, rowsIn, withRows, rowsSound, headSound, sound, empty}
+use Rattle.rules.specs.Tables.{stride, capacity, storable, rowOf, count, bytes, rows, rowsIn, withRows, rowsSound, headSound, sound, empty}
 use Rattle.rules.specs.Defaults.{Defaults, listed, goodList, defaultRows, fresh}
 use Rattle.rules.specs.Action.{action}
 use Rattle.rules.specs.Checks.{checks, verdict, badTarget, full}
@@ -52,7 +52,7 @@ rows-sound k size ws room few all apart =
 
 sound-with : (k : Table) (t : Tables) (ws : List Row) → sound t ≡ true → length ws ≤ capacity k → every (storable k) ws ≡ true → distinctNumbers ws ≡ true → sound (withRows k t ws) ≡ true
 unfolding headSound
-sound-with Creds t ws h few all apart = let s = sound-parts t h in sound-whole _ (record { head = s .head; creds = rows-sound Creds 504 ws (omega arith) few all apart; aces = s .aces })
+sound-with Creds t ws h few all apart = let s = sound-parts t h in sound-whole _ (record { head = s .head; creds = rows-sound Creds 552 ws (omega arith) few all apart; aces = s .aces })
 sound-with Aces t ws h few all apart = let s = sound-parts t h in sound-whole _ (record { head = s .head; creds = s .creds; aces = rows-sound Aces 896 ws (omega arith) few all apart })
 
 -- the parts of the head
@@ -159,7 +159,7 @@ effect-sound d t b (SetState n) h v w g f =
     sound-whole _ (record { head = head-whole _ (record { low = positive n e; high = v; agrees = p .agrees; ready = or-true-right (eqb n 1) _ (move-owned t n p e (not-false _ g)) }); creds = s .creds; aces = s .aces }))
 effect-sound d t b (Store k) h v w g f =
     let s = table-parts k t h in
-    sound-with k t (stored b (rows k t)) h (few-stored k t b h f) (every-stored (storable k) b (rows k t) v (s .stores)) (distinct-stored b (rows k t) (s .apart))
+    sound-with k t (stored (rowOf k b) (rows k t)) h (few-stored k t b h f) (every-stored (storable k) (rowOf k b) (rows k t) v (s .stores)) (distinct-stored (rowOf k b) (rows k t) (s .apart))
 effect-sound d t b (Remove k at) h v w g f =
     let s = table-parts k t h in
     sound-with k t (without (hasKey at b) (rows k t)) h (few-without k t (hasKey at b) h) (every-without (storable k) (hasKey at b) (rows k t) (s .stores)) (distinct-without (hasKey at b) (rows k t) (s .apart))

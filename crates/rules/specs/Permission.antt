@@ -13,7 +13,7 @@ use Rattle.rules.specs.Bits.{word}
 use Rattle.rules.specs.Lookup.{lookup}
 use Rattle.rules.specs.Directory.{resourceOf, isSecurity, starReaches, plusReaches, minusReaches}
 use Rattle.rules.specs.Record.{Sender, unauthenticated, partner, sender, resource}
-use Rattle.rules.specs.Bodies.{isNil, credSubject, credRole, aceKind, acePermission, acePlus, aceMinus, aceStar, inSet, aceSubject, aceRole, aceConnection}
+use Rattle.rules.specs.Bodies.{isNil, credSubject, credRole, credAuthority, aceKind, acePermission, acePlus, aceMinus, aceStar, inSet, aceSubject, aceAuthority, aceRole, aceConnection}
 use Rattle.rules.specs.Tables.{rows, rowOwner}
 
 -- permission bits: C 1, R 2, U 4, D 8, N 16
@@ -66,12 +66,12 @@ isRow w = not (eqb (length w) 0)
 
 -- ---- 1. the access rows whose subject and resource both fit
 
--- a UUID fits the credential row w with that subject, a role the one with that role, a connection the same bit; role 0 is none, and no role row has it
+-- a UUID fits the credential row w with that subject, a role the one with that role of that authority, a connection the same bit; role 0 is none, and no role row has it
 unfoldable pub subjectFits : Row → ℕ → Row → Bool
 subjectFits w connection a =
     lookup (aceKind a)
     ((0, isRow w && same (aceSubject a) (credSubject w))
-    ∷ (1, isRow w && eqb (aceRole a) (credRole w))
+    ∷ (1, isRow w && eqb (aceRole a) (credRole w) && eqb (aceAuthority a) (credAuthority w))
     ∷ (2, eqb (aceConnection a) connection)
     ∷ [])
     false

@@ -9,12 +9,17 @@ use Rattle.rows.specs.Rows.{Row, rowsOf, packed, allZero, every, distinctNumber
 use Rattle.rules.specs.declared.Tables.{Tables}
 use Rattle.rules.specs.declared.Table.{Table}
 use Rattle.rules.specs.declared.Table.the-variants.{Creds, Aces}
-use Rattle.rules.specs.Bodies.{nil, isNil, credStorable, aceStorable}
+use Rattle.rules.specs.Bodies.{nil, isNil, credStorable, credRowOf, aceStorable}
 
 -- bytes of a row
 abbrev pub stride : Table → ℕ
-stride Creds = 21
+stride Creds = 23
 stride Aces = 28
+
+-- bytes of the shortest body that stores a row
+abbrev pub shortest : Table → ℕ
+shortest Creds = 21
+shortest Aces = 28
 
 -- rows at most
 abbrev pub capacity : Table → ℕ
@@ -25,6 +30,11 @@ capacity Aces = 32
 abbrev pub storable : Table → Row → Bool
 storable Creds = credStorable
 storable Aces = aceStorable
+
+-- the row that a body stores
+abbrev pub rowOf : Table → List ℕ → Row
+rowOf Creds b = credRowOf b
+rowOf Aces b = b
 
 abbrev pub count : Table → Tables → ℕ
 count Creds t = t .ncreds
@@ -74,4 +84,4 @@ sound t = headSound t && rowsSound Creds (t .ncreds) (t .creds) && rowsSound Ace
 -- ---- empty tables: state 1, owned 0, owners nil, no rows
 
 unfoldable pub empty : Tables
-empty = record { state = 1; owned = 0; ncreds = 0; naces = 0; devowner = nil; rowners = replicate 64 0; creds = replicate 504 0; aces = replicate 896 0 }
+empty = record { state = 1; owned = 0; ncreds = 0; naces = 0; devowner = nil; rowners = replicate 64 0; creds = replicate 552 0; aces = replicate 896 0 }

@@ -49,8 +49,8 @@ pub struct Tables {
     pub devowner: [u8; 16],
     // row owners of doxm, pstat, cred and acl2
     pub rowners: [u8; 64],
-    // 24 rows of 21 bytes
-    pub creds: [u8; 504],
+    // 24 rows of 23 bytes
+    pub creds: [u8; 552],
     // 32 rows of 28 bytes
     pub aces: [u8; 896],
 }
@@ -68,7 +68,7 @@ impl Tables {
             naces: 0,
             devowner: Uuid::NIL,
             rowners: [0; 64],
-            creds: [0; 504],
+            creds: [0; 552],
             aces: [0; 896],
         }
     }

@@ -37,11 +37,11 @@ fn with_creds(t: Tables, list: &[u8]) -> Tables
     ensures { λ r. ⌜ r ≡ withRows Creds t (defaultRows Creds (now (list .entry))) ⌝ }
 {
     let rows = default_rows(Table::Creds, list);
-    let mut creds = [0u8; 504];
+    let mut creds = [0u8; 552];
     put(&mut creds, 0, rows);
     let mut next = t;
     next.creds = creds;
-    next.ncreds = (rows.len() / 21) as u8;
+    next.ncreds = (rows.len() / 23) as u8;
     next
 }
 

@@ -107,9 +107,9 @@ fn byte_or(s: &[u8], i: usize, other: u8) -> u8 {
 fn entry_size(s: &[u8]) -> usize {
     let tag = byte_at(s, 0);
     match tag {
-        0 => 1485,
+        0 => 1533,
         1 => record_size(s),
-        2 => 1485,
+        2 => 1533,
         3 => 3 + byte_at(s, 1) as usize + second_length(s) as usize,
         _ => 0,
     }
@@ -271,12 +271,12 @@ fn same_outcome(
 fn tables_of(bytes: &[u8]) -> Tables {
     let mut devowner = [0u8; 16];
     let mut rowners = [0u8; 64];
-    let mut creds = [0u8; 504];
+    let mut creds = [0u8; 552];
     let mut aces = [0u8; 896];
     fill(&mut devowner, after(bytes, 4));
     fill(&mut rowners, after(bytes, 20));
     fill(&mut creds, after(bytes, 84));
-    fill(&mut aces, after(bytes, 588));
+    fill(&mut aces, after(bytes, 636));
     Tables {
         state: byte_at(bytes, 0),
         owned: byte_at(bytes, 1),
@@ -305,6 +305,6 @@ fn same_tables(t: Tables, bytes: &[u8]) -> bool {
         & (t.naces == byte_at(bytes, 3))
         & rows::same_bytes(&t.devowner, part(bytes, 4, 16))
         & rows::same_bytes(&t.rowners, part(bytes, 20, 64))
-        & rows::same_bytes(&t.creds, part(bytes, 84, 504))
-        & rows::same_bytes(&t.aces, part(bytes, 588, 896))
+        & rows::same_bytes(&t.creds, part(bytes, 84, 552))
+        & rows::same_bytes(&t.aces, part(bytes, 636, 896))
 }

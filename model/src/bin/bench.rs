@@ -6,7 +6,7 @@ use std::hint::black_box;
 use std::time::Instant;
 
 use model::case::Case as Put;
-use model::examples::{access, credential, uuid, AUTH};
+use model::examples::{access, credential, role, uuid, AUTH};
 use model::generate::{record, session};
 use model::library::{self, Tables as Given};
 use model::office::{self, LONGEST_TEXT};
@@ -90,7 +90,7 @@ impl Rows {
 fn row(number: u16) -> Access {
     let subject = match number % 4 {
         0 | 1 => Subject::Uuid(uuid(number as u8)),
-        2 => Subject::Role(number),
+        2 => role(number, number),
         _ => AUTH,
     };
     access(number, subject, RETRIEVE_BIT, 0, &[8, 12])

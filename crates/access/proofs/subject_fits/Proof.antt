@@ -17,8 +17,9 @@ returns c =
 returns-2 : tie.Need-returns-2
 unfolding subjectFits
 returns-2 c =
-    let at = c .before .before in
-    rw (sym (at .before .kind .ensures) ∙ at .match .keys2, c .role2 .ensures, c .before .role .ensures)
+    let role = c .before .before in
+    let at = role .before .before in
+    rw (sym (at .before .kind .ensures) ∙ at .match .keys2, c .authority2 .ensures, c .before .authority .ensures, role .role2 .ensures, role .before .role .ensures)
 
 returns-3 : tie.Need-returns-3
 unfolding subjectFits
@@ -36,7 +37,7 @@ pub subject-fits-spec : {M : Type 1} → statement M
 subject-fits-spec =
     tie.close
     (tie.spec
-    (λ c κs. search needs) (λ c κs. search needs) (λ c κs. search needs) (λ c κs. search needs) (λ c κs. search needs) (λ c κs. search needs) (λ c κs. search needs) returns
+    (λ c κs. search needs) (λ c κs. search needs) (λ c κs. search needs) (λ c κs. search needs) (λ c κs. search needs) (λ c κs. search needs) (λ c κs. search needs) (λ c κs. search needs) (λ c κs. search needs) returns
     returns-2
     returns-3
     returns-4)

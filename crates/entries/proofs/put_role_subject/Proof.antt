@@ -1,22 +1,31 @@
--- `put_role_subject`: the key, the role and the end.
+-- `put_role_subject`: the authority and the role, each after its key, and the end.
+use Prim.Native.Nat.{_≤_}
 use native.Mathlib.Omega.{arith}
+use denote.Ref.{now}
+use lib.ListN.{length}
+use Rattle.text.specs.Buffer.{largest}
 use Rattle.text.specs.Text.{ascii}
-use Rattle.office.specs.Office.{roleSubject}
-use Rattle.entries.proofs.Parts.{puts-three}
+use Rattle.text.proofs.Buffers.{puts-then}
+use Rattle.entries.proofs.Parts.{role-puts}
 use borrow.Author.Needs.{needs}
 use Rattle.entries.proofs.put_role_subject.Statement.{statement}
 use Rattle.entries.proofs.put_role_subject.Tie as tie
 
+bound : (c : tie.After-slice-known) → length (now (c .before .args .out)) ≤ largest
+bound c = omega arith
+
 returns : tie.Need-returns
-unfolding roleSubject ascii
+unfolding ascii
 returns c =
     let end = c .before .before in
     let role = end .before .before .before .before .before in
-    let key = role .before .before .before .before .before in
-    rw (← role .before .role .ensures) (puts-three (omega arith) (key .put .ensures) (role .put-decimal .ensures) (end .put2 .ensures))
+    let authority = role .before .before .before .before .before .before in
+    let h = bound (authority .before .before .before .before .before) in
+    role-puts _ _ _ (authority .before .authority .ensures) (role .before .role .ensures)
+    (puts-then h (puts-then h (authority .put-number .ensures) (role .put-number2 .ensures)) (end .put .ensures))
 
 pub put-role-subject-spec : {M : Type 1} → statement M
 put-role-subject-spec =
     tie.close
     (tie.spec
-    (λ c. search needs) (λ c κs. search needs) (λ c κs. search needs) (λ c. search needs) (λ c κs. search needs) (λ c. search needs) (λ c κs. search needs) (λ c. search needs) returns)
+    (λ c. search needs) (λ c κs. search needs) (λ c κs. search needs) (λ c. search needs) (λ c κs. search needs) (λ c κs. search needs) (λ c. search needs) (λ c κs. search needs) (λ c. search needs) returns)

@@ -40,7 +40,7 @@ is-held : (c : tie.After-find) → some (numbered (credential (now (start c .arg
 unfolding rowsIn
 is-held c =
     let bytes = counted c .before .before .before .before .shared-slice-known .given in
-    held-at _ _ _ (counted c .before .before .before .if1 .left) (bytes 2 .fits) (bytes 3 .fits) (c .find .ensures ∙ ap (λ (n : ℕ). placeOf (hasKey 0 (take 2 (drop 2 (now (start c .args .«record»))))) (rowsOf 21 n (start c .args .t1 .creds))) (counted c .held .ensures))
+    held-at _ _ _ (counted c .before .before .before .if1 .left) (bytes 2 .fits) (bytes 3 .fits) (c .find .ensures ∙ ap (λ (n : ℕ). placeOf (hasKey 0 (take 2 (drop 2 (now (start c .args .«record»))))) (rowsOf 23 n (start c .args .t1 .creds))) (counted c .held .ensures))
 
 returns : tie.Need-returns
 unfolding refuseIf noCredential

@@ -8,15 +8,28 @@ use Rattle.format.proofs.cred_storable.Tie as tie
 
 returns : tie.Need-returns
 unfolding credStorable
-returns c = rw (ne-eqb (length (c .before .before .args .row .now)) 21 (c .if1 .taken))
+returns c = rw (ne-eqb (length (c .before .before .args .row .now)) 23 (c .if1 .taken))
 
 returns-2 : tie.Need-returns-2
 unfolding credStorable
-returns-2 c = let test = c .before .before .before .before .before in rw (eq-eqb (length (test .before .before .args .row .now)) 21 (test .if1 .left), c .zeros .ensures, c .before .type-bits .ensures, c .before .before .is-nil .ensures, c .before .before .before .subject .ensures, c .before .before .before .before .word .ensures)
+returns-2 c =
+    let authority = c .before .before in
+    let named = authority .before .before in
+    let test = named .before .before .before in
+    rw (
+      eq-eqb (length (test .before .before .args .row .now)) 23 (test .if1 .left),
+      c .zeros .ensures,
+      c .before .type-bits .ensures,
+      authority .authority .ensures,
+      authority .before .role .ensures,
+      named .is-nil .ensures,
+      named .before .subject .ensures,
+      named .before .before .word .ensures,
+    )
 
 pub cred-storable-spec : {M : Type 1} → statement M
 cred-storable-spec =
     tie.close
     (tie.spec
     returns
-    (λ c κs. search needs) (λ c κs. search needs) (λ c κs. search needs) (λ c κs. search needs) (λ c κs. search needs) returns-2)
+    (λ c κs. search needs) (λ c κs. search needs) (λ c κs. search needs) (λ c κs. search needs) (λ c κs. search needs) (λ c κs. search needs) (λ c κs. search needs) returns-2)

@@ -15,7 +15,7 @@ find-requires : tie.Need-find-requires
 find-requires c κs =
     let told = c .before .before .before in
     let start = told .before .before .before .before in
-    let l : length (start .args .t1 .creds) ≡ 504 = search needs in
+    let l : length (start .args .t1 .creds) ≡ 552 = search needs in
     omega (arith, told .held .ensures)
 
 find-requires-2 : tie.Need-find-requires-2

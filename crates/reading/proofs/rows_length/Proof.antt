@@ -12,7 +12,7 @@ use Rattle.reading.proofs.rows_length.Tie as tie
 
 returns : tie.Need-returns
 unfolding rowBytes
-returns c = let l : length (c .before .before .args .t .creds) ≡ 504 = search needs in rw (c .before .match .keys1) (row-length Creds _ _ _ (c .held .ensures) l, omega (arith, c .held .ensures))
+returns c = let l : length (c .before .before .args .t .creds) ≡ 552 = search needs in rw (c .before .match .keys1) (row-length Creds _ _ _ (c .held .ensures) l, omega (arith, c .held .ensures))
 
 returns-2 : tie.Need-returns-2
 unfolding rowBytes

@@ -1,0 +1,23 @@
+// The row that a body stores.
+// A body may leave out what the row has: that part then has its default.
+use rows::part;
+ghost use mathlib.Core.Path.{_≡_};
+ghost use Rattle.rules.specs.Bodies.{credRowOf};
+
+// The credential row that a body stores; zeros for a body of another length.
+// Rules out: an authority read from the type; the type left where a body of 21 bytes has it.
+pub fn cred_row(b: &[u8]) -> [u8; 23]
+    ensures { λ r. ⌜ r ≡ credRowOf (now (b .entry)) ⌝ }
+{
+    let mut row = [0u8; 23];
+    let length = b.len();
+    match length {
+        23 => changes::put_row(&mut row, 23, 0, b),
+        21 => {
+            changes::put_row(&mut row, 20, 0, part(b, 0, 20));
+            row[22] = b[20];
+        }
+        _ => {}
+    }
+    row
+}
