@@ -1,6 +1,6 @@
 /* A weighbridge yard: the owner sets a terminal up and reads it back, the office gets the access list as text; a
- * haulier, two foremen, a stranger and a broken sender call. Before that the program sees that its structs are laid out
- * as the library's.
+ * haulier, two foremen, a harvest contractor, a stranger and a broken sender call. Before that the program sees that its
+ * structs are laid out as the library's.
  *
  *     rt staticlib terminal
  *     cc -std=c11 -Wall -Wextra -Werror -Iinclude examples/yard.c target/staticlib/libterminal.a -o target/yard
@@ -12,20 +12,24 @@
 
 #include "tillerclover.h"
 
-enum { OWNER = 5, HAULIER = 7, HAULIER_SPARE = 8, UNKNOWN = 9, FOREMAN = 20, OTHER_FOREMAN = 21 };
+enum { OWNER = 5, HAULIER = 7, HAULIER_SPARE = 8, UNKNOWN = 9, FOREMAN = 20, OTHER_FOREMAN = 21, CONTRACTOR = 30 };
 
 /* Two hauliers both call their foremen role 7; the authority tells them apart. */
 enum { NO_ROLE = 0, FOREMAN_ROLE = 7, WORKS = 0, HAULIER_AUTHORITY = 2, OTHER_AUTHORITY = 3 };
+
+/* The harvest, in seconds of the terminal's clock: 1 July to the end of 30 September 2026. */
+static const uint32_t HARVEST_FIRST = 1782864000, HARVEST_LAST = 1790812799;
 
 static const uint8_t OWNER_UUID[TILLERCLOVER_UUID_LENGTH] = {0x5b, 0x0d, 0x3a, 0x64, 0x9c, 0x21, 0x4e, 0x7f,
                                                              0x8a, 0x15, 0x3d, 0xe2, 0x90, 0xc7, 0x46, 0x18};
 static const uint8_t HAULIER_UUID[TILLERCLOVER_UUID_LENGTH] = {0xc4, 0x71, 0x0e, 0x95, 0x33, 0xda, 0x48, 0x02,
                                                                0xb6, 0x5f, 0x87, 0x1b, 0x2e, 0x60, 0xf9, 0xad};
-
 static const uint8_t FOREMAN_UUID[TILLERCLOVER_UUID_LENGTH] = {0x1e, 0x92, 0x7b, 0x04, 0xd8, 0x36, 0x4a, 0xc5,
                                                                0x91, 0x70, 0x2f, 0x5d, 0xe8, 0x13, 0xb4, 0x6c};
 static const uint8_t OTHER_FOREMAN_UUID[TILLERCLOVER_UUID_LENGTH] = {0x83, 0x2c, 0xf1, 0x5e, 0x07, 0xb9, 0x43, 0x6d,
                                                                      0xa2, 0xe4, 0x58, 0x19, 0xc6, 0x7f, 0x0b, 0xd3};
+static const uint8_t CONTRACTOR_UUID[TILLERCLOVER_UUID_LENGTH] = {0x6a, 0xd5, 0x40, 0x8e, 0x21, 0xf3, 0x4c, 0xb7,
+                                                                  0x95, 0x0d, 0xe6, 0x72, 0x3b, 0x18, 0xac, 0x54};
 
 /* The yard's build has no default rows; the maker's, further down, has some. */
 static const uint8_t NONE[1] = {0};
@@ -156,7 +160,7 @@ static struct record delete_ace(unsigned sender, unsigned number)
     return r;
 }
 
-/* An access row that gives a subject one resource. */
+/* An access row that gives a subject one resource, by the body without a period: it holds for every second. */
 static struct record store_subject_ace(unsigned sender, unsigned number, unsigned kind, unsigned permission,
                                        enum tillerclover_resource resource, const uint8_t subject[16])
 {
@@ -172,10 +176,23 @@ static struct record store_subject_ace(unsigned sender, unsigned number, unsigne
     return r;
 }
 
+/* An access row that gives a UUID one resource from the first second to the last. */
+static struct record store_season_ace(unsigned sender, unsigned number, unsigned permission,
+                                      enum tillerclover_resource resource,
+                                      const uint8_t uuid[TILLERCLOVER_UUID_LENGTH], uint32_t first, uint32_t last)
+{
+    struct record r = store_subject_ace(sender, number, 0, permission, resource, uuid);
+    add_number(&r, first >> 16);
+    add_number(&r, first);
+    add_number(&r, last >> 16);
+    add_number(&r, last);
+    return r;
+}
+
 static struct record store_ace(unsigned sender, unsigned number, unsigned permission,
                                enum tillerclover_resource resource, const uint8_t uuid[TILLERCLOVER_UUID_LENGTH])
 {
-    return store_subject_ace(sender, number, 0, permission, resource, uuid);
+    return store_season_ace(sender, number, permission, resource, uuid, 0, UINT32_MAX);
 }
 
 static struct record store_role_ace(unsigned sender, unsigned number, unsigned permission,
@@ -202,9 +219,12 @@ static void expect(int holds, const char *what)
 /* A buffer that fits every reply. */
 static uint8_t reply[TILLERCLOVER_REPLY_MAX];
 
+/* What the terminal's clock shows. */
+static uint32_t now;
+
 static tillerclover_outcome judge(tillerclover_tables t, struct record r)
 {
-    return tillerclover_judge(t, NONE, 0, NONE, 0, r.bytes, r.length, reply, sizeof reply);
+    return tillerclover_judge(t, NONE, 0, NONE, 0, now, r.bytes, r.length, reply, sizeof reply);
 }
 
 /* The tables after a record that must be permitted. */
@@ -278,7 +298,7 @@ static void each_field(void)
     }
     for (unsigned i = 0; i < TILLERCLOVER_ACE_CAPACITY; i++) {
         r = store_ace(0, 200 + i, TILLERCLOVER_MAY_ALL, TILLERCLOVER_LAMP, OWNER_UUID);
-        t = after(t, r);
+        t = after(t, i % 2 ? store_subject_ace(0, 200 + i, 0, TILLERCLOVER_MAY_ALL, TILLERCLOVER_LAMP, OWNER_UUID) : r);
         expected.naces++;
         memcpy(expected.aces + i * TILLERCLOVER_ACE_LENGTH, r.bytes + TILLERCLOVER_HEADER_LENGTH, TILLERCLOVER_ACE_LENGTH);
         expect(same(&t, &expected), "aces or naces stands elsewhere");
@@ -331,10 +351,10 @@ static void buffers(void)
     r = header(TILLERCLOVER_RETRIEVE, TILLERCLOVER_ACL2, 0);
     memset(buffer, 0xA5, sizeof buffer);
     memset(before, 0xA5, sizeof before);
-    tillerclover_outcome o = tillerclover_judge(t, NONE, 0, NONE, 0, r.bytes, r.length, buffer, TILLERCLOVER_REPLY_MAX - 1);
+    tillerclover_outcome o = tillerclover_judge(t, NONE, 0, NONE, 0, 0, r.bytes, r.length, buffer, TILLERCLOVER_REPLY_MAX - 1);
     expect(o.answer == TILLERCLOVER_NO_ROOM && o.reply == 0, "a reply was put into a buffer that is too short");
     expect(memcmp(buffer, before, sizeof buffer) == 0, "a refusal wrote into the buffer");
-    o = tillerclover_judge(t, NONE, 0, NONE, 0, r.bytes, r.length, buffer, TILLERCLOVER_REPLY_MAX);
+    o = tillerclover_judge(t, NONE, 0, NONE, 0, 0, r.bytes, r.length, buffer, TILLERCLOVER_REPLY_MAX);
     expect(o.answer == TILLERCLOVER_PERMITTED && o.reply == TILLERCLOVER_REPLY_MAX, "the longest reply has another length");
     memcpy(before, t.rowners + TILLERCLOVER_ACL2 * TILLERCLOVER_UUID_LENGTH, TILLERCLOVER_UUID_LENGTH);
     memcpy(before + TILLERCLOVER_UUID_LENGTH, t.aces, sizeof t.aces);
@@ -365,17 +385,38 @@ static void lists(void)
     expect(memcmp(buffer, before, sizeof buffer) == 0, "the list has another text");
 }
 
+/* The clock is read as it is handed in: a row fits from its first second to its last. */
+static void clocks(void)
+{
+    static const uint32_t first = 0x01020304, last = 0xA0B0C0D0;
+    const uint32_t clock[] = {0, first - 1, first, last, last + 1, UINT32_MAX};
+    tillerclover_tables t = tillerclover_fresh(NONE, 0, NONE, 0);
+    t = after(t, store_cred(0, OWNER, OWNER_UUID));
+    t = after(t, store_season_ace(0, 1, TILLERCLOVER_MAY_RETRIEVE, TILLERCLOVER_WEIGHT, OWNER_UUID, first, last));
+    t = after(t, set_owner(0, OWNER_UUID));
+    t = after(t, set_state(OWNER, TILLERCLOVER_RFPRO));
+    t = after(t, set_state(OWNER, TILLERCLOVER_RFNOP));
+    for (size_t i = 0; i < sizeof clock / sizeof *clock; i++) {
+        now = clock[i];
+        tillerclover_outcome o = judge(t, header(TILLERCLOVER_RETRIEVE, TILLERCLOVER_WEIGHT, OWNER));
+        int within = first <= now && now <= last;
+        expect(o.answer == (within ? TILLERCLOVER_PERMITTED : TILLERCLOVER_NOT_PERMITTED), "the clock is read otherwise");
+        expect(same(&o.tables, &t), "the clock changed the tables");
+    }
+    now = 0;
+}
+
 /* A record of no bytes and a buffer of none, with pointers and without. */
 static void no_bytes(void)
 {
     static const uint8_t nothing[1];
     uint8_t empty[1];
-    tillerclover_outcome o = tillerclover_judge(tillerclover_fresh(NONE, 0, NONE, 0), NONE, 0, NONE, 0, nothing, 0, empty, 0);
+    tillerclover_outcome o = tillerclover_judge(tillerclover_fresh(NONE, 0, NONE, 0), NONE, 0, NONE, 0, 0, nothing, 0, empty, 0);
     expect(o.answer == TILLERCLOVER_BAD_LENGTH, "an empty record was not refused for its length");
-    o = tillerclover_judge(tillerclover_fresh(NONE, 0, NONE, 0), NONE, 0, NONE, 0, NULL, 0, NULL, 0);
+    o = tillerclover_judge(tillerclover_fresh(NONE, 0, NONE, 0), NONE, 0, NONE, 0, 0, NULL, 0, NULL, 0);
     expect(o.answer == TILLERCLOVER_BAD_LENGTH, "a null record was not refused for its length");
     struct record r = header(TILLERCLOVER_RETRIEVE, TILLERCLOVER_CRED, 0);
-    o = tillerclover_judge(tillerclover_fresh(NONE, 0, NONE, 0), NONE, 0, NONE, 0, r.bytes, r.length, NULL, 0);
+    o = tillerclover_judge(tillerclover_fresh(NONE, 0, NONE, 0), NONE, 0, NONE, 0, 0, r.bytes, r.length, NULL, 0);
     expect(o.answer == TILLERCLOVER_NO_ROOM, "a reply was put into no buffer");
 }
 
@@ -457,10 +498,12 @@ int main(void)
     each_field();
     buffers();
     lists();
+    clocks();
     no_bytes();
     printf("layout: %zu bytes of tables in an outcome of %zu, as in the library\n", sizeof(tillerclover_tables),
            sizeof(tillerclover_outcome));
 
+    now = HARVEST_FIRST - 86400;
     tillerclover_tables t = tillerclover_fresh(NONE, 0, NONE, 0);
     call(&t, "a new terminal takes the owner's credential", store_cred(0, OWNER, OWNER_UUID));
     call(&t, "and gets its owner", set_owner(0, OWNER_UUID));
@@ -475,6 +518,9 @@ int main(void)
     call(&t, "and read the weight", store_ace(OWNER, 2, TILLERCLOVER_MAY_RETRIEVE, TILLERCLOVER_WEIGHT, HAULIER_UUID));
     call(&t, "lets the haulier's foremen set the lamp",
          store_role_ace(OWNER, 3, TILLERCLOVER_MAY_UPDATE, TILLERCLOVER_LAMP, FOREMAN_ROLE, HAULIER_AUTHORITY));
+    call(&t, "stores a harvest contractor's credential", store_cred(OWNER, CONTRACTOR, CONTRACTOR_UUID));
+    call(&t, "and lets it write the tare in the harvest",
+         store_season_ace(OWNER, 4, TILLERCLOVER_MAY_UPDATE, TILLERCLOVER_TARE, CONTRACTOR_UUID, HARVEST_FIRST, HARVEST_LAST));
     call(&t, "and moves the terminal to RFNOP", set_state(OWNER, TILLERCLOVER_RFNOP));
 
     struct record tare = header(TILLERCLOVER_UPDATE, TILLERCLOVER_TARE, HAULIER);
@@ -489,6 +535,17 @@ int main(void)
     call(&t, "the haulier's foreman sets the lamp", lamp);
     lamp.bytes[3] = OTHER_FOREMAN;
     call(&t, "the other haulier's foreman tries to", lamp);
+
+    struct record load = header(TILLERCLOVER_UPDATE, TILLERCLOVER_TARE, CONTRACTOR);
+    add(&load, "3150 kg", 7);
+    now = HARVEST_FIRST - 1;
+    call(&t, "a second before the harvest, the contractor", load);
+    now = HARVEST_FIRST;
+    call(&t, "in its first second", load);
+    now = HARVEST_LAST;
+    call(&t, "in its last", load);
+    now = HARVEST_LAST + 1;
+    call(&t, "a second later", load);
 
     print_creds(call(&t, "the owner's service tool reads cred back", header(TILLERCLOVER_RETRIEVE, TILLERCLOVER_CRED, OWNER)));
 

@@ -35,7 +35,8 @@ enum {
     TILLERCLOVER_RECORD_MAX = 256,
     /* a row, and the body that stores it; a body of 21 bytes, without the authority, also stores a row */
     TILLERCLOVER_CRED_LENGTH = 23,
-    TILLERCLOVER_ACE_LENGTH = 28,
+    /* likewise; a body of 28 bytes, without the period, also stores a row */
+    TILLERCLOVER_ACE_LENGTH = 36,
     /* rows */
     TILLERCLOVER_CRED_CAPACITY = 24,
     TILLERCLOVER_ACE_CAPACITY = 32,
@@ -44,7 +45,7 @@ enum {
     /* resources that have a row owner: doxm, pstat, cred and acl2 */
     TILLERCLOVER_ROW_OWNERS = 4,
     /* the longest reply: a row owner and all access rows */
-    TILLERCLOVER_REPLY_MAX = 912,
+    TILLERCLOVER_REPLY_MAX = 1168,
     /* the longest text of tillerclover_access_list */
     TILLERCLOVER_TEXT_MAX = 11693
 };
@@ -146,7 +147,7 @@ enum tillerclover_answer {
 
 /* What a record is judged on.
  *
- * Every field is a byte or an array of bytes and there is no padding, so the 1,532 bytes may be
+ * Every field is a byte or an array of bytes and there is no padding, so the 1,788 bytes may be
  * kept in a file or in flash as they are. Any content is allowed: tables that are not sound, as
  * from worn memory, get TILLERCLOVER_NOT_SOUND for every record, and tillerclover_clear takes them.
  */
@@ -166,8 +167,11 @@ typedef struct tillerclover_tables {
      * role (16), the role's authority (16), type (6), two zero bits. A body without the authority stores
      * authority 0, the works' own. Role 0 is none and has authority 0. */
     uint8_t creds[TILLERCLOVER_CRED_CAPACITY * TILLERCLOVER_CRED_LENGTH];
-    /* An access row has the form of its body. Of a role subject the last 32 bits are authority and role,
-     * and it fits a credential with both. */
+    /* An access row: number (16 bits), subject kind (2), permission (5), wildcards (3), six zero bits, set
+     * of resources (64), subject (128), first second (32), last second (32). Of a role subject the last 32
+     * bits are authority and role, and it fits a credential with both. The row fits only while first <=
+     * clock <= last. A body without the two seconds stores 0 and 4,294,967,295. First is not later than
+     * last. */
     uint8_t aces[TILLERCLOVER_ACE_CAPACITY * TILLERCLOVER_ACE_LENGTH];
 } tillerclover_tables;
 
@@ -230,6 +234,8 @@ tillerclover_tables tillerclover_clear(tillerclover_tables tables, const uint8_t
 
 /* Judges a record of `length` bytes on `tables`, with a buffer of `room` bytes for a reply.
  *
+ * clock   is the terminal's clock as the record comes, in the seconds that the access rows' periods
+ *         count. Any value is allowed, also one before that of an earlier call: it is kept nowhere.
  * record  points to at least `length` bytes that nothing changes during the call. They are read,
  *         never written, and no pointer to them is kept; a byte past `length` is not read. Any
  *         content and any length are allowed: one that is no record is refused.
@@ -251,12 +257,13 @@ tillerclover_tables tillerclover_clear(tillerclover_tables tables, const uint8_t
  * credential number, and hands over no record whose number is another sender's.
  */
 tillerclover_outcome tillerclover_judge(tillerclover_tables tables, const uint8_t *creds, size_t creds_length,
-                                        const uint8_t *aces, size_t aces_length, const uint8_t *record, size_t length,
-                                        uint8_t *reply, size_t room);
+                                        const uint8_t *aces, size_t aces_length, uint32_t clock,
+                                        const uint8_t *record, size_t length, uint8_t *reply, size_t room);
 
 /* The access list of `tables` as the office's JSON, `{"aclist2":[..]}` with the rows in table order: ASCII
- * with no white space and no byte 0 at its end. Lists with different rows give different texts. Tables that
- * are not sound are answered before a buffer that is too short.
+ * with no white space and no byte 0 at its end. Rows with a shorter period than 0 to 4,294,967,295 are left
+ * out; lists that differ in the rows written give different texts. Tables that are not sound are answered
+ * before a buffer that is too short.
  *
  * text    points to at least `room` bytes that nothing else reads or writes during the call.
  *         TILLERCLOVER_TEXT_MAX fits every text. The bytes behind the text keep their contents, and so
@@ -267,7 +274,7 @@ tillerclover_listed tillerclover_access_list(tillerclover_tables tables, uint8_t
 
 /* ---- The layout that the library has */
 
-TILLERCLOVER_ASSERT(sizeof(tillerclover_tables) == 1532, "tables have 1,532 bytes");
+TILLERCLOVER_ASSERT(sizeof(tillerclover_tables) == 1788, "tables have 1,788 bytes");
 TILLERCLOVER_ASSERT(offsetof(tillerclover_tables, state) == 0, "state");
 TILLERCLOVER_ASSERT(offsetof(tillerclover_tables, owned) == 1, "owned");
 TILLERCLOVER_ASSERT(offsetof(tillerclover_tables, ncreds) == 2, "ncreds");
@@ -278,7 +285,7 @@ TILLERCLOVER_ASSERT(offsetof(tillerclover_tables, creds) == 84, "creds");
 TILLERCLOVER_ASSERT(offsetof(tillerclover_tables, aces) == 636, "aces");
 
 TILLERCLOVER_ASSERT(sizeof(size_t) == 8, "the library is for 64 bits");
-TILLERCLOVER_ASSERT(sizeof(tillerclover_outcome) == 1584, "an outcome has 1,584 bytes");
+TILLERCLOVER_ASSERT(sizeof(tillerclover_outcome) == 1840, "an outcome has 1,840 bytes");
 TILLERCLOVER_ASSERT(offsetof(tillerclover_outcome, answer) == 0, "answer");
 TILLERCLOVER_ASSERT(offsetof(tillerclover_outcome, permission) == 1, "permission");
 TILLERCLOVER_ASSERT(offsetof(tillerclover_outcome, start) == 8, "start");

@@ -85,26 +85,30 @@ test_vectors() {
 # The run program on input that is no whole run.
 test_inputs() {
     run_program || return 1
-    local header="n answer perm state" failed=0
+    local header="n answer perm state" clock='\x01\x02\x03\x04' failed=0
     # the input as printf's text, then the expected lines after the header
     expect_text "no input" "" "$header" || failed=1
     expect_text "a lone byte" '\0' "$header"$'\n'"cut" || failed=1
-    expect_text "a length alone" '\0\4' "$header"$'\n'"cut" || failed=1
-    expect_text "a cut record" '\0\5\x40\x40\0\0' "$header"$'\n'"cut" || failed=1
-    expect_text "a record, then a lone byte" '\0\3\x40\x80\0\0' "$header"$'\n'"1 2 0 1"$'\n'"cut" || failed=1
-    expect_text "a record, then a cut one" '\0\4\x22\0\0\0\0\4\x22\0' "$header"$'\n'"1 8 0 1"$'\n'"cut" || failed=1
-    expect_text "a record of no bytes" '\0\0' "$header"$'\n'"1 2 0 1" || failed=1
+    expect_text "a clock cut short" '\0\0\0' "$header"$'\n'"cut" || failed=1
+    expect_text "a clock alone" "$clock" "$header"$'\n'"cut" || failed=1
+    expect_text "a clock and a lone byte" "$clock"'\0' "$header"$'\n'"cut" || failed=1
+    expect_text "a clock and a length alone" "$clock"'\0\4' "$header"$'\n'"cut" || failed=1
+    expect_text "a cut record" "$clock"'\0\5\x40\x40\0\0' "$header"$'\n'"cut" || failed=1
+    expect_text "a record, then a lone byte" "$clock"'\0\3\x40\x80\0\0' "$header"$'\n'"1 2 0 1"$'\n'"cut" || failed=1
+    expect_text "a record, then a clock alone" "$clock"'\0\3\x40\x80\0'"$clock" "$header"$'\n'"1 2 0 1"$'\n'"cut" || failed=1
+    expect_text "a record, then a cut one" "$clock"'\0\4\x22\0\0\0'"$clock"'\0\4\x22\0' "$header"$'\n'"1 8 0 1"$'\n'"cut" || failed=1
+    expect_text "a record of no bytes" "$clock"'\0\0' "$header"$'\n'"1 2 0 1" || failed=1
 
-    # 16,384 records of no bytes fill the run; the rest is not read.
+    # 5,461 records of no bytes leave two bytes of the run, half a clock; the rest is not read.
     head -c 40000 /dev/zero >"$work/input"
-    { echo "$header" && seq -f '%.0f 2 0 1' 16384; } >"$work/expected"
+    { echo "$header" && seq -f '%.0f 2 0 1' 5461 && echo "cut"; } >"$work/expected"
     expect_file "40,000 bytes, the last 7,232 not read" || failed=1
-    # One record of 32,766 bytes ends with the run, whatever follows.
-    { printf '\x7f\xfe' && head -c 33000 /dev/zero; } >"$work/input"
+    # One record of 32,762 bytes ends with the run, whatever follows.
+    { printf '\0\0\0\0\x7f\xfa' && head -c 33000 /dev/zero; } >"$work/input"
     { echo "$header" && echo "1 2 0 1"; } >"$work/expected"
     expect_file "a record that ends with the run" || failed=1
     # One byte more is not all there.
-    { printf '\x7f\xff' && head -c 33000 /dev/zero; } >"$work/input"
+    { printf '\0\0\0\0\x7f\xfb' && head -c 33000 /dev/zero; } >"$work/input"
     { echo "$header" && echo "cut"; } >"$work/expected"
     expect_file "a record that goes on past the run" || failed=1
     return "$failed"

@@ -14,6 +14,8 @@ use crate::tables::{
 #[derive(Clone, Debug, PartialEq, Eq)]
 pub struct Case {
     pub tables: Stored,
+    /// The terminal's clock when the record comes.
+    pub clock: u32,
     pub record: Vec<u8>,
     /// The length of the buffer that is lent for a reply, or for the office
     /// text of the tables.
@@ -23,17 +25,18 @@ pub struct Case {
 }
 
 impl Case {
-    /// With a buffer that fits any reply, and no default rows.
+    /// At clock 0, with a buffer that fits any reply, and no default rows.
     pub fn new(tables: &Stored, record: &[u8]) -> Case {
-        Case { tables: *tables, record: record.to_vec(), room: LONGEST_REPLY, defaults: Defaults::none() }
+        Case { tables: *tables, clock: 0, record: record.to_vec(), room: LONGEST_REPLY, defaults: Defaults::none() }
     }
 
-    /// As one line: tables and record in hexadecimal digits, the room, the two
-    /// default lists in hexadecimal digits, with colons between.
+    /// As one line: tables, clock, record, room and the two default lists, with
+    /// colons between; clock and room in decimal, all else in hexadecimal digits.
     pub fn line(&self) -> String {
         format!(
-            "{}:{}:{}:{}:{}",
+            "{}:{}:{}:{}:{}:{}",
             hex::write(&self.tables),
+            self.clock,
             hex::write(&self.record),
             self.room,
             hex::write(&self.defaults.credentials),
@@ -43,9 +46,9 @@ impl Case {
 
     pub fn from_line(line: &str) -> Result<Case, String> {
         let parts: Vec<&str> = line.split(':').collect();
-        let [tables, record, room, credentials, accesses] = parts[..] else {
+        let [tables, clock, record, room, credentials, accesses] = parts[..] else {
             return Err(format!(
-                "a case is TABLES:RECORD:ROOM:CREDENTIALS:ACCESSES, but this has {} parts",
+                "a case is TABLES:CLOCK:RECORD:ROOM:CREDENTIALS:ACCESSES, but this has {} parts",
                 parts.len()
             ));
         };
@@ -58,8 +61,9 @@ impl Case {
         };
         let length = tables.len();
         let tables = tables.try_into().map_err(|_| format!("the tables have {SIZE} bytes, but these are {length}"))?;
+        let clock = clock.parse().map_err(|_| format!("the clock is a number up to {}, not '{clock}'", u32::MAX))?;
         let room = room.parse::<u16>().map_err(|_| format!("the room is a number up to 65535, not '{room}'"))?;
-        Ok(Case { tables, record, room: room.into(), defaults })
+        Ok(Case { tables, clock, record, room: room.into(), defaults })
     }
 
     /// What is in the lent buffer before the record is judged, and behind it:
@@ -74,11 +78,12 @@ impl Case {
     }
 
     /// What shrinking makes smaller.
-    fn size(&self) -> [usize; 6] {
+    fn size(&self) -> [usize; 7] {
         let set = |bytes: &[u8]| bytes.iter().filter(|&&byte| byte != 0).count();
         let Defaults { credentials, accesses } = &self.defaults;
         let lists = credentials.len() + accesses.len();
-        [self.record.len(), set(&self.record), set(&self.tables), self.room, lists, set(credentials) + set(accesses)]
+        let in_lists = set(credentials) + set(accesses);
+        [self.record.len(), set(&self.record), set(&self.tables), self.room, lists, in_lists, self.clock as usize]
     }
 
     /// Cases a step smaller, the boldest first.
@@ -134,6 +139,12 @@ impl Case {
                 cases.push(Case { room, ..self.clone() });
             }
         }
+        for clock in [0, 1, self.clock / 2, self.clock.saturating_sub(1)] {
+            if clock < self.clock {
+                cases.push(self.with_ends_earlier(self.clock - clock));
+                cases.push(Case { clock, ..self.clone() });
+            }
+        }
         for credentials in smaller_lists(&self.defaults.credentials, Credential::LENGTH) {
             cases.push(Case { defaults: Defaults { credentials, ..self.defaults.clone() }, ..self.clone() });
         }
@@ -141,6 +152,21 @@ impl Case {
             cases.push(Case { defaults: Defaults { accesses, ..self.defaults.clone() }, ..self.clone() });
         }
         cases
+    }
+
+    /// With the clock and all ends of periods so many seconds earlier, save the
+    /// first and the last second of all.
+    fn with_ends_earlier(&self, seconds: u32) -> Case {
+        let mut case = Case { clock: self.clock - seconds, ..self.clone() };
+        for row in case.tables[ACCESSES].chunks_exact_mut(Access::LENGTH) {
+            for end in row[Access::SHORT_BODY..].chunks_exact_mut(4) {
+                let second = u32::from_be_bytes(end.try_into().expect("four bytes"));
+                if second != u32::MAX {
+                    end.copy_from_slice(&second.saturating_sub(seconds).to_be_bytes());
+                }
+            }
+        }
+        case
     }
 
     fn without_row<R: Row>(&self, row: usize, count: usize, start: usize) -> Case {
@@ -299,17 +325,20 @@ mod tests {
         let mut random = Random::new(5);
         for _ in 0..20 {
             let defaults = generate::defaults(&mut random);
-            let case = Case { tables: generate::any_bytes(&mut random), record: random.bytes(9), room: 517, defaults };
+            let tables = generate::any_bytes(&mut random);
+            let case = Case { tables, clock: u32::MAX, record: random.bytes(9), room: 517, defaults };
             assert_eq!(Case::from_line(&case.line()), Ok(case.clone()));
             assert!(Case::from_line(&format!("{}00", case.line())).is_ok());
             assert!(Case::from_line(&format!("{}0", case.line())).is_err());
             assert!(Case::from_line(&format!("{}x", case.line())).is_err());
             assert!(Case::from_line(&format!("{}:", case.line())).is_err());
             assert!(Case::from_line(&case.line().replace(":517:", ":5l7:")).is_err());
+            assert!(Case::from_line(&case.line().replace(":4294967295:", ":0:")).is_ok());
+            assert!(Case::from_line(&case.line().replace(":4294967295:", ":4294967296:")).is_err());
         }
-        assert!(Case::from_line("00:00:0").is_err());
-        assert!(Case::from_line("00:00:0::").unwrap_err().contains("1532"));
-        assert!(Case::from_line("0g:00:0::").is_err());
+        assert!(Case::from_line("00:0:00:0").is_err());
+        assert!(Case::from_line("00:0:00:0::").unwrap_err().contains("1788"));
+        assert!(Case::from_line("0g:0:00:0::").is_err());
     }
 
     #[test]
@@ -324,7 +353,7 @@ mod tests {
         let mut random = Random::new(9);
         let found = loop {
             let tables = generate::any_sound(&mut random).bytes();
-            let record = generate::record(&mut random, Style::Purposeful, &tables);
+            let record = generate::record(&mut random, Style::Purposeful, &tables, 0);
             let case = Case { defaults: generate::defaults(&mut random), ..Case::new(&tables, &record) };
             if differs(&case) {
                 break case;
@@ -365,8 +394,8 @@ mod tests {
         let mut random = Random::new(8);
         let found = loop {
             let tables = generate::any_sound(&mut random).bytes();
-            let record = generate::record(&mut random, Style::Purposeful, &tables);
-            let case = Case { room: 1000, ..Case::new(&tables, &record) };
+            let record = generate::record(&mut random, Style::Purposeful, &tables, 0);
+            let case = Case { room: 1500, ..Case::new(&tables, &record) };
             if differs(&case) {
                 break case;
             }
@@ -391,7 +420,7 @@ mod tests {
         let mut random = Random::new(6);
         let found = loop {
             let tables = generate::any_sound(&mut random).bytes();
-            let case = Case::new(&tables, &generate::record(&mut random, Style::Purposeful, &tables));
+            let case = Case::new(&tables, &generate::record(&mut random, Style::Purposeful, &tables, 0));
             if case.tables[CREDENTIAL_COUNT] > 5 && case.record.len() > 25 && differs(&case) {
                 break case;
             }
@@ -404,11 +433,34 @@ mod tests {
     }
 
     #[test]
+    fn a_clock_shrinks_to_the_border() {
+        // A program whose rows hold a second too long.
+        let wrong = |case: &Case| match case.clock {
+            0 => case.expected(),
+            _ => Case { clock: case.clock - 1, ..case.clone() }.expected(),
+        };
+        let differs = |case: &Case| wrong(case).permission > case.expected().permission;
+        let mut random = Random::new(10);
+        let found = loop {
+            let tables = generate::any_sound(&mut random).bytes();
+            let clock = generate::clock(&mut random, &tables);
+            let record = generate::record(&mut random, Style::Purposeful, &tables, clock.saturating_sub(1));
+            let case = Case { clock, ..Case::new(&tables, &record) };
+            if clock > 1000 && differs(&case) {
+                break case;
+            }
+        };
+        let small = shrink(found, differs);
+        assert_eq!(small.clock, 1);
+        assert_eq!(small.tables[ACCESS_COUNT], 1);
+    }
+
+    #[test]
     fn fields_are_named() {
         assert_eq!(field(0), "byte 0 (state)");
         assert_eq!(field(83), "byte 83 (row owner 3)");
         assert_eq!(field(635), "byte 635 (credential place 23)");
         assert_eq!(field(636), "byte 636 (access place 0)");
-        assert_eq!(field(1531), "byte 1531 (access place 31)");
+        assert_eq!(field(1787), "byte 1787 (access place 31)");
     }
 }

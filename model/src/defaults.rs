@@ -130,8 +130,8 @@ mod tests {
         assert_eq!(Defaults::none().fresh(), Tables::fresh());
         assert_eq!(judge(&Case::new(&owned(State::Rfnop).bytes(), &reset(5))).tables, Tables::fresh().bytes());
         // The run program has none: a reset takes the sender's row away.
-        let mut input = hex::literal(&format!("0019 40800000 0005 {} 0000 04", "11".repeat(16)));
-        input.extend(hex::literal("0005 40400000 00 0004 30000005"));
+        let mut input = hex::literal(&format!("00000000 0019 40800000 0005 {} 0000 04", "11".repeat(16)));
+        input.extend(hex::literal("00000000 0005 40400000 00 00000000 0004 30000005"));
         assert_eq!(run::text(&input), "n answer perm state\n1 0 31 1\n2 0 31 1\n3 7 0 1\n");
     }
 
@@ -185,7 +185,11 @@ mod tests {
         let short: Vec<u8> = [1, 2].iter().flat_map(|&number| credential(number, uuid(0x91)).short_body()).collect();
         credentials.push((ListFault::Length, short[..21].to_vec()));
         credentials.push((ListFault::Length, short));
-        for length in [1, 21, 27, 29, 55, 57] {
+        // Rows in the form of a body without a period.
+        let short: Vec<u8> = [1, 2].iter().flat_map(|&number| access(number, AUTH, 2, 0, &[8]).short_body()).collect();
+        accesses.push((ListFault::Length, short[..28].to_vec()));
+        accesses.push((ListFault::Length, short));
+        for length in [1, 21, 27, 28, 35, 37, 56, 71, 73] {
             let mut list = good.accesses.clone();
             list.resize(length, 0);
             accesses.push((ListFault::Length, list));
@@ -201,10 +205,10 @@ mod tests {
             }
         }
         for (_, fault) in ACCESS_FAULTS {
-            for rows in [0..28, 0..56] {
-                for place in rows.clone().step_by(28) {
+            for rows in [0..36, 0..72] {
+                for place in rows.clone().step_by(36) {
                     let mut list = good.accesses[rows.clone()].to_vec();
-                    fault(&mut list[place..place + 28], &mut random);
+                    fault(&mut list[place..place + 36], &mut random);
                     accesses.push((ListFault::Row, list));
                 }
             }
@@ -247,7 +251,7 @@ mod tests {
         for _ in 0..10_000 {
             let defaults = generate::defaults(&mut random);
             let tables = generate::any_sound(&mut random).bytes();
-            let record = generate::record(&mut random, Style::Mixed, &tables);
+            let record = generate::record(&mut random, Style::Mixed, &tables, 0);
             let with = judge_with(&defaults, &tables, &record);
             let without = judge_with(&Defaults::none(), &tables, &record);
             let is_reset = record.len() == 5 && without.answer == 0 && record[0] >> 5 == 2 && record[4] == 0;

@@ -6,12 +6,15 @@ use crate::hex;
 use crate::record::{compose, device_owner_body, target_body, Verb};
 use crate::rules::LONGEST_REPLY;
 use crate::tables::{fresh_bytes, CREDENTIAL_COUNT};
-use crate::tables::{Access, Connection, Credential, Role, Row, State, Stored, Subject, Tables, Uuid, Wildcards};
+use crate::tables::{
+    Access, Connection, Credential, Period, Role, Row, State, Stored, Subject, Tables, Uuid, Wildcards,
+};
 
 /// A record, the tables before it, and what is to come of it.
 pub struct Example {
     pub name: &'static str,
     pub tables: Stored,
+    pub clock: u32,
     pub record: Vec<u8>,
     pub room: usize,
     pub answer: u8,
@@ -20,7 +23,7 @@ pub struct Example {
 
 impl Example {
     pub fn case(&self) -> Case {
-        Case { room: self.room, ..Case::new(&self.tables, &self.record) }
+        Case { clock: self.clock, room: self.room, ..Case::new(&self.tables, &self.record) }
     }
 }
 
@@ -33,6 +36,7 @@ pub fn credential(number: u16, subject: Uuid) -> Credential {
     Credential { number, subject, role: None, kind: 4 }
 }
 
+/// A row that holds for every second.
 pub fn access(number: u16, subject: Subject, permission: u8, wildcards: u8, resources: &[u8]) -> Access {
     Access {
         number,
@@ -40,6 +44,7 @@ pub fn access(number: u16, subject: Subject, permission: u8, wildcards: u8, reso
         permission,
         wildcards: Wildcards::from_number(wildcards),
         set: resources.iter().fold(0, |set, &number| set | set_bit(number)),
+        period: Period::ALWAYS,
     }
 }
 
@@ -90,6 +95,7 @@ pub fn refusals() -> Vec<Example> {
         .map(|(answer, (tables, record))| Example {
             name: "refusal",
             tables,
+            clock: 0,
             record: hex::literal(&record),
             // One short of the reply that example 15 would get.
             room: 16 + 24 * 23 - 1,
@@ -103,7 +109,8 @@ pub fn refusals() -> Vec<Example> {
 pub fn wrong_readings() -> Vec<Example> {
     let mut examples = Vec::new();
     let mut add = |name, tables: &Tables, record, answer, permission| {
-        examples.push(Example { name, tables: tables.bytes(), record, room: LONGEST_REPLY, answer, permission });
+        let room = LONGEST_REPLY;
+        examples.push(Example { name, tables: tables.bytes(), clock: 0, record, room, answer, permission });
     };
 
     let two = with_access(State::Rfnop, vec![access(1, ANON, 1, 0, &[8]), access(2, ANON, 4, 0, &[8])]);
@@ -151,7 +158,8 @@ pub fn wrong_readings() -> Vec<Example> {
 pub fn decided() -> Vec<Example> {
     let mut examples = Vec::new();
     let mut add = |name, tables: &Tables, record, answer, permission| {
-        examples.push(Example { name, tables: tables.bytes(), record, room: LONGEST_REPLY, answer, permission });
+        let room = LONGEST_REPLY;
+        examples.push(Example { name, tables: tables.bytes(), clock: 0, record, room, answer, permission });
     };
     let fresh = Tables::fresh();
     let taken = owned(State::Rfpro);
@@ -238,6 +246,47 @@ pub fn decided() -> Vec<Example> {
         14,
         0,
     );
+    examples.extend(seasons());
+    examples
+}
+
+/// Rows with a period, at clocks around its ends.
+fn seasons() -> Vec<Example> {
+    let mut examples = Vec::new();
+    let mut add = |name, tables: &Tables, clock, record, answer, permission| {
+        let room = LONGEST_REPLY;
+        examples.push(Example { name, tables: tables.bytes(), clock, record, room, answer, permission });
+    };
+    const MAX: u32 = u32::MAX;
+    let read = || compose(Verb::Retrieve, 8, 0, &[]);
+    let during = |first, last, row: Access| Access { period: Period { first, last }, ..row };
+    let harvest = with_access(
+        State::Rfnop,
+        vec![during(1000, 2000, access(1, ANON, 2, 0, &[8])), during(2000, MAX, access(2, ANON, 6, 0, &[8]))],
+    );
+    add("before the first second", &harvest, 999, read(), 8, 0);
+    add("the first second", &harvest, 1000, read(), 0, 2);
+    add("the last second", &harvest, 2000, read(), 0, 6);
+    add("the last second of all", &harvest, MAX, read(), 0, 6);
+    let single = with_access(
+        State::Rfnop,
+        vec![during(7, 7, access(1, ANON, 2, 0, &[8])), during(0, 0, access(2, ANON, 2, 1, &[]))],
+    );
+    for (clock, answer, permission) in [(0, 0, 2), (1, 8, 0), (6, 8, 0), (7, 0, 2), (8, 8, 0), (MAX, 8, 0)] {
+        add("single seconds", &single, clock, read(), answer, permission);
+    }
+    let always = with_access(State::Rfnop, vec![access(1, ANON, 2, 0, &[8])]);
+    for clock in [0, 1 << 31, MAX] {
+        add("every second", &always, clock, read(), 0, 2);
+    }
+    let fresh = Tables::fresh();
+    let store =
+        |period: &str| hex::literal(&format!("40c00000 0006 8400 0080000000000000 {} {period}", "00".repeat(16)));
+    add("first later than last", &fresh, 0, store("00000008 00000007"), 10, 0);
+    add("half a period", &fresh, 0, store("00000007"), 10, 0);
+    add("a period of one second", &fresh, 9, store("00000007 00000007"), 0, 31);
+    add("a body without a period", &fresh, MAX, store(""), 0, 31);
+    add("an owner has no period", &owned(State::Rfpro), MAX, compose(Verb::Retrieve, 3, 5, &[]), 0, 31);
     examples
 }
 
@@ -245,11 +294,11 @@ pub fn decided() -> Vec<Example> {
 pub fn worked_run() -> Vec<u8> {
     let eleven = "11".repeat(16);
     hex::literal(&format!(
-        "0019 40800000 0005 {eleven} 0000 04
-         0015 40000000 80 {eleven}
-         0005 40400000 40
-         0005 50400005 40
-         0005 50400005 40"
+        "00000000 0019 40800000 0005 {eleven} 0000 04
+         00000000 0015 40000000 80 {eleven}
+         00000000 0005 40400000 40
+         00000000 0005 50400005 40
+         00000000 0005 50400005 40"
     ))
 }
 

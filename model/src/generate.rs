@@ -11,7 +11,7 @@ use crate::run::LONGEST_RUN;
 use crate::spoil;
 use crate::systematic;
 use crate::tables::{
-    fresh_bytes, uuid_bytes, Access, Connection, Credential, Role, Row, State, Stored, Subject, Tables, Uuid,
+    fresh_bytes, uuid_bytes, Access, Connection, Credential, Period, Role, Row, State, Stored, Subject, Tables, Uuid,
     Wildcards, SIZE,
 };
 
@@ -29,6 +29,20 @@ const SUBJECTS: [u128; 8] = [
 ];
 const ROLES: [u16; 6] = [1, 7, 0x0700, 0x0100, 0x8000, 0xFFFF];
 const AUTHORITIES: [u16; 6] = [1, 0x0100, 7, 0x0700, 0x8000, 0xFFFF];
+const SECONDS: [u32; 12] = [
+    0,
+    1,
+    0x0000_00FF,
+    0x0000_0100,
+    0x0000_FFFF,
+    0x0001_0000,
+    0x00FF_FFFF,
+    0x0100_0000,
+    0x7FFF_FFFF,
+    0x8000_0000,
+    0xFFFF_FFFE,
+    0xFFFF_FFFF,
+];
 const NUMBERS: [u16; 8] = [5, 0x0500, 0x0001, 0x0100, 0x0101, 0x8000, 0xFF00, 0xFFFF];
 
 pub fn uuid(random: &mut Random) -> Uuid {
@@ -59,6 +73,60 @@ fn role(random: &mut Random) -> Role {
         _ => random.pick(&AUTHORITIES),
     };
     Role { authority, number }
+}
+
+fn second(random: &mut Random) -> u32 {
+    match random.below(10) {
+        0 => random.next() as u32,
+        1..=4 => random.pick(&SECONDS),
+        _ => random.between(990, 1010) as u32,
+    }
+}
+
+/// Mostly every second, so that rows fit; else short ones, long ones and some
+/// that leave out hardly a second.
+fn period(random: &mut Random) -> Period {
+    if random.chance(60) {
+        return Period::ALWAYS;
+    }
+    let (one, other) = (second(random), second(random));
+    let (first, last) = match random.below(10) {
+        0 => (one, one),
+        1 => (0, one),
+        2 => (one, u32::MAX),
+        3 => (0, u32::MAX - (1 << random.below(32))),
+        4 => (1 << random.below(32), u32::MAX),
+        _ => (one.min(other), one.max(other)),
+    };
+    Period { first, last }
+}
+
+/// A clock, mostly at or beside an end of a period that a row has.
+pub fn clock(random: &mut Random, present: &Stored) -> u32 {
+    let rows = match Tables::read(present) {
+        Ok(tables) => tables.accesses,
+        Err(_) => Vec::new(),
+    };
+    let short: Vec<Period> = rows.iter().map(|row| row.period).filter(|&period| period != Period::ALWAYS).collect();
+    let kind = random.below(20);
+    if short.is_empty() || kind < 5 {
+        return match random.below(6) {
+            0 => 0,
+            1 => u32::MAX,
+            _ => second(random),
+        };
+    }
+    let Period { first, last } = random.pick(&short);
+    match kind {
+        5..=7 => first,
+        8..=10 => last,
+        11 | 12 => first.saturating_sub(1),
+        13 | 14 => last.saturating_add(1),
+        15 => first.saturating_add(1),
+        16 => last.saturating_sub(1),
+        17 => random.pick(&[first, last]) ^ 1 << random.below(32),
+        _ => first + ((last - first) as f64 * random.below(100) as f64 / 100.0) as u32,
+    }
 }
 
 /// A row number, never 0.
@@ -135,6 +203,7 @@ pub fn access(random: &mut Random, held: &[u16]) -> Access {
         permission,
         wildcards: Wildcards::from_number(wildcards),
         set,
+        period: period(random),
     }
 }
 
@@ -236,7 +305,12 @@ pub fn defaults(random: &mut Random) -> Defaults {
         let rows = random.between(1, MOST);
         credentials = (0..rows).flat_map(|_| credential(random, &[]).short_body()).collect();
     }
-    let accesses = default_list(random, access, &spoil::ACCESS_FAULTS);
+    let mut accesses = default_list(random, access, &spoil::ACCESS_FAULTS);
+    if random.chance(3) {
+        // In the form of a body without a period.
+        let rows = random.between(1, MOST);
+        accesses = (0..rows).flat_map(|_| access(random, &[]).short_body()).collect();
+    }
     Defaults { credentials, accesses }
 }
 
@@ -384,28 +458,28 @@ pub fn session(random: &mut Random) -> Session {
     Session { tables, defaults, style, records }
 }
 
-/// The next record, made with the present tables in view.
-pub fn record(random: &mut Random, style: Style, present: &Stored) -> Vec<u8> {
+/// The next record, made with the present tables and the clock in view.
+pub fn record(random: &mut Random, style: Style, present: &Stored, clock: u32) -> Vec<u8> {
     let tables = Tables::read(present).unwrap_or_else(|_| Tables::fresh());
     match style {
         Style::Purposeful => {
-            let mut wish = purposeful(random, &tables);
+            let mut wish = purposeful(random, &tables, clock);
             for _ in 0..6 {
-                if wish.permitted(&tables).is_empty() {
-                    wish = purposeful(random, &tables);
+                if wish.permitted(&tables, clock).is_empty() {
+                    wish = purposeful(random, &tables, clock);
                 }
             }
-            wish.sent(random, &tables, 95)
+            wish.sent(random, &tables, clock, 95)
         }
         Style::Mixed => {
-            let mut record = mixed(random, &tables);
+            let mut record = mixed(random, &tables, clock);
             if random.chance(4) {
                 spoil::damage(&mut record, random);
             }
             record
         }
         Style::Damaged => {
-            let mut record = mixed(random, &tables);
+            let mut record = mixed(random, &tables, clock);
             while random.chance(50) {
                 spoil::damage(&mut record, random);
             }
@@ -427,7 +501,7 @@ pub fn record(random: &mut Random, style: Style, present: &Stored) -> Vec<u8> {
 }
 
 /// The longest buffer that is lent.
-pub const MOST_ROOM: usize = 1000;
+pub const MOST_ROOM: usize = 1300;
 
 /// The length of a buffer for this case, chosen with its reply in view.
 pub fn room(random: &mut Random, case: &Case) -> usize {
@@ -456,12 +530,12 @@ impl Wish {
     }
 
     /// The senders with an endpoint and the permission for it.
-    fn permitted(&self, tables: &Tables) -> Vec<u16> {
+    fn permitted(&self, tables: &Tables, clock: u32) -> Vec<u16> {
         let Some(resource) = directory::find(self.resource) else {
             return Vec::new();
         };
         let may = |sender, connection| {
-            resource.takes(connection) && effective_permission(tables, sender, resource) & self.verb.needs() != 0
+            resource.takes(connection) && effective_permission(tables, sender, resource, clock) & self.verb.needs() != 0
         };
         let anon = may(Sender::Unauthenticated, Connection::AnonClear).then_some(0);
         let partners = tables.credentials.iter().filter(|row| may(Sender::Partner(row), Connection::AuthCrypt));
@@ -469,8 +543,8 @@ impl Wish {
     }
 
     /// From a permitted sender in so many of a hundred cases, if there is one.
-    fn sent(&self, random: &mut Random, tables: &Tables, percent: usize) -> Vec<u8> {
-        let permitted = self.permitted(tables);
+    fn sent(&self, random: &mut Random, tables: &Tables, clock: u32, percent: usize) -> Vec<u8> {
+        let permitted = self.permitted(tables, clock);
         let sender = if !permitted.is_empty() && random.chance(percent) {
             random.pick(&permitted)
         } else {
@@ -528,7 +602,13 @@ fn store_access(random: &mut Random, tables: &Tables) -> Wish {
     if !tables.accesses.is_empty() && random.chance(20) {
         row.number = tables.accesses[random.below(tables.accesses.len())].number;
     }
-    Wish::new(Verb::Update, 3, row.bytes())
+    let mut body = row.bytes();
+    match random.below(20) {
+        0..=6 => body = row.short_body(),
+        7 => spoil::FIRST_LATER_THAN_LAST.1(&mut body, random),
+        _ => {}
+    }
+    Wish::new(Verb::Update, 3, body)
 }
 
 fn delete_row(random: &mut Random, tables: &Tables, held_percent: usize) -> Wish {
@@ -585,7 +665,7 @@ fn application(random: &mut Random) -> Wish {
 }
 
 /// The next step of somebody who sets the terminal up and uses it.
-fn purposeful(random: &mut Random, tables: &Tables) -> Wish {
+fn purposeful(random: &mut Random, tables: &Tables, clock: u32) -> Wish {
     #[derive(Clone, Copy)]
     enum Step {
         Credential,
@@ -676,7 +756,7 @@ fn purposeful(random: &mut Random, tables: &Tables) -> Wish {
         Use => {
             let mut wish = application(random);
             for _ in 0..12 {
-                if wish.permitted(tables).is_empty() {
+                if wish.permitted(tables, clock).is_empty() {
                     wish = application(random);
                 }
             }
@@ -687,7 +767,7 @@ fn purposeful(random: &mut Random, tables: &Tables) -> Wish {
 }
 
 /// Any record at all, some of them forbidden in one place.
-fn mixed(random: &mut Random, tables: &Tables) -> Vec<u8> {
+fn mixed(random: &mut Random, tables: &Tables, clock: u32) -> Vec<u8> {
     let mut wish = match random.weighted(&[
         (if tables.state == State::Rfnop { 30 } else { 10 }, 0),
         (10, 1),
@@ -719,7 +799,7 @@ fn mixed(random: &mut Random, tables: &Tables) -> Vec<u8> {
         }
         8 => target(if random.chance(10) { 0 } else { random.between(1, 4) as u8 }),
         9 => {
-            let length = random.pick(&[0, 1, 2, 16, 17, 21, 23, 28]);
+            let length = random.pick(&[0, 1, 2, 16, 17, 21, 23, 28, 36]);
             let body = if random.chance(50) { vec![0; length] } else { random.bytes(length) };
             Wish::new(random.pick(&Verb::ALL), random.below(4) as u8, body)
         }
@@ -732,7 +812,7 @@ fn mixed(random: &mut Random, tables: &Tables) -> Vec<u8> {
     if random.chance(8) {
         spoil::spoil_body(&mut wish.body, random);
     }
-    let mut record = wish.sent(random, tables, 70);
+    let mut record = wish.sent(random, tables, clock, 70);
     // Headers that are wrong in one place.
     match random.below(60) {
         0 => record[0] |= 0xA0,
@@ -770,6 +850,7 @@ fn walk_groups(seed: u64, records: u64, visit: &mut impl FnMut(Part, &Case) -> S
             }
             left -= 1;
             let mut case = Case::new(&group.tables, record);
+            case.clock = group.clock.unwrap_or_else(|| clock(&mut random, &group.tables));
             case.room = group.room.unwrap_or_else(|| room(&mut random, &case));
             case.defaults = defaults.clone();
             visit(Part::Systematic(group.name), &case);
@@ -786,7 +867,9 @@ fn walk_sessions(seed: u64, mut left: u64, visit: &mut impl FnMut(Part, &Case) -
         let mut tables = session.tables;
         for _ in 0..left.min(session.records as u64) {
             left -= 1;
-            let mut case = Case::new(&tables, &record(&mut random, session.style, &tables));
+            let clock = clock(&mut random, &tables);
+            let record = record(&mut random, session.style, &tables, clock);
+            let mut case = Case { clock, ..Case::new(&tables, &record) };
             case.room = room(&mut random, &case);
             case.defaults = session.defaults.clone();
             tables = visit(Part::Random(session.style), &case);
@@ -803,34 +886,40 @@ pub fn run_input(seed: u64, run: u64) -> Vec<u8> {
         0 => {}
         1 => input.push(0),
         2 => input = examples::worked_run(),
-        3 => input = vec![0; 2],
+        3 => input = vec![0; FRONT],
         4 => input = vec![0; LONGEST_RUN],
         5 => input = vec![0; LONGEST_RUN + 1000],
         6 => input = vec![0xFF; LONGEST_RUN + 1000],
-        7 => input = vec![0, 4],
+        7 => input = vec![0, 0, 0, 0, 0, 4],
         8 => {
             // The longest length that is all there.
             input = vec![0; LONGEST_RUN];
-            input[..2].copy_from_slice(&(LONGEST_RUN as u16 - 2).to_be_bytes());
+            input[4..FRONT].copy_from_slice(&((LONGEST_RUN - FRONT) as u16).to_be_bytes());
         }
         9..=16 => {
             // A record that ends at, before or behind the last byte that counts.
             fill_run(random, &mut input, LONGEST_RUN - 2000);
-            let end = LONGEST_RUN + run as usize - 12;
-            let length = end - input.len() - 2;
-            append(&mut input, &vec![0; length]);
+            let end = LONGEST_RUN + run as usize - 14;
+            let length = end - input.len() - FRONT;
+            append(&mut input, 0, &vec![0; length]);
             fill_run(random, &mut input, LONGEST_RUN + 300);
         }
-        17..=24 => {
+        // A clock, cut short or with no whole length, alone and behind a record.
+        17..=21 => input = random.bytes(run as usize - 16),
+        22..=26 => {
+            append(&mut input, 9, &[0x22, 0, 0, 0]);
+            input.extend(random.bytes(run as usize - 21));
+        }
+        27..=34 => {
             // Lengths around the two limits of a record.
             for length in [0, 1, 2, 3, 4, 5, 255, 256, 257, 258, 300, 1000] {
                 let mut record = random.bytes(length);
                 if length >= HEADER {
                     record[..HEADER].copy_from_slice(&[0x20, random.pick(&[0x00, 0x40, 0x80, 0xC0]), 0, 0]);
                 }
-                append(&mut input, &record);
+                append(&mut input, second(random), &record);
             }
-            input.truncate(input.len() - (run as usize - 17) * 150);
+            input.truncate(input.len() - (run as usize - 27) * 150);
         }
         _ => {
             let bytes = match random.below(20) {
@@ -840,11 +929,14 @@ pub fn run_input(seed: u64, run: u64) -> Vec<u8> {
             };
             fill_run(random, &mut input, bytes);
             match random.below(8) {
-                0 => input.push(random.byte()),
+                0 => {
+                    let more = random.between(1, FRONT - 1);
+                    input.extend(random.bytes(more));
+                }
                 1 => input.truncate(random.below(input.len() + 1)),
                 2 => {
                     let length = random.between(1, 300);
-                    append(&mut input, &vec![0x40; length]);
+                    append(&mut input, 0, &vec![0x40; length]);
                     input.truncate(input.len() - random.between(1, length));
                 }
                 3 => input.extend(random.next().to_be_bytes()),
@@ -861,17 +953,22 @@ fn fill_run(random: &mut Random, input: &mut Vec<u8>, bytes: usize) {
     let style =
         random.weighted(&[(60, Style::Purposeful), (25, Style::Mixed), (13, Style::Damaged), (2, Style::Noise)]);
     while input.len() < bytes {
+        let clock = clock(random, &tables);
         let record = match random.below(100) {
             0 => Vec::new(),
             1 => vec![0x22; random.between(257, 400)],
-            _ => record(random, style, &tables),
+            _ => record(random, style, &tables, clock),
         };
-        tables = judge(&Case::new(&tables, &record)).tables;
-        append(input, &record);
+        tables = judge(&Case { clock, ..Case::new(&tables, &record) }).tables;
+        append(input, clock, &record);
     }
 }
 
-fn append(input: &mut Vec<u8>, record: &[u8]) {
+/// The bytes of a clock and a length.
+const FRONT: usize = 6;
+
+fn append(input: &mut Vec<u8>, clock: u32, record: &[u8]) {
+    input.extend(clock.to_be_bytes());
     input.extend((record.len() as u16).to_be_bytes());
     input.extend(record);
 }
@@ -879,7 +976,7 @@ fn append(input: &mut Vec<u8>, record: &[u8]) {
 #[cfg(test)]
 mod tests {
     use super::*;
-    use crate::histogram::{Histogram, Places, Replies, Resets, Subjects};
+    use crate::histogram::{Clocks, Histogram, Places, Replies, Resets, Subjects};
     use crate::rules::LAST_ANSWER;
     use crate::run;
 
@@ -912,6 +1009,10 @@ mod tests {
             assert!(from_first >= 100 && between >= 100 && last >= 100 && none >= 20, "{histogram}");
             let Resets { no_lists, good, bad } = histogram.resets;
             assert!(no_lists >= 20 && good >= 50 && bad >= 50, "{histogram}");
+            let Clocks { first, last, just_before, just_after, within, outside } = histogram.clocks;
+            for count in [first, last, just_before, just_after, within, outside] {
+                assert!(count >= 100, "{histogram}");
+            }
         }
     }
 
@@ -921,7 +1022,8 @@ mod tests {
             let mut sum = 0u64;
             walk_sessions(seed, 5_000, &mut |_, case| {
                 let outcome = judge(case);
-                for &byte in case.record.iter().chain(&outcome.reply).chain(&outcome.tables) {
+                let clock = case.clock.to_be_bytes();
+                for &byte in clock.iter().chain(&case.record).chain(&outcome.reply).chain(&outcome.tables) {
                     sum = sum.rotate_left(5).wrapping_add(byte.into());
                 }
                 outcome.tables
@@ -955,10 +1057,10 @@ mod tests {
 
     #[test]
     fn runs_of_every_kind() {
-        let texts: Vec<String> = (0..150).map(|run| run::text(&run_input(1, run))).collect();
-        assert!(texts.iter().filter(|text| text.ends_with("cut\n")).count() > 20);
-        assert!(texts.iter().filter(|text| !text.ends_with("cut\n")).count() > 60);
-        assert!((0..150).filter(|&run| run_input(1, run).len() > LONGEST_RUN).count() > 10);
+        let texts: Vec<String> = (0..200).map(|run| run::text(&run_input(1, run))).collect();
+        assert!(texts.iter().filter(|text| text.ends_with("cut\n")).count() > 60);
+        assert!(texts.iter().filter(|text| !text.ends_with("cut\n")).count() > 80);
+        assert!((0..200).filter(|&run| run_input(1, run).len() > LONGEST_RUN).count() > 10);
         for state in 1..=4 {
             let line = format!(" {state}\n");
             assert!(texts.iter().filter(|text| text.contains(&line)).count() > 20, "state {state}");

@@ -1,15 +1,15 @@
 //! How often each answer came, what was permitted, how the replies fitted, how
-//! many rows the deletes by subject found, which places deletes report, and
-//! which default rows resets gave.
+//! many rows the deletes by subject found, which places deletes report, which
+//! default rows resets gave, and how the clocks stood to the periods of rows.
 
 use std::fmt;
 
 use crate::case::Case;
 use crate::defaults::Defaults;
-use crate::directory::{Security, DIRECTORY};
+use crate::directory::{self, Security, DIRECTORY};
 use crate::record::{Header, Verb, HEADER};
-use crate::rules::{judge, Outcome, Refusal, LAST_ANSWER, LONGEST_REPLY};
-use crate::tables::CREDENTIAL_COUNT;
+use crate::rules::{fits, judge, Outcome, Refusal, Sender, LAST_ANSWER, LONGEST_REPLY};
+use crate::tables::{Period, Tables, CREDENTIAL_COUNT};
 
 #[derive(Clone, Default)]
 pub struct Histogram {
@@ -20,6 +20,53 @@ pub struct Histogram {
     pub subjects: Subjects,
     pub places: Places,
     pub resets: Resets,
+    pub clocks: Clocks,
+}
+
+/// Rows of a shorter period than every second, as often as such a row is for the
+/// sender and the resource of a record that gets as far as its permission; by
+/// the clock.
+#[derive(Clone, Default)]
+pub struct Clocks {
+    pub first: u64,
+    pub last: u64,
+    /// By a second.
+    pub just_before: u64,
+    pub just_after: u64,
+    /// Between first and last.
+    pub within: u64,
+    /// Outside by more.
+    pub outside: u64,
+}
+
+impl Clocks {
+    fn add(&mut self, case: &Case) {
+        let Ok(tables) = Tables::read(&case.tables) else {
+            return;
+        };
+        let header = Header::read(&case.record);
+        let Some(resource) = directory::find(header.resource) else {
+            return;
+        };
+        let sender = match tables.credential(header.credential) {
+            Some(row) => Sender::Partner(row),
+            None => Sender::Unauthenticated,
+        };
+        let clock = case.clock;
+        for row in tables.accesses.iter().filter(|row| fits(row, sender, resource)) {
+            let Period { first, last } = row.period;
+            let count = match clock {
+                _ if row.period == Period::ALWAYS => continue,
+                _ if clock == first => &mut self.first,
+                _ if clock == last => &mut self.last,
+                _ if row.period.holds_at(clock) => &mut self.within,
+                _ if clock.checked_add(1) == Some(first) => &mut self.just_before,
+                _ if clock.checked_sub(1) == Some(last) => &mut self.just_after,
+                _ => &mut self.outside,
+            };
+            *count += 1;
+        }
+    }
 }
 
 /// Permitted resets, by the default lists.
@@ -72,6 +119,9 @@ impl Histogram {
     pub fn add(&mut self, case: &Case, outcome: &Outcome) {
         let record = &case.record;
         self.answers[outcome.answer as usize] += 1;
+        if !matches!(outcome.answer, 1..=7 | 16) {
+            self.clocks.add(case);
+        }
         if outcome.answer == Refusal::BufferTooShort as u8 {
             let fits = judge(&Case { room: LONGEST_REPLY, ..case.clone() }).reply.len();
             match case.room {
@@ -169,6 +219,13 @@ impl fmt::Display for Histogram {
             "places to store: {from_first} from the first on, {between} from between, {last} last, {none} none"
         )?;
         let Resets { no_lists, good, bad } = self.resets;
-        writeln!(out, "resets: {no_lists} without default rows, {good} with good lists, {bad} with a bad one")
+        writeln!(out, "resets: {no_lists} without default rows, {good} with good lists, {bad} with a bad one")?;
+        let Clocks { first, last, just_before, just_after, within, outside } = self.clocks;
+        writeln!(
+            out,
+            "clocks: {first} at the first second of a row's period, {last} at the last, {within} between,\n\
+             {:8}{just_before} a second before, {just_after} a second after, {outside} further outside",
+            ""
+        )
     }
 }

@@ -17,7 +17,7 @@ pub struct Tables {
     devowner: [u8; 16],
     rowners: [u8; 64],
     creds: [u8; 552],
-    aces: [u8; 896],
+    aces: [u8; 1152],
 }
 
 #[repr(C)]
@@ -56,6 +56,7 @@ extern "C" {
         creds_length: usize,
         aces: *const u8,
         aces_length: usize,
+        clock: u32,
         record: *const u8,
         length: usize,
         reply: *mut u8,
@@ -118,7 +119,7 @@ pub fn clear(case: &Case) -> Stored {
 
 /// One call, as a C program makes it.
 #[inline]
-pub fn decide(tables: &Tables, defaults: &Defaults, record: &[u8], reply: &mut [u8]) -> Outcome {
+pub fn decide(tables: &Tables, defaults: &Defaults, clock: u32, record: &[u8], reply: &mut [u8]) -> Outcome {
     let Defaults { credentials, accesses } = defaults;
     unsafe {
         tillerclover_judge(
@@ -127,6 +128,7 @@ pub fn decide(tables: &Tables, defaults: &Defaults, record: &[u8], reply: &mut [
             credentials.len(),
             accesses.as_ptr(),
             accesses.len(),
+            clock,
             record.as_ptr(),
             record.len(),
             reply.as_mut_ptr(),
@@ -139,7 +141,8 @@ pub fn decide(tables: &Tables, defaults: &Defaults, record: &[u8], reply: &mut [
 pub fn judge(case: &Case) -> Seen {
     // The buffer is longer than what is lent of it.
     let mut buffer = Case::pattern(case.room + BEHIND);
-    let outcome = decide(&Tables::from_bytes(&case.tables), &case.defaults, &case.record, &mut buffer[..case.room]);
+    let tables = Tables::from_bytes(&case.tables);
+    let outcome = decide(&tables, &case.defaults, case.clock, &case.record, &mut buffer[..case.room]);
     Seen {
         answer: outcome.answer,
         permission: outcome.permission,

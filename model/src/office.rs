@@ -3,7 +3,7 @@
 
 use crate::case::{written, Case, BEHIND};
 use crate::directory::DIRECTORY;
-use crate::tables::{Access, Connection, Role, Stored, Subject, Tables, Uuid, Wildcards};
+use crate::tables::{Access, Connection, Period, Role, Stored, Subject, Tables, Uuid, Wildcards};
 
 /// Why there is no text; the value is its number.
 #[derive(Clone, Copy, Debug, PartialEq, Eq)]
@@ -27,9 +27,10 @@ pub fn write(stored: &Stored, buffer: &mut [u8]) -> Result<usize, NoText> {
     Ok(text.len())
 }
 
-/// The text of these rows, in their order.
+/// The text of these rows, in their order. The office's form has no period, so
+/// rows that do not hold for every second are left out.
 pub fn text(rows: &[Access]) -> String {
-    let rows: Vec<String> = rows.iter().map(row).collect();
+    let rows: Vec<String> = rows.iter().filter(|row| row.period == Period::ALWAYS).map(row).collect();
     format!(r#"{{"aclist2":[{}]}}"#, rows.join(","))
 }
 
@@ -257,6 +258,30 @@ mod tests {
     }
 
     #[test]
+    fn rows_of_a_shorter_period_are_left_out() {
+        let always = [1, 2, 3, 4, 5].map(|number| access(number, AUTH, 2, 0, &[8]));
+        for (first, last) in
+            [(1, u32::MAX), (0, u32::MAX - 1), (0, 0), (u32::MAX, u32::MAX), (1000, 2000), (1 << 31, u32::MAX)]
+        {
+            let period = Period::new(first, last).expect("a period");
+            // Each choice of the five.
+            for choice in 0..32 {
+                let mut rows = always.clone();
+                let mut left = Vec::new();
+                for (place, row) in rows.iter_mut().enumerate() {
+                    if choice >> place & 1 == 1 {
+                        row.period = period;
+                    } else {
+                        left.push(row.clone());
+                    }
+                }
+                assert_eq!(text(&rows), text(&left));
+                assert_eq!(read(&text(&rows)), Some(left));
+            }
+        }
+    }
+
+    #[test]
     fn numbers_in_decimal() {
         for (number, digits) in
             [(1, "1"), (9, "9"), (10, "10"), (101, "101"), (1000, "1000"), (10_000, "10000"), (65_535, "65535")]
@@ -379,6 +404,7 @@ mod tests {
                 permission: read_decimal(permission)?.try_into().ok()?,
                 wildcards: Wildcards::from_number(wildcards),
                 set,
+                period: Period::ALWAYS,
             });
             rest = behind;
         }
@@ -434,15 +460,24 @@ mod tests {
         Some((wildcards, set))
     }
 
+    /// The rows that a text has.
+    fn written_of(rows: &[Access]) -> Vec<Access> {
+        rows.iter().filter(|row| row.period.first == 0 && row.period.last == 0xFFFF_FFFF).cloned().collect()
+    }
+
     #[test]
     fn the_rows_can_be_read_back() {
         let mut random = Random::new(35);
+        let mut left_out = 0;
         for _ in 0..2000 {
             let rows = generate::any_sound(&mut random).accesses;
             let text = text(&rows);
             assert!(text.bytes().all(|byte| byte.is_ascii_graphic()), "{text}");
-            assert_eq!(read(&text), Some(rows), "{text}");
+            let written = written_of(&rows);
+            left_out += rows.len() - written.len();
+            assert_eq!(read(&text), Some(written), "{text}");
         }
+        assert!(left_out > 2000, "{left_out}");
     }
 
     /// All row lists of which one is the other with a bit turned over.
@@ -460,24 +495,26 @@ mod tests {
     #[test]
     fn a_bit_makes_another_text() {
         let mut random = Random::new(36);
-        let mut pairs = 0;
+        let (mut pairs, mut alike) = (0, 0);
         for _ in 0..100 {
             let mut rows = generate::any_sound(&mut random).accesses;
             rows.truncate(3);
             for other in a_bit_away(&rows) {
-                pairs += 1;
                 assert_ne!(rows, other);
-                assert_ne!(text(&rows), text(&other));
+                let differ = written_of(&rows) != written_of(&other);
+                assert_eq!(text(&rows) != text(&other), differ);
+                pairs += usize::from(differ);
+                alike += usize::from(!differ);
             }
         }
-        assert!(pairs > 5_000, "{pairs}");
+        assert!(pairs > 5_000 && alike > 1000, "{pairs} {alike}");
     }
 
     #[test]
     fn a_list_and_the_front_of_it() {
         let mut random = Random::new(37);
         for _ in 0..300 {
-            let rows = generate::any_sound(&mut random).accesses;
+            let rows = written_of(&generate::any_sound(&mut random).accesses);
             for kept in 0..rows.len() {
                 assert_ne!(text(&rows[..kept]), text(&rows));
                 assert_ne!(text(&rows[kept + 1..]), text(&rows));
@@ -496,8 +533,9 @@ mod tests {
         // Every list is compared with all the earlier ones.
         let mut seen: HashMap<String, Vec<Access>> = HashMap::new();
         let mut check = |rows: &[Access]| {
-            let held = seen.entry(text(rows)).or_insert_with(|| rows.to_vec());
-            assert_eq!(held, rows);
+            let written = written_of(rows);
+            let held = seen.entry(text(rows)).or_insert_with(|| written.clone());
+            assert_eq!(*held, written);
         };
         let mut random = Random::new(38);
         for _ in 0..3000 {

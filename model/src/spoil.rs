@@ -26,7 +26,9 @@ pub const CREDENTIAL_FAULTS: [RowFault; 5] = [
 ];
 pub const SHORT_CREDENTIAL_FAULTS: usize = 4;
 
-pub const ACCESS_FAULTS: [RowFault; 8] = [
+/// The first `SHORT_ACCESS_FAULTS` of them are those of a body without a period,
+/// too.
+pub const ACCESS_FAULTS: [RowFault; 9] = [
     ("number 0", |row, _| row[..2].fill(0)),
     ("subject kind 3", |row, _| row[2] |= 0xC0),
     ("zero bit", |row, random| row[3] |= 1 << random.below(6)),
@@ -36,27 +38,46 @@ pub const ACCESS_FAULTS: [RowFault; 8] = [
     }),
     ("nil subject", |row, _| {
         set_kind(row, 0);
-        row[12..].fill(0);
+        row[12..28].fill(0);
     }),
     ("role 0", |row, random| {
         set_kind(row, 1);
-        row[12..].fill(0);
+        row[12..28].fill(0);
         row[24 + random.below(2)] = random.pick(&[0, 1, 7, 0x80]);
     }),
     ("bit before the authority", |row, random| {
         set_kind(row, 1);
-        row[12..].fill(0);
+        row[12..28].fill(0);
         row[25] = random.pick(&[0, 1, 7]);
         row[27] = random.byte();
         set_bit(&mut row[12..], random.below(96));
     }),
     ("bit before the connection", |row, random| {
         set_kind(row, 2);
-        row[12..].fill(0);
+        row[12..28].fill(0);
         row[27] = random.byte() & 1;
         set_bit(&mut row[12..], random.below(127));
     }),
+    FIRST_LATER_THAN_LAST,
 ];
+pub const SHORT_ACCESS_FAULTS: usize = 8;
+
+pub const FIRST_LATER_THAN_LAST: RowFault = ("first later than last", |row, random| {
+    let last = match random.below(4) {
+        0 => 0,
+        1 => u32::MAX - 1,
+        2 => 0x00FF << random.pick(&[0, 8, 16]),
+        _ => random.next() as u32 >> 1,
+    };
+    // Mostly by little.
+    let first = match random.below(3) {
+        0 => u32::MAX,
+        1 => last.saturating_add(1 << random.below(32)),
+        _ => last + 1,
+    };
+    row[28..32].copy_from_slice(&first.to_be_bytes());
+    row[32..36].copy_from_slice(&last.to_be_bytes());
+});
 
 pub const AUTHORITY_BESIDE_ROLE_0: RowFault = ("authority beside role 0", |row, random| {
     row[18..22].fill(0);
@@ -86,7 +107,7 @@ pub fn unknown_resource(random: &mut Random) -> usize {
 /// sound no longer.
 pub type TableFault = (&'static str, fn(&mut Stored, &mut Random) -> bool);
 
-pub const TABLE_FAULTS: [TableFault; 19] = [
+pub const TABLE_FAULTS: [TableFault; 20] = [
     ("state 0", |stored, _| {
         stored[STATE] = 0;
         true
@@ -147,6 +168,9 @@ pub const TABLE_FAULTS: [TableFault; 19] = [
     ("forbidden access", |stored, random| {
         let fault = random.pick(&ACCESS_FAULTS);
         spoil_row::<Access>(stored, random, fault, ACCESS_COUNT, ACCESSES.start)
+    }),
+    ("first later than last", |stored, random| {
+        spoil_row::<Access>(stored, random, FIRST_LATER_THAN_LAST, ACCESS_COUNT, ACCESSES.start)
     }),
 ];
 
@@ -244,6 +268,7 @@ pub fn spoil_body(body: &mut Vec<u8>, random: &mut Random) {
         Credential::LENGTH => (random.pick(&CREDENTIAL_FAULTS).1)(body, random),
         Credential::SHORT_BODY => (random.pick(&CREDENTIAL_FAULTS[..SHORT_CREDENTIAL_FAULTS]).1)(body, random),
         Access::LENGTH => (random.pick(&ACCESS_FAULTS).1)(body, random),
+        Access::SHORT_BODY => (random.pick(&ACCESS_FAULTS[..SHORT_ACCESS_FAULTS]).1)(body, random),
         _ => body.push(0),
     }
 }
@@ -310,6 +335,11 @@ mod tests {
                 let mut row = generate::access(&mut random, &[]).bytes();
                 fault(&mut row, &mut random);
                 assert_eq!(Access::read(&row), None, "{name}");
+            }
+            for (name, fault) in &ACCESS_FAULTS[..SHORT_ACCESS_FAULTS] {
+                let mut body = generate::access(&mut random, &[]).short_body();
+                fault(&mut body, &mut random);
+                assert_eq!(Access::from_body(&body), None, "{name}, no period");
             }
         }
     }

@@ -9,14 +9,16 @@ use crate::random::Random;
 use crate::record::{compose, device_owner_body, target_body, Header, Verb};
 use crate::spoil::{ACCESS_FAULTS, CREDENTIAL_FAULTS, TABLE_FAULTS};
 use crate::tables::{
-    fresh_bytes, uuid_bytes, Access, Connection, Credential, Role, Row, State, Stored, Subject, Tables, Uuid, ACCESSES,
-    ACCESS_COUNT, CREDENTIALS, CREDENTIAL_COUNT, OWNED, SIZE, STATE,
+    fresh_bytes, uuid_bytes, Access, Connection, Credential, Period, Role, Row, State, Stored, Subject, Tables, Uuid,
+    ACCESSES, ACCESS_COUNT, CREDENTIALS, CREDENTIAL_COUNT, OWNED, SIZE, STATE,
 };
 
 pub struct Group {
     pub name: &'static str,
     pub tables: Stored,
     pub records: Vec<Vec<u8>>,
+    /// The clock; None when it is drawn for each record.
+    pub clock: Option<u32>,
     /// The length of the lent buffer; None when it is drawn for each record.
     pub room: Option<usize>,
     /// The default lists; None when they are drawn for the group.
@@ -25,7 +27,7 @@ pub struct Group {
 
 impl Group {
     fn new(name: &'static str, tables: &Tables, records: Vec<Vec<u8>>) -> Group {
-        Group { name, tables: tables.bytes(), records, room: None, defaults: None }
+        Group { name, tables: tables.bytes(), records, clock: None, room: None, defaults: None }
     }
 }
 
@@ -51,6 +53,7 @@ pub fn groups(seed: u64) -> Vec<Group> {
     access_rows(&mut groups);
     owners(&mut groups);
     roles(&mut groups);
+    periods(&mut groups);
     near_misses(&mut groups);
     places(&mut groups, &mut random);
     replies(&mut groups, &mut random);
@@ -104,6 +107,7 @@ fn hand_worked(groups: &mut Vec<Group>) {
             name: "worked by hand",
             tables: example.tables,
             records: vec![example.record],
+            clock: Some(example.clock),
             room: Some(example.room),
             defaults: Some(Defaults::none()),
         });
@@ -187,7 +191,7 @@ fn body_lengths(groups: &mut Vec<Group>) {
         let mut records = Vec::new();
         for resource in 0..4 {
             for verb in Verb::ALL {
-                for length in 0..=30 {
+                for length in 0..=38 {
                     for byte in [0x00, 0x11, 0x80] {
                         records.push(compose(verb, resource, sender, &vec![byte; length]));
                     }
@@ -268,13 +272,34 @@ fn access_bodies(groups: &mut Vec<Group>) {
         for subject in
             [Subject::Uuid(uuid(0x44)), Subject::Uuid(one), role(0, 1), role(0, 0x8100), role(0x0801, 2), ANON, AUTH]
         {
-            let body = access(6, subject, 3, 0, &[8]).bytes();
+            let row = access(6, subject, 3, 0, &[8]);
+            let body = row.bytes();
             records.extend(flips(&compose(Verb::Update, 3, sender, &body), 4));
+            records.push(compose(Verb::Update, 3, sender, &row.short_body()));
             // Kind, permission and wildcards in all their values.
             for value in (0..1024u16).filter(|value| value % 2 == 0 || subject == role(0, 1)) {
                 let mut body = body.clone();
                 body[2..4].copy_from_slice(&(value << 6).to_be_bytes());
                 records.push(compose(Verb::Update, 3, sender, &body));
+            }
+        }
+        // Bodies without a period; periods of one second, of two, and turned
+        // round; bodies of lengths between.
+        let row = access(6, ANON, 3, 0, &[8]);
+        records.extend(flips(&compose(Verb::Update, 3, sender, &row.short_body()), 4));
+        const MAX: u32 = u32::MAX;
+        for second in [0, 1, 0x00FF_FFFF, 0x0102_0304, 0x7FFF_FFFF, 0x8000_0000, MAX - 1, MAX] {
+            let around = [0, 1, second.saturating_sub(1), second, second.saturating_add(1), second.swap_bytes(), MAX];
+            for other in around {
+                for (first, last) in [(second, other), (other, second)] {
+                    let body = Access { period: Period { first, last }, ..row.clone() }.bytes();
+                    records.push(compose(Verb::Update, 3, sender, &body));
+                }
+            }
+            let single = Access { period: Period { first: second, last: second }, ..row.clone() }.bytes();
+            records.extend(flips(&compose(Verb::Update, 3, sender, &single), 4 + Access::SHORT_BODY));
+            for length in 28..=36 {
+                records.push(compose(Verb::Update, 3, sender, &single[..length]));
             }
         }
         groups.push(Group::new("access bodies", tables, records));
@@ -392,6 +417,66 @@ fn roles(groups: &mut Vec<Group>) {
     }
 }
 
+/// Rows with periods against clocks at, around and far from their ends.
+fn periods(groups: &mut Vec<Group>) {
+    const MAX: u32 = u32::MAX;
+    let periods = [
+        (0, MAX),
+        (0, 0),
+        (MAX, MAX),
+        (1, MAX),
+        (0, MAX - 1),
+        (1, MAX - 1),
+        (1000, 2000),
+        (1000, 1000),
+        (1000, 1001),
+        (0x00FF_FFFF, 0x0100_0000),
+        (0x7FFF_FFFF, 0x8000_0000),
+        (0x0102_0304, 0x0403_0201),
+        (0x0100, 0x0001_0000),
+    ];
+    let subjects = [ANON, AUTH, Subject::Role(ROLE), Subject::Uuid(uuid(0x22))];
+    for (turn, (first, last)) in periods.into_iter().enumerate() {
+        let mut clocks = vec![0, 1, MAX - 1, MAX, first.swap_bytes(), last.swap_bytes(), first + (last - first) / 2];
+        for end in [first, last] {
+            clocks.extend([end.wrapping_sub(1), end, end.wrapping_add(1)]);
+        }
+        clocks.sort();
+        clocks.dedup();
+        let (later_first, later_last) = periods[(turn + 3) % periods.len()];
+        for subject in subjects {
+            let mut tables = stages().swap_remove(3);
+            let row = |number, permission, first, last| {
+                let period = Period { first, last };
+                Access { period, ..access(number, subject, permission, 0, &[2, 8]) }
+            };
+            // A second row that adds to the first in a time of its own.
+            tables.accesses = vec![row(1, 2, first, last), row(2, 6, later_first, later_last)];
+            tables.row_owners = [None; 4];
+            let mut records = Vec::new();
+            for sender in [0, HAULIER, FOREMAN] {
+                for resource in [2, 8] {
+                    records.push(compose(Verb::Retrieve, resource, sender, &[]));
+                }
+                records.push(compose(Verb::Update, 8, sender, &[7]));
+            }
+            for &clock in &clocks {
+                groups.push(Group { clock: Some(clock), ..Group::new("periods", &tables, records.clone()) });
+            }
+        }
+    }
+    // A single second, and every clock that is a bit off.
+    for second in [0x0102_0304, 0, MAX] {
+        let mut tables = stages().swap_remove(3);
+        let row = access(1, ANON, 2, 0, &[8]);
+        tables.accesses = vec![Access { period: Period { first: second, last: second }, ..row }];
+        for bit in 0..32 {
+            let records = vec![compose(Verb::Retrieve, 8, 0, &[])];
+            groups.push(Group { clock: Some(second ^ 1 << bit), ..Group::new("periods", &tables, records) });
+        }
+    }
+}
+
 /// Values that differ from the fitting one in a single bit, at each place.
 fn near_misses(groups: &mut Vec<Group>) {
     let mut add = |tables: &Tables, records| {
@@ -470,6 +555,7 @@ fn places(groups: &mut Vec<Group>, random: &mut Random) {
                 let mut row = generate::access(random, &[]);
                 row.number = number;
                 records.push(compose(Verb::Update, 3, sender, &row.bytes()));
+                records.push(compose(Verb::Update, 3, sender, &row.short_body()));
                 records.push(compose(Verb::Delete, 3, sender, &number.to_be_bytes()));
             }
             for resource in [2, 3] {
@@ -509,7 +595,7 @@ fn replies(groups: &mut Vec<Group>, random: &mut Random) {
     };
     for tables in stages() {
         let sender = if tables.owned() { OWNER } else { 0 };
-        let rooms: Vec<usize> = lengths(&tables).chain([0, 1, 15, 100, 1000]).collect();
+        let rooms: Vec<usize> = lengths(&tables).chain([0, 1, 15, 100, 1200]).collect();
         add(&tables, &[sender, FOREMAN], &rooms);
     }
     // Each count of rows, each with its own exact room.
@@ -524,7 +610,7 @@ fn replies(groups: &mut Vec<Group>, random: &mut Random) {
         for owner in &mut tables.row_owners {
             *owner = Some(generate::uuid(random));
         }
-        let rooms: Vec<usize> = lengths(&tables).skip(6).chain([0, 911, 912]).collect();
+        let rooms: Vec<usize> = lengths(&tables).skip(6).chain([0, 1167, 1168]).collect();
         add(&tables, &[0], &rooms);
     }
 }
@@ -670,13 +756,15 @@ fn default_lists(groups: &mut Vec<Group>, random: &mut Random) {
         }
         for (_, fault) in ACCESS_FAULTS {
             let mut list = good.clone();
-            list.accesses.truncate(if place == 2 { 28 } else { 56 });
-            fault(&mut list.accesses[place % 2 * 28..][..28], random);
+            list.accesses.truncate(if place == 2 { 36 } else { 72 });
+            fault(&mut list.accesses[place % 2 * 36..][..36], random);
             lists.push(list);
         }
     }
-    // Bodies without an authority are no rows.
+    // Bodies without an authority or a period are no rows.
     for count in 1..=3 {
+        let short = accesses[..count].iter().flat_map(Access::short_body).collect();
+        lists.push(Defaults { accesses: short, ..good.clone() });
         let short = credentials[..count].iter().flat_map(Credential::short_body).collect();
         lists.push(Defaults { credentials: short, ..good.clone() });
     }
@@ -705,8 +793,9 @@ fn default_lists(groups: &mut Vec<Group>, random: &mut Random) {
 fn soundness(groups: &mut Vec<Group>, random: &mut Random) {
     let probes = || vec![compose(Verb::Retrieve, 1, 0, &[]), compose(Verb::Retrieve, 8, OWNER, &[1]), vec![]];
     let one_probe = || vec![compose(Verb::Retrieve, 2, OWNER, &[])];
-    let mut add =
-        |tables, records| groups.push(Group { name: "soundness", tables, records, room: None, defaults: None });
+    let mut add = |tables, records| {
+        groups.push(Group { name: "soundness", tables, records, clock: None, room: None, defaults: None })
+    };
 
     // Every fault on tables of many kinds.
     for (_, fault) in TABLE_FAULTS {
@@ -786,6 +875,8 @@ fn soundness(groups: &mut Vec<Group>, random: &mut Random) {
     small.credentials.push(Credential { number: HAULIER, subject: uuid(0x22), role: None, kind: 0 });
     small.accesses.push(access(1, Subject::Role(one), 2, 0, &[2]));
     small.accesses.push(access(2, AUTH, 2, 0, &[2]));
+    let period = Period { first: 0x0101_0101, last: 0x0101_0101 };
+    small.accesses.push(Access { period, ..access(3, ANON, 2, 0, &[2]) });
     for place in 0..CREDENTIALS.start + 2 * Credential::LENGTH {
         for bit in 0..8 {
             let mut stored = small.bytes();
@@ -793,7 +884,7 @@ fn soundness(groups: &mut Vec<Group>, random: &mut Random) {
             add(stored, one_probe());
         }
     }
-    for place in ACCESSES.start..ACCESSES.start + 2 * Access::LENGTH {
+    for place in ACCESSES.start..ACCESSES.start + 3 * Access::LENGTH {
         for bit in 0..8 {
             let mut stored = small.bytes();
             stored[place] ^= 1 << bit;

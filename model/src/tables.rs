@@ -1,4 +1,4 @@
-//! The tables, read from and written to their 1,532 bytes.
+//! The tables, read from and written to their 1,788 bytes.
 
 use std::num::NonZeroU128;
 use std::ops::Range;
@@ -9,7 +9,7 @@ use crate::directory::{self, Security};
 /// The bytes of the tables.
 pub type Stored = [u8; SIZE];
 
-pub const SIZE: usize = 1532;
+pub const SIZE: usize = 1788;
 pub const STATE: usize = 0;
 pub const OWNED: usize = 1;
 pub const CREDENTIAL_COUNT: usize = 2;
@@ -17,7 +17,7 @@ pub const ACCESS_COUNT: usize = 3;
 pub const DEVICE_OWNER: Range<usize> = 4..20;
 pub const ROW_OWNERS: Range<usize> = 20..84;
 pub const CREDENTIALS: Range<usize> = 84..636;
-pub const ACCESSES: Range<usize> = 636..1532;
+pub const ACCESSES: Range<usize> = 636..1788;
 
 /// A UUID other than nil; nil is `None`.
 pub type Uuid = NonZeroU128;
@@ -153,6 +153,29 @@ pub struct Access {
     pub wildcards: Wildcards,
     /// The top bit stands for resource 0.
     pub set: u64,
+    pub period: Period,
+}
+
+/// The seconds of the terminal's clock in which an access row holds, both ends
+/// included. None ends before it begins.
+#[derive(Clone, Copy, Debug, PartialEq, Eq, PartialOrd, Ord)]
+pub struct Period {
+    pub first: u32,
+    pub last: u32,
+}
+
+impl Period {
+    /// Every second that the clock can show.
+    pub const ALWAYS: Period = Period { first: 0, last: u32::MAX };
+
+    /// None when it ends before it begins.
+    pub fn new(first: u32, last: u32) -> Option<Period> {
+        (first <= last).then_some(Period { first, last })
+    }
+
+    pub fn holds_at(self, clock: u32) -> bool {
+        self.first <= clock && clock <= self.last
+    }
 }
 
 #[derive(Clone, Copy, Debug, PartialEq, Eq)]
@@ -175,14 +198,28 @@ impl Wildcards {
     }
 }
 
+impl Access {
+    /// The length of a body without a period, which means every second.
+    pub const SHORT_BODY: usize = 28;
+
+    /// The body without the period.
+    pub fn short_body(&self) -> Vec<u8> {
+        let mut body = self.bytes();
+        body.truncate(Self::SHORT_BODY);
+        body
+    }
+}
+
 impl Row for Access {
-    const LENGTH: usize = 28;
+    const LENGTH: usize = 36;
     const CAPACITY: usize = 32;
 
     fn from_body(body: &[u8]) -> Option<Access> {
-        if body.len() != Self::LENGTH {
-            return None;
-        }
+        let has_period = match body.len() {
+            Self::LENGTH => true,
+            Self::SHORT_BODY => false,
+            _ => return None,
+        };
         let mut fields = Fields::new(body);
         let number = fields.take(16) as u16;
         let kind = fields.take(2);
@@ -191,6 +228,8 @@ impl Row for Access {
         let zeros = fields.take(6);
         let set = fields.take(64) as u64;
         let subject = fields.take(128);
+        let period =
+            if has_period { Period::new(fields.take(32) as u32, fields.take(32) as u32)? } else { Period::ALWAYS };
         if number == 0 || zeros != 0 || set & !directory::known() != 0 {
             return None;
         }
@@ -207,7 +246,7 @@ impl Row for Access {
             },
             _ => return None,
         };
-        Some(Access { number, subject, permission, wildcards, set })
+        Some(Access { number, subject, permission, wildcards, set, period })
     }
 
     fn bytes(&self) -> Vec<u8> {
@@ -226,6 +265,8 @@ impl Row for Access {
             .put(0, 6)
             .put(self.set.into(), 64)
             .put(subject, 128)
+            .put(self.period.first.into(), 32)
+            .put(self.period.last.into(), 32)
             .bytes()
     }
 
@@ -435,6 +476,45 @@ mod tests {
         assert_eq!(row.short_body(), body("0007 04"));
         assert_eq!(Credential::read(&row.bytes()), Some(row.clone()));
         assert_eq!(Credential::read(&row.short_body()), None);
+    }
+
+    #[test]
+    fn access_bodies_of_both_lengths() {
+        let body = |behind: &str| hex::literal(&format!("0005 8400 0080000000000000 {} {behind}", "00".repeat(16)));
+        let period = |behind: &str| Access::from_body(&body(behind)).map(|row| (row.period.first, row.period.last));
+        assert_eq!(period(""), Some((0, u32::MAX)));
+        assert_eq!(period("00000000 ffffffff"), Some((0, u32::MAX)));
+        assert_eq!(period("00000102 01000000"), Some((0x0102, 0x0100_0000)));
+        assert_eq!(period("00000000 00000000"), Some((0, 0)));
+        assert_eq!(period("ffffffff ffffffff"), Some((u32::MAX, u32::MAX)));
+        assert_eq!(period("00000007 00000007"), Some((7, 7)));
+        assert_eq!(period("00000008 00000007"), None);
+        assert_eq!(period("00000001 00000000"), None);
+        assert_eq!(period("ffffffff fffffffe"), None);
+        assert_eq!(period("00000000"), None);
+        assert_eq!(period("00000000 ffffff"), None);
+        assert_eq!(period("00000000 ffffffff 00"), None);
+        // Both are stored in one form, which alone is a row's.
+        let row = Access::from_body(&body("")).unwrap();
+        assert_eq!(row.bytes(), body("00000000 ffffffff"));
+        assert_eq!(row.short_body(), body(""));
+        assert_eq!(Access::read(&row.bytes()), Some(row.clone()));
+        assert_eq!(Access::read(&row.short_body()), None);
+    }
+
+    #[test]
+    fn periods_with_both_ends() {
+        let holds = |first, last| -> Vec<u32> {
+            let period = Period::new(first, last).unwrap();
+            let clocks = [0, 1, 6, 7, 8, 9, 10, u32::MAX - 1, u32::MAX];
+            clocks.into_iter().filter(|&clock| period.holds_at(clock)).collect()
+        };
+        assert_eq!(holds(7, 9), [7, 8, 9]);
+        assert_eq!(holds(8, 8), [8]);
+        assert_eq!(holds(0, 0), [0]);
+        assert_eq!(holds(u32::MAX, u32::MAX), [u32::MAX]);
+        assert_eq!(holds(1, u32::MAX - 1), [1, 6, 7, 8, 9, 10, u32::MAX - 1]);
+        assert_eq!(holds(0, u32::MAX).len(), 9);
     }
 
     #[test]

@@ -11,9 +11,10 @@ use crate::generate::any_sound;
 use crate::office::{text, Listed, NoText, LONGEST_TEXT};
 use crate::random::Random;
 use crate::spoil::TABLE_FAULTS;
-use crate::tables::{fresh_bytes, read_uuid, Access, Row, Stored, Subject, Tables, Uuid, Wildcards};
+use crate::tables::{fresh_bytes, read_uuid, Access, Period, Row, Stored, Subject, Tables, Uuid, Wildcards};
 
-/// A case for the text of these tables; record and default lists don't matter.
+/// A case for the text of these tables; clock, record and default lists don't
+/// matter.
 fn lend(tables: &Stored, room: usize) -> Case {
     Case { room, ..Case::new(tables, &[]) }
 }
@@ -81,8 +82,9 @@ pub fn cases() -> impl Iterator<Item = Case> {
 
 /// Access rows in which each part takes all its values.
 fn tables() -> Vec<Tables> {
-    let lists = [numbers_and_roles(), sets_and_wildcards(), uuids()];
-    lists.iter().flat_map(|list| list.chunks(Access::CAPACITY)).map(with_rows).collect()
+    let lists = [numbers_and_roles(), sets_and_wildcards(), uuids(), periods()];
+    let chunks = lists.iter().flat_map(|list| list.chunks(Access::CAPACITY)).map(with_rows);
+    chunks.chain(left_out().iter().map(|rows| with_rows(rows))).collect()
 }
 
 fn with_rows(rows: &[Access]) -> Tables {
@@ -121,6 +123,7 @@ fn sets_and_wildcards() -> Vec<Access> {
                 permission: (choice / 5 % 32) as u8,
                 wildcards: Wildcards::from_number((choice % 8) as u8),
                 set: held.fold(0, |set, (_, resource)| set | resource.bit()),
+                period: Period::ALWAYS,
             }
         })
         .collect()
@@ -138,6 +141,27 @@ fn uuids() -> Vec<Access> {
         }
     }
     rows
+}
+
+/// Periods a bit away from every second, each behind a row that is written.
+fn periods() -> Vec<Access> {
+    let periods = (0..32).flat_map(|bit| {
+        let Period { first, last } = Period::ALWAYS;
+        [Period { first: 1 << bit, last }, Period { first, last: last ^ 1 << bit }]
+    });
+    let pairs = periods.flat_map(|period| [Period::ALWAYS, period]);
+    (1..).zip(pairs).map(|(number, period)| Access { period, ..access(number, AUTH, 2, 0, &[8]) }).collect()
+}
+
+/// Every choice of rows to leave out of five, and all but one of a full table.
+fn left_out() -> Vec<Vec<Access>> {
+    let rows = |count: u16, left_out: &dyn Fn(u16) -> bool| -> Vec<Access> {
+        let period = |place| if left_out(place) { Period { first: 1, last: 9 } } else { Period::ALWAYS };
+        (0..count).map(|place| Access { period: period(place), ..access(place + 1, ANON, 2, 0, &[8]) }).collect()
+    };
+    let few = (0..32).map(|choice| rows(5, &|place| choice >> place & 1 == 1));
+    let one = (0..32).map(|kept| rows(32, &|place| place != kept));
+    few.chain(one).collect()
 }
 
 /// A table with the longest text.
@@ -191,7 +215,7 @@ impl fmt::Display for Counts {
 
 /// Makes a case smaller as long as its text differs.
 pub fn shrink(case: Case, differs: impl Fn(&Case) -> bool) -> Case {
-    let bare = Case { record: Vec::new(), defaults: Defaults::none(), ..case };
+    let bare = Case { clock: 0, record: Vec::new(), defaults: Defaults::none(), ..case };
     // The text gets shorter with the tables, so the buffer has to go with it.
     let fitted = |case: &Case| {
         let fits = length(&case.tables).unwrap_or(0);
@@ -252,11 +276,13 @@ mod tests {
         let mut authorities = BTreeSet::new();
         let mut resources = BTreeSet::new();
         let mut permissions = BTreeSet::new();
+        let mut periods = BTreeSet::new();
         for tables in tables() {
             assert_eq!(Tables::read(&tables.bytes()), Ok(tables.clone()));
             for row in tables.accesses {
                 numbers.insert(row.number);
                 permissions.insert(row.permission);
+                periods.insert(row.period);
                 let Wildcards { plus, minus, star } = row.wildcards;
                 resources.insert((row.set, plus, minus, star));
                 if let Subject::Role(Role { authority, number }) = row.subject {
@@ -268,6 +294,8 @@ mod tests {
         assert_eq!((numbers.len(), roles.len(), authorities.len()), (65_535, 65_535, 65_536));
         assert_eq!(resources.len(), 8 * 2048);
         assert_eq!(permissions.len(), 32);
+        // Every second, a bit away from it, and another.
+        assert_eq!(periods.len(), 1 + 64 + 1);
         let mut counts = Counts::default();
         for case in cases() {
             counts.add(&case, &Listed::expected(&case));

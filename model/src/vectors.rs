@@ -1,16 +1,17 @@
 //! A file of vectors for another program to read.
 //!
 //! Entries follow one another, each behind a tag byte:
-//! 0: tables (1,532 bytes), from now on the current ones;
-//! 1: a record behind its length (16 bits), the length of the lent buffer (16
-//!    bits), then answer, permission (a byte each), payload start and payload
-//!    length (16 bits each; start 0 when the length is 0), length of the reply
-//!    (16 bits), first place to store and how many (a byte each), the reply;
-//!    the tables afterwards are the current ones;
-//! 2: tables (1,532 bytes) that the current ones must equal;
+//! 0: tables (1,788 bytes), from now on the current ones;
+//! 1: the clock (32 bits), directly behind it the record's length (16 bits) and
+//!    the record, the length of the lent buffer (16 bits), then answer,
+//!    permission (a byte each), payload start and payload length (16 bits each;
+//!    start 0 when the length is 0), length of the reply (16 bits), first place
+//!    to store and how many (a byte each), the reply; the tables afterwards are
+//!    the current ones;
+//! 2: tables (1,788 bytes) that the current ones must equal;
 //! 3: default lists, of credentials and of accesses, each behind its length (a
 //!    byte), from now on the current ones. Both are empty at first.
-//! Numbers of 16 bits have their high byte first.
+//! Numbers of 16 and 32 bits have their high byte first.
 
 use crate::case::Case;
 use crate::defaults::Defaults;
@@ -30,7 +31,7 @@ pub const CHECK: u8 = 2;
 pub const DEFAULTS: u8 = 3;
 
 /// Fewest bytes that leave room for random sessions.
-pub const LEAST: usize = 200_000;
+pub const LEAST: usize = 280_000;
 const RECORDS_BETWEEN_CHECKS: usize = 100;
 
 pub struct Vectors {
@@ -60,9 +61,12 @@ impl Vectors {
             defaults: Defaults::none(),
             unchecked: 0,
         };
-        for example in examples::all() {
+        // By their tables, and refusals first, so that tables are written once.
+        let mut examples = examples::all();
+        examples.sort_by_key(|example| (example.tables, example.answer == 0));
+        for example in examples {
             vectors.set_tables(&example.tables);
-            vectors.record(&example.record, example.room);
+            vectors.record(example.clock, &example.record, example.room);
         }
         vectors.check();
         vectors.headers();
@@ -95,17 +99,18 @@ impl Vectors {
     }
 
     /// The record as a case, with a buffer that fits any reply.
-    fn case(&self, record: &[u8]) -> Case {
+    fn case(&self, clock: u32, record: &[u8]) -> Case {
         let defaults = self.defaults.clone();
-        Case { defaults, ..Case::new(&self.current.expect("tables come first"), record) }
+        Case { clock, defaults, ..Case::new(&self.current.expect("tables come first"), record) }
     }
 
-    fn record(&mut self, record: &[u8], room: usize) {
-        let case = Case { room, ..self.case(record) };
+    fn record(&mut self, clock: u32, record: &[u8], room: usize) {
+        let case = Case { room, ..self.case(clock, record) };
         let outcome = judge(&case);
         let length = outcome.payload.len() as u16;
         let start = if length == 0 { 0 } else { outcome.payload.start as u16 };
         self.bytes.push(RECORD);
+        self.bytes.extend(clock.to_be_bytes());
         self.bytes.extend((record.len() as u16).to_be_bytes());
         self.bytes.extend(record);
         self.bytes.extend((room as u16).to_be_bytes());
@@ -147,7 +152,7 @@ impl Vectors {
                     for &sender in senders {
                         let mut record = compose(Verb::Create, resource.number, sender, &[]);
                         record[0] |= verb << 5;
-                        self.record(&record, LONGEST_REPLY);
+                        self.record(0, &record, LONGEST_REPLY);
                     }
                 }
             }
@@ -164,11 +169,11 @@ impl Vectors {
             self.set_tables(&tables.bytes());
             for resource in 0..4 {
                 let record = compose(Verb::Retrieve, resource, 0, &[]);
-                let fits = judge(&self.case(&record)).reply.len();
+                let fits = judge(&self.case(0, &record)).reply.len();
                 for room in [fits, fits - 1, 0, fits + 1] {
-                    self.record(&record, room);
+                    self.record(u32::MAX, &record, room);
                 }
-                self.record(&compose(Verb::Observe, resource, 0, &[]), 0);
+                self.record(0, &compose(Verb::Observe, resource, 0, &[]), 0);
             }
         }
         self.check();
@@ -194,11 +199,16 @@ impl Vectors {
             fault(&mut list.accesses[..Access::LENGTH], random);
             lists.push(list);
         }
-        for length in [1, 20, 21, 22, 24, 27, 29, 42, 45] {
+        for length in [1, 21, 22, 24, 28, 35, 37, 42, 45] {
             let cut = |list: &[u8]| list[..length].to_vec();
             lists.push(Defaults { credentials: cut(&good.credentials), ..good.clone() });
             lists.push(Defaults { accesses: cut(&good.accesses), ..good.clone() });
         }
+        // Bodies without an authority or a period are no rows.
+        let short = credentials[..2].iter().flat_map(Credential::short_body).collect();
+        lists.push(Defaults { credentials: short, ..good.clone() });
+        let short = accesses[..2].iter().flat_map(Access::short_body).collect();
+        lists.push(Defaults { accesses: short, ..good.clone() });
         let mut twice = good.clone();
         twice.credentials.copy_within(..2, Credential::LENGTH);
         lists.push(twice.clone());
@@ -207,14 +217,14 @@ impl Vectors {
         lists.push(Defaults { credentials: good.credentials.clone(), ..twice });
         self.set_tables(&examples::owned(State::Rfnop).bytes());
         self.set_defaults(&good);
-        self.record(&compose(Verb::Update, 1, 5, &target_body(0)), 0);
+        self.record(0, &compose(Verb::Update, 1, 5, &target_body(0)), 0);
         self.check();
         for list in &lists {
             self.set_defaults(list);
             // Nobody owns fresh tables, so nobody has to be a partner.
-            self.record(&compose(Verb::Update, 1, 0, &target_body(0)), 0);
+            self.record(0, &compose(Verb::Update, 1, 0, &target_body(0)), 0);
             for resource in [2, 3] {
-                self.record(&compose(Verb::Retrieve, resource, 0, &[]), LONGEST_REPLY);
+                self.record(0, &compose(Verb::Retrieve, resource, 0, &[]), LONGEST_REPLY);
             }
         }
         self.set_defaults(&good);
@@ -224,7 +234,7 @@ impl Vectors {
             } else {
                 compose(Verb::Delete, resource, 0, &[])
             };
-            self.record(&record, 0);
+            self.record(0, &record, 0);
             self.check();
         }
         self.set_defaults(&Defaults::none());
@@ -258,8 +268,9 @@ impl Vectors {
         for stored in faulty {
             self.set_tables(&stored);
             for style in [Style::Purposeful, Style::Mixed, Style::Noise] {
-                let record = generate::record(random, style, &stored);
-                self.record(&record, random.below(40));
+                let clock = generate::clock(random, &stored);
+                let record = generate::record(random, style, &stored, clock);
+                self.record(clock, &record, random.below(40));
             }
         }
         self.check();
@@ -272,7 +283,7 @@ impl Vectors {
         let mut turn = 0;
         while self.bytes.len() + spare < limit {
             let defaults = generate::defaults(random);
-            if defaults.credentials.len() <= 90 && defaults.accesses.len() <= 90 {
+            if defaults.credentials.len() <= 90 && defaults.accesses.len() <= 110 {
                 self.set_defaults(&defaults);
             }
             let start = match turn % 3 {
@@ -287,15 +298,17 @@ impl Vectors {
                     break;
                 }
                 let style = random.weighted(&[(45, Style::Purposeful), (35, Style::Mixed), (20, Style::Damaged)]);
-                let record = generate::record(random, style, &self.current.expect("set above"));
+                let tables = self.current.expect("set above");
+                let clock = generate::clock(random, &tables);
+                let record = generate::record(random, style, &tables, clock);
                 // Long records and replies would use up the file, and most
                 // refusals for want of permission are alike.
-                let case = self.case(&record);
+                let case = self.case(clock, &record);
                 let outcome = judge(&case);
                 let dull = outcome.answer == Refusal::PermissionLacking as u8 && random.chance(70);
                 let long = record.len() > 40 && random.chance(85) || outcome.reply.len() > 90 && random.chance(90);
                 if !dull && !long {
-                    self.record(&record, generate::room(random, &case));
+                    self.record(clock, &record, generate::room(random, &case));
                 }
             }
         }
@@ -340,11 +353,12 @@ mod tests {
                     checks += 1;
                 }
                 RECORD => {
+                    let clock = u32::from_be_bytes(take(4).unwrap().try_into().unwrap());
                     let length = number(take(2).unwrap());
                     let record = take(length).unwrap();
                     let room = number(take(2).unwrap());
                     let case = Case::new(&current.unwrap(), record);
-                    let outcome = judge(&Case { room, defaults: defaults.clone(), ..case });
+                    let outcome = judge(&Case { clock, room, defaults: defaults.clone(), ..case });
                     assert_eq!(take(2).unwrap(), [outcome.answer, outcome.permission]);
                     let start = number(take(2).unwrap());
                     let length = number(take(2).unwrap());

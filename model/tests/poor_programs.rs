@@ -6,8 +6,8 @@ use model::generate::walk;
 use model::office::{text, Listed};
 use model::rules::judge;
 use model::tables::{
-    fresh_bytes, read_uuid, Access, Credential, Role, Row, Subject, Tables, Uuid, ACCESSES, CREDENTIALS,
-    CREDENTIAL_COUNT,
+    fresh_bytes, read_uuid, Access, Credential, Period, Role, Row, Subject, Tables, Uuid, ACCESSES, ACCESS_COUNT,
+    CREDENTIALS, CREDENTIAL_COUNT,
 };
 use model::texts::Picks;
 
@@ -56,13 +56,17 @@ const CRED: u8 = 2;
 const ACL2: u8 = 3;
 
 /// What is right, but with the answer and permission of other tables.
-fn permitted_by(case: &Case, right: Seen, change: fn(&mut Tables)) -> Seen {
-    // No permission is asked for before these.
+fn permitted_by(case: &Case, right: Seen, change: impl Fn(&mut Tables)) -> Seen {
+    // These are given before the permission is asked for.
     if matches!(right.answer, 1..=7 | 16) {
         return right;
     }
-    let mut tables = Tables::read(&case.tables).expect("sound");
+    let before = Tables::read(&case.tables).expect("sound");
+    let mut tables = before.clone();
     change(&mut tables);
+    if tables == before {
+        return right;
+    }
     let other = Case { tables: tables.bytes(), ..case.clone() }.expected();
     Seen { answer: other.answer, permission: other.permission, ..right }
 }
@@ -80,12 +84,56 @@ fn wanted_roles(rows: &mut [Access]) -> impl Iterator<Item = &mut Role> {
     })
 }
 
-/// The stored row of a body, in the tables afterwards.
+/// What is right, but with roles told apart otherwise.
+fn with_roles(case: &Case, right: Seen, change: fn(&mut Role)) -> Seen {
+    // A sender without a credential has no role.
+    if case.record.first().is_none_or(|first| first & 0x10 == 0) {
+        return right;
+    }
+    permitted_by(case, right, |tables| {
+        held_roles(tables).for_each(change);
+        wanted_roles(&mut tables.accesses).for_each(change);
+    })
+}
+
+/// Whether a program takes a row to hold at a clock.
+type Holds = fn(Period, u32) -> bool;
+
+/// What is right, but with rows that hold at other times.
+fn holding(case: &Case, right: Seen, holds: Holds) -> Seen {
+    // Most cases have no such row, and reading all tables takes its time.
+    let wrong = |row: &[u8]| {
+        let second = |at| u32::from_be_bytes(row[at..at + 4].try_into().expect("four bytes"));
+        let period = Period { first: second(28), last: second(32) };
+        holds(period, case.clock) != period.holds_at(case.clock)
+    };
+    let held = case.tables[ACCESSES].chunks_exact(Access::LENGTH).take(case.tables[ACCESS_COUNT].into());
+    if !held.into_iter().any(wrong) {
+        return right;
+    }
+    permitted_by(case, right, |tables| {
+        tables.accesses.retain(|row| holds(row.period, case.clock));
+        tables.accesses.iter_mut().for_each(|row| row.period = Period::ALWAYS);
+    })
+}
+
+/// The credential row of a body, in the tables afterwards.
 fn stored_row<'a>(right: &'a mut Seen, body: &[u8]) -> Option<&'a mut [u8]> {
     right.tables[CREDENTIALS].chunks_exact_mut(Credential::LENGTH).find(|row| row[..2] == body[..2])
 }
 
-const PROGRAMS: [(&str, Program); 45] = [
+/// The access row of a body without a period, in the tables afterwards.
+fn stored_access<'a>(case: &Case, right: &'a mut Seen) -> Option<&'a mut [u8]> {
+    let body = update_of(ACL2, case, right).filter(|body| body.len() == 28 && right.answer == 0)?;
+    right.tables[ACCESSES].chunks_exact_mut(Access::LENGTH).find(|row| row[..2] == body[..2])
+}
+
+/// Whether the period at the end of a row or body ends before it begins.
+fn turned(row: &[u8]) -> bool {
+    row.len() == 36 && row[28..32] > row[32..]
+}
+
+const PROGRAMS: [(&str, Program); 63] = [
     ("turns all away", |case, _| refused(8, case)),
     ("permits all", |case, right| if right.answer == 0 { right } else { refused(0, case) }),
     ("never alters the tables", |case, right| Seen { tables: case.tables, ..right }),
@@ -114,7 +162,7 @@ const PROGRAMS: [(&str, Program); 45] = [
     }),
     ("writes as much as fits", |case, right| match right.answer {
         15 => {
-            let whole = Case { room: 1000, ..case.clone() }.expected();
+            let whole = Case { room: 2000, ..case.clone() }.expected();
             let mut seen = refused(15, case);
             seen.buffer[..case.room].copy_from_slice(&whole.buffer[..case.room]);
             seen
@@ -232,24 +280,9 @@ const PROGRAMS: [(&str, Program); 45] = [
         [first, second, ..] if right.answer == 0 && first & 0x1F == 0 && second & 0x3F == 0 => refused(16, case),
         _ => right,
     }),
-    ("fits a role of any authority", |case, right| {
-        permitted_by(case, right, |tables| {
-            held_roles(tables).for_each(|role| role.authority = 0);
-            wanted_roles(&mut tables.accesses).for_each(|role| role.authority = 0);
-        })
-    }),
-    ("fits any role of an authority", |case, right| {
-        permitted_by(case, right, |tables| {
-            held_roles(tables).for_each(|role| role.number = 1);
-            wanted_roles(&mut tables.accesses).for_each(|role| role.number = 1);
-        })
-    }),
-    ("fits the low byte of an authority", |case, right| {
-        permitted_by(case, right, |tables| {
-            held_roles(tables).for_each(|role| role.authority %= 256);
-            wanted_roles(&mut tables.accesses).for_each(|role| role.authority %= 256);
-        })
-    }),
+    ("fits a role of any authority", |case, right| with_roles(case, right, |role| role.authority = 0)),
+    ("fits any role of an authority", |case, right| with_roles(case, right, |role| role.number = 1)),
+    ("fits the low byte of an authority", |case, right| with_roles(case, right, |role| role.authority %= 256)),
     ("refuses a body without an authority", |case, right| match update_of(CRED, case, &right) {
         Some(body) if body.len() == 21 => refused(10, case),
         _ => right,
@@ -299,6 +332,96 @@ const PROGRAMS: [(&str, Program); 45] = [
             if let Some(held) = rows.find(|row| row[..2] == body[..2]) {
                 let row = stored_row(&mut right, body).expect("stored");
                 row[20..22].copy_from_slice(&held[20..22]);
+            }
+        }
+        right
+    }),
+    ("ignores the clock", |case, right| holding(case, right, |_, _| true)),
+    ("ends a period a second early", |case, right| {
+        holding(case, right, |period, clock| period.first <= clock && clock < period.last)
+    }),
+    ("begins a period a second late", |case, right| {
+        holding(case, right, |period, clock| period.first < clock && clock <= period.last)
+    }),
+    ("ends a period a second late", |case, right| {
+        holding(case, right, |period, clock| period.first <= clock && clock <= period.last.saturating_add(1))
+    }),
+    ("begins a period a second early", |case, right| {
+        holding(case, right, |period, clock| period.first.saturating_sub(1) <= clock && clock <= period.last)
+    }),
+    ("looks at the first second only", |case, right| holding(case, right, |period, clock| period.first <= clock)),
+    ("looks at the last second only", |case, right| holding(case, right, |period, clock| clock <= period.last)),
+    ("compares clocks with a sign", |case, right| {
+        holding(case, right, |period, clock| period.first as i32 <= clock as i32 && clock as i32 <= period.last as i32)
+    }),
+    ("has clocks of 16 bits", |case, right| {
+        holding(case, right, |period, clock| period.first as u16 <= clock as u16 && clock as u16 <= period.last as u16)
+    }),
+    ("reads the clock from the wrong end", |case, right| {
+        holding(case, right, |period, clock| period.holds_at(clock.swap_bytes()))
+    }),
+    ("takes away rows whose period is over", |case, right| match Tables::read(&right.tables) {
+        Ok(mut tables) if right.answer == 0 => {
+            tables.accesses.retain(|row| case.clock <= row.period.last);
+            Seen { tables: tables.bytes(), ..right }
+        }
+        _ => right,
+    }),
+    ("replies with the rows in force", |case, mut right| {
+        let of_accesses = case.record.len() == 4 && case.record[1] == ACL2 << 6;
+        if of_accesses && right.reply > 16 {
+            let rows = right.buffer[16..right.reply].chunks(Access::LENGTH).filter_map(Access::read);
+            let left: Vec<u8> =
+                rows.filter(|row| row.period.holds_at(case.clock)).flat_map(|row| row.bytes()).collect();
+            let mut buffer = Case::pattern(right.buffer.len());
+            buffer[..16].copy_from_slice(&right.buffer[..16]);
+            buffer[16..16 + left.len()].copy_from_slice(&left);
+            right.reply = 16 + left.len();
+            right.buffer = buffer;
+        }
+        right
+    }),
+    ("refuses a body without a period", |case, right| match update_of(ACL2, case, &right) {
+        Some(body) if body.len() == 28 => refused(10, case),
+        _ => right,
+    }),
+    ("refuses a body with a period", |case, right| match update_of(ACL2, case, &right) {
+        Some(body) if body.len() == 36 => refused(10, case),
+        _ => right,
+    }),
+    ("stores a period that ends before it begins", |case, right| match update_of(ACL2, case, &right) {
+        Some(body) if right.answer == 10 && turned(body) => {
+            let mut straight = case.clone();
+            straight.record[4 + 28..4 + 32].fill(0);
+            straight.expected()
+        }
+        _ => right,
+    }),
+    ("takes a period that ends before it begins for sound", |case, right| {
+        if right.answer != 1 {
+            return right;
+        }
+        let mut straight = case.clone();
+        let held = usize::from(case.tables[ACCESS_COUNT]);
+        for row in straight.tables[ACCESSES].chunks_exact_mut(Access::LENGTH).take(held) {
+            if turned(row) {
+                row[28..32].fill(0);
+            }
+        }
+        Seen { tables: right.tables, ..straight.expected() }
+    }),
+    ("puts zeros behind a body without a period", |case, mut right| {
+        if let Some(row) = stored_access(case, &mut right) {
+            row[28..].fill(0);
+        }
+        right
+    }),
+    ("keeps the period that a shorter body leaves out", |case, mut right| {
+        let before = case.tables;
+        if let Some(row) = stored_access(case, &mut right) {
+            let mut rows = before[ACCESSES].chunks_exact(Access::LENGTH);
+            if let Some(held) = rows.find(|held| held[..2] == row[..2]) {
+                row[28..].copy_from_slice(&held[28..]);
             }
         }
         right
@@ -367,7 +490,7 @@ fn replaced(case: &Case, right: Listed, piece: &str, by: &str) -> Listed {
     other_text(case, right, |rows| text(&rows).replace(piece, by))
 }
 
-const WRITERS: [(&str, Writer); 38] = [
+const WRITERS: [(&str, Writer); 43] = [
     ("turns all away", |case, _| untouched(18, case)),
     ("never says 17", |case, right| match right.answer {
         17 => Listed::expected(&Case { tables: fresh_bytes(), ..case.clone() }),
@@ -506,6 +629,28 @@ const WRITERS: [(&str, Writer); 38] = [
     }),
     ("puts no comma before a wildcard", |case, right| replaced(case, right, r#"},{"wc""#, r#"}{"wc""#)),
     ("puts a comma behind the last row", |case, right| replaced(case, right, "}]}", "},]}")),
+    ("writes rows of a short period", |case, right| {
+        other_rows(case, right, |rows| rows.iter_mut().for_each(|row| row.period = Period::ALWAYS))
+    }),
+    ("writes rows whose period begins later", |case, right| {
+        other_rows(case, right, |rows| rows.iter_mut().for_each(|row| row.period.first = 0))
+    }),
+    ("writes rows whose period ends earlier", |case, right| {
+        other_rows(case, right, |rows| rows.iter_mut().for_each(|row| row.period.last = u32::MAX))
+    }),
+    ("stops at a row that it leaves out", |case, right| {
+        other_rows(case, right, |rows| {
+            let written = rows.iter().take_while(|row| row.period == Period::ALWAYS).count();
+            rows.truncate(written);
+        })
+    }),
+    ("puts a comma for a row that it leaves out", |case, right| {
+        other_text(case, right, |rows| {
+            let rows: Vec<String> = rows.into_iter().map(|row| text(&[row])).collect();
+            let inner = rows.iter().map(|text| &text[r#"{"aclist2":["#.len()..text.len() - 2]);
+            format!(r#"{{"aclist2":[{}]}}"#, inner.collect::<Vec<&str>>().join(","))
+        })
+    }),
     ("puts a space behind each comma", |case, right| replaced(case, right, ",", ", ")),
 ];
 

@@ -4,7 +4,7 @@ use fields::ace;
 use fields::cred;
 use rules::directory::resource_row;
 ghost use mathlib.Core.Path.{_≡_};
-ghost use Rattle.rules.specs.Permission.{subjectFits, resourceFits, rowFits, gives};
+ghost use Rattle.rules.specs.Permission.{subjectFits, resourceFits, inForce, rowFits, gives};
 
 fn subject_fits(cred: &[u8], connection: u16, ace: &[u8]) -> bool
     ensures { λ r. ⌜ r ≡ subjectFits (now (cred .entry)) connection (now (ace .entry)) ⌝ }
@@ -34,18 +34,25 @@ fn resource_fits(resource: u16, ace: &[u8]) -> bool
         | (ace::minus(ace) & (shown & e.unsecure))
 }
 
-fn row_fits(cred: &[u8], connection: u16, resource: u16, ace: &[u8]) -> bool
-    ensures { λ r. ⌜ r ≡ rowFits (now (cred .entry)) connection resource (now (ace .entry)) ⌝ }
+// Whether the clock stands in the row's period.
+fn in_force(clock: u32, ace: &[u8]) -> bool
+    ensures { λ r. ⌜ r ≡ inForce clock (now (ace .entry)) ⌝ }
 {
-    subject_fits(cred, connection, ace) & resource_fits(resource, ace)
+    (ace::first(ace) <= clock) & (clock <= ace::last(ace))
 }
 
-// What the row gives: its permission where its subject and its resources fit, else nothing.
-// Rules out: a row for the other connection that fits; a role of another authority that fits; a wildcard that reaches a security resource.
-pub fn row_gives(cred: &[u8], connection: u16, resource: u16, ace: &[u8]) -> u8
-    ensures { λ r. ⌜ r ≡ gives (now (cred .entry)) connection resource (now (ace .entry)) ⌝ }
+fn row_fits(clock: u32, cred: &[u8], connection: u16, resource: u16, ace: &[u8]) -> bool
+    ensures { λ r. ⌜ r ≡ rowFits clock (now (cred .entry)) connection resource (now (ace .entry)) ⌝ }
 {
-    if row_fits(cred, connection, resource, ace) {
+    subject_fits(cred, connection, ace) & resource_fits(resource, ace) & in_force(clock, ace)
+}
+
+// What the row gives: its permission where its subject, its resources and its period fit, else nothing.
+// Rules out: a row for the other connection that fits; a role of another authority that fits; a row that still fits after its last second; a wildcard that reaches a security resource.
+pub fn row_gives(clock: u32, cred: &[u8], connection: u16, resource: u16, ace: &[u8]) -> u8
+    ensures { λ r. ⌜ r ≡ gives clock (now (cred .entry)) connection resource (now (ace .entry)) ⌝ }
+{
+    if row_fits(clock, cred, connection, resource, ace) {
         return ace::permission(ace) as u8;
     }
     0

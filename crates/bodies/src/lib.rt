@@ -2,7 +2,7 @@
 // A body may leave out what the row has: that part then has its default.
 use rows::part;
 ghost use mathlib.Core.Path.{_≡_};
-ghost use Rattle.rules.specs.Bodies.{credRowOf};
+ghost use Rattle.rules.specs.Bodies.{credRowOf, aceRowOf};
 
 // The credential row that a body stores; zeros for a body of another length.
 // Rules out: an authority read from the type; the type left where a body of 21 bytes has it.
@@ -16,6 +16,27 @@ pub fn cred_row(b: &[u8]) -> [u8; 23]
         21 => {
             changes::put_row(&mut row, 20, 0, part(b, 0, 20));
             row[22] = b[20];
+        }
+        _ => {}
+    }
+    row
+}
+
+// The latest second, 4,294,967,295.
+const LATEST: [u8; 4] = [255; 4];
+
+// The access row that a body stores; zeros for a body of another length.
+// Rules out: a body of 28 bytes that holds for no second but 0; the period before the subject.
+pub fn ace_row(b: &[u8]) -> [u8; 36]
+    ensures { λ r. ⌜ r ≡ aceRowOf (now (b .entry)) ⌝ }
+{
+    let mut row = [0u8; 36];
+    let length = b.len();
+    match length {
+        36 => changes::put_row(&mut row, 36, 0, b),
+        28 => {
+            changes::put_row(&mut row, 28, 0, b);
+            changes::put_row(&mut row, 4, 8, &LATEST);
         }
         _ => {}
     }

@@ -1,11 +1,12 @@
 // The fields of an access row, an access control entry.
-// Number, subject kind, permission, wildcards, set of resources, subject. Each contract rules out the bit beside the field and one bit fewer.
+// Number, subject kind, permission, wildcards, set of resources, subject, period. Each contract rules out the bit beside the field and one bit fewer.
 use crate::bits::bit_at;
+use crate::bits::double_field;
 use crate::bits::field;
 use rows::part;
 ghost use mathlib.Core.Path.{_≡_};
 ghost use Rattle.rules.specs.Bits.{bits};
-ghost use Rattle.rules.specs.Bodies.{aceKind, acePermission, acePlus, aceMinus, aceStar, inSet, setKnown, aceSubject, aceAuthority, aceRole, aceConnection};
+ghost use Rattle.rules.specs.Bodies.{aceKind, acePermission, acePlus, aceMinus, aceStar, inSet, setKnown, aceSubject, aceAuthority, aceRole, aceConnection, aceFirst, aceLast};
 
 // 0 UUID, 1 role, 2 connection
 pub fn kind(row: &[u8]) -> u16
@@ -77,6 +78,20 @@ pub fn connection(row: &[u8]) -> u16
     ensures { λ n. ⌜ n ≡ aceConnection (now (row .entry)) ⌝ }
 {
     field(row, 223, 1)
+}
+
+// The first second of the row's period.
+pub fn first(row: &[u8]) -> u32
+    ensures { λ n. ⌜ n ≡ aceFirst (now (row .entry)) ⌝ }
+{
+    double_field(row, 224)
+}
+
+// The last second of the row's period.
+pub fn last(row: &[u8]) -> u32
+    ensures { λ n. ⌜ n ≡ aceLast (now (row .entry)) ⌝ }
+{
+    double_field(row, 256)
 }
 
 // The seven bits before the connection.

@@ -42,6 +42,16 @@ pub fn field(s: &[u8], start: usize, width: usize) -> u16
     ((three >> down) % size) as u16
 }
 
+// The field of 32 bits that starts at bit `start`: two of 16.
+pub fn double_field(s: &[u8], start: usize) -> u32
+    requires { ⌜ start < 4080 ⌝ }
+    ensures { λ n. ⌜ n ≡ bits (now (s .entry)) start 32 ⌝ }
+{
+    let high = field(s, start, 16);
+    let low = field(s, start + 16, 16);
+    high as u32 * 65536 + low as u32
+}
+
 // Bit i, counted from the most significant bit of the first byte.
 pub fn bit_at(s: &[u8], i: usize) -> u8
     ensures { λ b. ⌜ b ≡ bit (now (s .entry)) i ⌝ }

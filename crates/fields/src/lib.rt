@@ -6,6 +6,7 @@ pub mod body;
 pub mod cred;
 pub mod record;
 
+use bits::double_field;
 use bits::field;
 ghost use mathlib.Core.Path.{_≡_};
 ghost use Prim.Native.Nat.{min};
@@ -41,4 +42,12 @@ pub fn word(s: &[u8]) -> u16
     ensures { λ n. ⌜ n ≡ bits (now (s .entry)) 0 16 ⌝ }
 {
     field(s, 0, 16)
+}
+
+// The 32-bit number that the bytes start with.
+// Rules out: the low bytes first; a refusal of fewer than four bytes.
+pub fn double_word(s: &[u8]) -> u32
+    ensures { λ n. ⌜ n ≡ bits (now (s .entry)) 0 32 ⌝ }
+{
+    double_field(s, 0)
 }

@@ -18,7 +18,7 @@ pub fn stride_of(table: Table) -> usize
 {
     match table {
         Table::Creds => 23,
-        Table::Aces => 28,
+        Table::Aces => 36,
     }
 }
 
@@ -87,16 +87,17 @@ fn subject_storable(row: &[u8]) -> bool
 }
 
 // An access row that a body could store.
-// Rules out: a resource in the set that is unknown; role 0 as a subject.
+// Rules out: a resource in the set that is unknown; role 0 as a subject; a first second later than the last.
 pub fn ace_storable(row: &[u8]) -> bool
     ensures { λ r. ⌜ r ≡ aceStorable (now (row .entry)) ⌝ }
 {
-    if row.len() != 28 {
+    if row.len() != 36 {
         return false;
     }
     let numbered = word(row) != 0;
     let zeros = ace::zeros(row) == 0;
-    numbered & zeros & ace::set_known(row) & subject_storable(row)
+    let period = ace::first(row) <= ace::last(row);
+    numbered & zeros & ace::set_known(row) & subject_storable(row) & period
 }
 
 // A row of the table that a body could store.

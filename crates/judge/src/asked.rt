@@ -27,8 +27,8 @@ fn check_full(t: Tables, a: Action, record: &[u8]) -> Check
     if count_of(t, table) < capacity_of(table) {
         return Check::Pass;
     }
-    let row = body_of(record);
-    let Found::At(_) = place(t, table, 0, part(row, 0, 2)) else {
+    let b = body_of(record);
+    let Found::At(_) = place(t, table, 0, part(b, 0, 2)) else {
         return Check::Refuse(14);
     };
     Check::Pass

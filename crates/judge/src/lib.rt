@@ -24,17 +24,24 @@ ghost use Rattle.rules.specs.Defaults.{defaults};
 ghost use Rattle.rules.specs.Outcome.{outcome, replyTo, judgementOf};
 
 // What becomes of a record: the answer, the permission, the length of the reply, the places to store and the tables afterwards; the reply fills the lent buffer.
-// `creds` and `aces` are the build's default rows, for a RESET.
-// Rules out: a judge that refuses every record with 8; one that answers and never alters the tables; a byte written on a refusal.
-pub fn judge(t: Tables, creds: &[u8], aces: &[u8], record: &[u8], reply: &mut [u8]) -> Judgement
-    ensures said { λ r. ⌜ r ≡ judgementOf (outcome (defaults (now (creds .entry)) (now (aces .entry))) t (asked (now («record» .entry)) (length (now (reply .entry))))) ⌝ }
-    ensures buffer { λ _. ⌜ now (reply .exit) ≡ filled (now (reply .entry)) (replyTo (defaults (now (creds .entry)) (now (aces .entry))) t (asked (now («record» .entry)) (length (now (reply .entry)))) .contents) ⌝ }
+// `creds` and `aces` are the build's default rows, for a RESET; `clock` is the terminal's.
+// Rules out: a judge that refuses every record with 8; one that answers and never alters the tables; one that looks at no clock; a byte written on a refusal.
+pub fn judge(
+    t: Tables,
+    creds: &[u8],
+    aces: &[u8],
+    clock: u32,
+    record: &[u8],
+    reply: &mut [u8],
+) -> Judgement
+    ensures said { λ r. ⌜ r ≡ judgementOf (outcome (defaults (now (creds .entry)) (now (aces .entry))) t (asked clock (now («record» .entry)) (length (now (reply .entry))))) ⌝ }
+    ensures buffer { λ _. ⌜ now (reply .exit) ≡ filled (now (reply .entry)) (replyTo (defaults (now (creds .entry)) (now (aces .entry))) t (asked clock (now («record» .entry)) (length (now (reply .entry)))) .contents) ⌝ }
 {
     let c = check_form(t, record);
     let Check::Pass = c else {
         return refused(t, c);
     };
-    let permission = effective(t, record);
+    let permission = effective(clock, t, record);
     let a = action_of(record);
     let c = check_asked(t, permission, record, a);
     let Check::Pass = c else {

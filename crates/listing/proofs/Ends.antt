@@ -2,49 +2,60 @@
 use Prim.Native.Nat.{ℕ, zero, suc, _+_, _*_, _-_, _≤_, _<_, min}
 use native.Mathlib.Omega.{arith}
 use mathlib.Core.Path.{_≡_, refl, ap, sym, _∙_}
-use mathlib.Core.Bool.{Bool, true, false, not}
+use mathlib.Core.Bool.{Bool, true, false, not, _&&_, cond}
 use mathlib.Core.List.{List, [], _∷_, _++_, map, append-assoc, append-nil}
 use borrow.Author.Tests.{lt-ltb, le-ltb}
 use lib.ListN.{length, take, drop}
 use Rattle.text.specs.Text.{ascii}
 use Rattle.text.specs.Buffer.{largest, written, Puts}
 use Rattle.text.proofs.Buffers.{puts-then, written-start}
-use Rattle.rows.specs.Rows.{rowsOf, joined}
+use Rattle.rows.specs.Rows.{Row, rowsOf, without, joined}
 use Rattle.rows.proofs.Laws.{take-rest}
 use Rattle.rules.specs.declared.Tables.{Tables}
 use Rattle.rules.specs.Tables.{sound, rowsIn}
 use Rattle.rules.specs.Reading.{filled}
 use Rattle.rules.specs.Checks.{verdict, numberOf}
-use Rattle.office.specs.Office.{comma, separated, rowText, rowsText, listText, officeText, officeVerdict, officeReply}
+use Rattle.office.specs.Office.{comma, separated, rowText, rowsText, listText, seasonal, rowsWritten, officeText, officeVerdict, officeReply}
 use Rattle.office.proofs.Bounds.{text-short}
 
--- the text of so many rows
+-- the text of so many rows, those of a shorter period left out
 abbrev pub entries : Bool → ℕ → List ℕ → List ℕ
-entries first n b = separated first (map rowText (rowsOf 28 n b))
+entries first n b = separated first (map rowText (rowsWritten (rowsOf 36 n b)))
 
-one-more : (first : Bool) (n : ℕ) (b : List ℕ) → entries first (suc n) b ≡ (comma first ++ rowText (take 28 b)) ++ entries false n (drop 28 b)
-unfolding rowsOf
-one-more first n b = refl
+-- what one row adds
+abbrev pub entry : Bool → Row → List ℕ
+entry first w = cond (seasonal w) [] (comma first ++ rowText w)
+
+one-more : (first : Bool) (n : ℕ) (b : List ℕ) → entries first (suc n) b ≡ entry first (take 36 b) ++ entries (seasonal (take 36 b) && first) n (drop 36 b)
+unfolding rowsOf without
+one-more first n b = go (seasonal (take 36 b))
+  where
+    rest : List Row
+    rest = rowsWritten (rowsOf 36 n (drop 36 b))
+
+    go : (x : Bool) → separated first (map rowText (cond x rest (take 36 b ∷ rest))) ≡ cond x [] (comma first ++ rowText (take 36 b)) ++ separated (x && first) (map rowText rest)
+    go true = refl
+    go false = refl
 
 pub entries-take : (first : Bool) (n : ℕ) (b : List ℕ) → 0 < n
-    → entries first n b ≡ (comma first ++ rowText (take 28 b)) ++ entries false (n - 1) (take (length b - 28) (drop 28 b))
+    → entries first n b ≡ entry first (take 36 b) ++ entries (seasonal (take 36 b) && first) (n - 1) (take (length b - 36) (drop 36 b))
 entries-take first n b h =
     let e : n ≡ suc (n - 1) = omega arith in
     ap (λ (k : ℕ). entries first k b) e
     ∙ one-more first (n - 1) b
-    ∙ ap (λ (l : List ℕ). (comma first ++ rowText (take 28 b)) ++ entries false (n - 1) l) (sym (take-rest 28 b))
+    ∙ ap (λ (l : List ℕ). entry first (take 36 b) ++ entries (seasonal (take 36 b) && first) (n - 1) l) (sym (take-rest 36 b))
 
 pub entries-end : (first : Bool) (n : ℕ) (b : List ℕ) → n ≤ 0 → entries first n b ≡ []
-unfolding rowsOf
+unfolding rowsOf without
 entries-end first n b h = let e : n ≡ 0 = omega arith in ap (λ (k : ℕ). entries first k b) e
 
 -- the list, in the three parts in which the code puts it
 pub list-puts : {o o₁ o₂ o₃ : List ℕ} {at r₁ r₂ r₃ : ℕ} (t : Tables) (n : ℕ) → length o ≤ largest → n ≡ min (t .naces) 32
-    → Puts o at (ascii "{\"aclist2\":[") o₁ r₁ → Puts o₁ r₁ (rowsText (rowsOf 28 n (t .aces))) o₂ r₂ → Puts o₂ r₂ (ascii "]}") o₃ r₃
+    → Puts o at (ascii "{\"aclist2\":[") o₁ r₁ → Puts o₁ r₁ (rowsText (rowsWritten (rowsOf 36 n (t .aces)))) o₂ r₂ → Puts o₂ r₂ (ascii "]}") o₃ r₃
     → Puts o at (officeText t) o₃ r₃
 unfolding listText rowsIn joined
 list-puts t n h e p q r =
-    rw (← e, append-nil, ← append-assoc (ascii "{\"aclist2\":[") (rowsText (rowsOf 28 n (t .aces))) (ascii "]}")) (puts-then h (puts-then h p q) r)
+    rw (← e, append-nil, ← append-assoc (ascii "{\"aclist2\":[") (rowsText (rowsWritten (rowsOf 36 n (t .aces)))) (ascii "]}")) (puts-then h (puts-then h p q) r)
 
 -- ---- the three ends
 

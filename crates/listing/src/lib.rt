@@ -1,20 +1,23 @@
 // The tables' access list as office text, in a buffer that the caller lends.
 // The same walk measures, on an empty buffer, and writes: too short is decided before a byte is written.
 use entries::put_row;
+use fields::ace;
 use fields::held;
 use resources::put_comma;
+use rows::part;
 use rules::Tables;
-use tables::soundness::tables_sound;
+use soundness::tables_sound;
 use text::put;
 ghost use mathlib.Core.Path.{_≡_};
-ghost use mathlib.Core.List.{_++_};
+ghost use mathlib.Core.Bool.{cond};
+ghost use mathlib.Core.List.{[], _++_};
 ghost use Prim.Native.Nat.{_*_, _≤_};
 ghost use lib.ListN.{length};
 ghost use Rattle.text.specs.Buffer.{Puts};
 ghost use Rattle.rows.specs.Rows.{rowsOf};
 ghost use Rattle.rules.specs.Reading.{filled};
 ghost use Rattle.rules.specs.Checks.{numberOf};
-ghost use Rattle.office.specs.Office.{comma, rowText, rowsText, officeText, officeVerdict, officeReply};
+ghost use Rattle.office.specs.Office.{comma, rowText, rowsText, seasonal, rowsWritten, officeText, officeVerdict, officeReply};
 
 // What the office is told: 0, 17 or 18, and how many bytes were written.
 #[repr(C)]
@@ -23,25 +26,37 @@ pub struct Listed {
     pub length: usize,
 }
 
-fn put_entry(out: &mut [u8], at: usize, first: bool, row: &[u8]) -> usize
-    ensures { λ r. ⌜ Puts (now (out .entry)) at (comma first ++ rowText (now (row .entry))) (now (out .exit)) r ⌝ }
+// Whether a row holds for a shorter period than every second.
+fn is_seasonal(row: &[u8]) -> bool
+    ensures { λ r. ⌜ r ≡ seasonal (now (row .entry)) ⌝ }
 {
+    !((ace::first(row) == 0) & (ace::last(row) == 4294967295))
+}
+
+// A row after its comma, or nothing where the row is left out.
+fn put_entry(out: &mut [u8], at: usize, first: bool, row: &[u8]) -> usize
+    ensures { λ r. ⌜ Puts (now (out .entry)) at (cond (seasonal (now (row .entry))) [] (comma first ++ rowText (now (row .entry)))) (now (out .exit)) r ⌝ }
+{
+    if is_seasonal(row) {
+        return put(out, at, b"");
+    }
     let p = put_comma(out, at, first);
     put_row(out, p, row)
 }
 
 fn put_rows(out: &mut [u8], at: usize, rows: &[u8], count: usize) -> usize
-    requires { ⌜ count * 28 ≤ length (now rows) ⌝ }
-    ensures { λ r. ⌜ Puts (now (out .entry)) at (rowsText (rowsOf 28 count (now (rows .entry)))) (now (out .exit)) r ⌝ }
+    requires { ⌜ count * 36 ≤ length (now rows) ⌝ }
+    ensures { λ r. ⌜ Puts (now (out .entry)) at (rowsText (rowsWritten (rowsOf 36 count (now (rows .entry))))) (now (out .exit)) r ⌝ }
 {
     let mut p = at;
     let mut first = true;
     let mut rest = rows;
     let mut left = count;
     while 0 < left {
-        p = put_entry(out, p, first, &rest[..28]);
-        first = false;
-        rest = &rest[28..];
+        let row = part(rest, 0, 36);
+        p = put_entry(out, p, first, row);
+        first = is_seasonal(row) & first;
+        rest = &rest[36..];
         left -= 1;
     }
     p
@@ -57,7 +72,7 @@ fn put_list(out: &mut [u8], t: Tables) -> usize
 }
 
 // The tables' access list as office text: the answer, the length of the text, and the lent buffer afterwards.
-// Rules out: a byte written on 18; 18 where the text fits exactly; the text of tables that are not sound.
+// Rules out: a byte written on 18; 18 where the text fits exactly; the text of tables that are not sound; a row of a shorter period in the text.
 pub fn access_list(t: Tables, out: &mut [u8]) -> Listed
     ensures answer { λ r. ⌜ r .answer ≡ numberOf (officeVerdict t (length (now (out .entry)))) ⌝ }
     ensures length { λ r. ⌜ r .length ≡ length (officeReply t (length (now (out .entry)))) ⌝ }

@@ -50,7 +50,7 @@ pub fn place(t: Tables, table: Table, at: usize, key: &[u8]) -> Found
         }
         Table::Aces => {
             let count = held(t.naces, 32);
-            rows::find(&t.aces, 28, count, at, key)
+            rows::find(&t.aces, 36, count, at, key)
         }
     }
 }

@@ -1,25 +1,25 @@
 -- Theorem, U6: lists with different rows never give the same text.
--- Of rows that a body could store; that they are bytes is what the struct's types give.
+-- Of rows that a body could store and that hold for every second; that they are bytes is what the struct's types give.
 use Prim.Native.Nat.{ℕ, zero, suc, _+_, _*_, _^_, _<_, _≤_, min}
 use native.Mathlib.Omega.{arith}
 use mathlib.Core.Path.{_≡_, refl, ap, sym, _∙_}
-use mathlib.Core.Bool.{Bool, true, false, not, _&&_}
+use mathlib.Core.Bool.{Bool, true, false, not, _&&_, cond}
 use mathlib.Core.List.{List, [], _∷_, _++_, map, append-assoc, append-cancel-left, tail-eq-of-cons-eq}
 use lib.Dec.{eqb}
 use lib.ListN.{length, getD, take, drop}
 use borrow.Author.Tests.{eqb-true}
 use Rattle.text.specs.Text.{ascii, decimal}
-use Rattle.rows.specs.Rows.{Row, rowsOf, every, joined, same}
+use Rattle.rows.specs.Rows.{Row, rowsOf, every, without, joined, same}
 use Rattle.rules.specs.declared.Tables.{Tables}
 use Rattle.rules.specs.declared.Table.the-variants.{Aces}
 use Rattle.rules.specs.Bits.{bit, bits}
-use Rattle.rules.specs.Bodies.{rowNumber, aceKind, acePermission, acePlus, aceMinus, aceStar, inSet, setKnown, subjectStorable, aceStorable}
+use Rattle.rules.specs.Bodies.{rowNumber, aceKind, acePermission, acePlus, aceMinus, aceStar, inSet, setKnown, subjectStorable, aceStorable, aceFirst, aceLast}
 use Rattle.rules.specs.Tables.{rowsIn, rows, sound, storable}
 use Rattle.rules.proofs.Bools.{and-left, and-right, and-both}
 use Rattle.rules.proofs.BitLaws.{bits-small, bit-small}
 use Rattle.rules.proofs.SetLaws.{set-ranges}
 use Rattle.rules.proofs.Answers.{table-parts}
-use Rattle.office.specs.Office.{names, href, choices, chosen, picked, braced, separated, resourcesText, subjectText, rowText, rowsText, listText, officeText}
+use Rattle.office.specs.Office.{names, href, choices, chosen, picked, braced, separated, resourcesText, subjectText, rowText, rowsText, listText, always, seasonal, rowsWritten, officeText}
 use Rattle.office.proofs.Codes.{all, span, elements-told, all-picked, different, picked-told}
 use Rattle.office.proofs.Decimals.{decimal-told}
 use Rattle.office.proofs.Agree.{isByte, Agree, agree-none, agree-bit, agree-field, agree-all}
@@ -64,20 +64,26 @@ resources-told w v s t e =
 
 -- ---- rows
 
--- a row of bytes that a body could store
+-- a row of bytes that a body could store, for every second
 unfoldable pub storedRow : Row → Bool
-storedRow w = aceStorable w && all isByte w
+storedRow w = aceStorable w && all isByte w && always w
 
 record Stored (w : Row) : Type 0 where
-  size : length w ≡ 28
+  size : length w ≡ 36
   zeros : bits w 26 6 ≡ 0
   set : setKnown w 64 ≡ true
   subject : subjectStorable w ≡ true
   bytes : all isByte w ≡ true
+  first : aceFirst w ≡ 0
+  last : aceLast w ≡ 4294967295
 
 stored : (w : Row) → storedRow w ≡ true → Stored w
-unfolding storedRow aceStorable
-stored w h = search (and-left, and-right, eqb-true)
+unfolding storedRow aceStorable always
+stored w h =
+    let parts = and-left (aceStorable w && all isByte w) _ h in
+    let row = and-left (aceStorable w) _ parts in
+    let period = and-right (aceStorable w && all isByte w) _ h in
+    search (and-left, and-right, eqb-true)
 
 -- the numbers that are not in the set
 record Ranges (w : Row) : Type 0 where
@@ -130,7 +136,9 @@ module _ (w v : Row) (gw : Stored w) (gv : Stored v) (c : chosen w ≡ chosen v)
       let f : Agree w v 25 = field 24 1 e (wildcard 24 (flag 12)) in
       let g : Agree w v 26 = field 25 1 f (wildcard 25 (flag 13)) in
       let h : Agree w v 32 = field 26 6 g (gw .zeros ∙ sym (gv .zeros)) in
-      agree-all w v (gw .size ∙ sym (gv .size)) (gw .bytes) (gv .bytes) (rw (gw .size) (subject .bytes (set-agrees h)))
+      let i : Agree w v 256 = field 224 32 (subject .bytes (set-agrees h)) (gw .first ∙ sym (gv .first)) in
+      let j : Agree w v 288 = field 256 32 i (gw .last ∙ sym (gv .last)) in
+      agree-all w v (gw .size ∙ sym (gv .size)) (gw .bytes) (gv .bytes) (rw (gw .size) j)
 
 row-opens : (w : Row) (s : List ℕ) → getD (rowText w ++ s) 0 0 ≡ 123
 unfolding rowText joined ascii
@@ -157,19 +165,23 @@ lists-apart ws vs hw hv e =
 
 -- ---- the tables
 
-rows-stored : (n : ℕ) (b : List ℕ) → all isByte b ≡ true → every (storable Aces) (rowsOf 28 n b) ≡ true → all storedRow (rowsOf 28 n b) ≡ true
-unfolding storedRow rowsOf every
+rows-stored : (n : ℕ) (b : List ℕ) → all isByte b ≡ true → every (storable Aces) (rowsOf 36 n b) ≡ true → all storedRow (rowsWritten (rowsOf 36 n b)) ≡ true
+unfolding storedRow seasonal rowsOf every without
 rows-stored zero b h k = refl
 rows-stored (suc n) b h k =
-    and-both (storedRow (take 28 b)) _ (and-both (aceStorable (take 28 b)) _ (and-left _ _ k) (all-take isByte 28 b h))
-    (rows-stored n (drop 28 b) (all-drop isByte 28 b h) (and-right (aceStorable (take 28 b)) _ k))
+    go (always (take 36 b)) refl (rows-stored n (drop 36 b) (all-drop isByte 36 b h) (and-right (aceStorable (take 36 b)) _ k))
+  where
+    go : (x : Bool) → always (take 36 b) ≡ x → all storedRow (rowsWritten (rowsOf 36 n (drop 36 b))) ≡ true
+        → all storedRow (cond (not x) (rowsWritten (rowsOf 36 n (drop 36 b))) (take 36 b ∷ rowsWritten (rowsOf 36 n (drop 36 b)))) ≡ true
+    go true e more = and-both (storedRow (take 36 b)) _ (and-both (aceStorable (take 36 b) && all isByte (take 36 b)) _ (and-both (aceStorable (take 36 b)) _ (and-left _ _ k) (all-take isByte 36 b h)) e) more
+    go false e more = more
 
--- sound tables with the same office text have the same access rows
+-- sound tables with the same office text have the same access rows, but for those that are left out
 pub tables-apart : (t u : Tables) → sound t ≡ true → sound u ≡ true → all isByte (t .aces) ≡ true → all isByte (u .aces) ≡ true
-    → officeText t ≡ officeText u → rows Aces t ≡ rows Aces u
+    → officeText t ≡ officeText u → rowsWritten (rows Aces t) ≡ rowsWritten (rows Aces u)
 unfolding rowsIn
 tables-apart t u ht hu bt bu e =
-    lists-apart (rows Aces t) (rows Aces u)
+    lists-apart (rowsWritten (rows Aces t)) (rowsWritten (rows Aces u))
     (rows-stored (min (t .naces) 32) (t .aces) bt (table-parts Aces t ht .stores))
     (rows-stored (min (u .naces) 32) (u .aces) bu (table-parts Aces u hu .stores))
     e

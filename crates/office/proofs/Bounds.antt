@@ -12,6 +12,7 @@ use borrow.Author.Tests.{lt-ltb, le-ltb}
 use Rattle.text.specs.Text.{ascii, decimalIn, decimal}
 use Rattle.rows.specs.Rows.{Row, rowsOf, joined}
 use Rattle.rows.proofs.Laws.{length-rowsOf}
+use Rattle.rows.proofs.Kept.{length-without}
 use Rattle.rules.specs.declared.Tables.{Tables}
 use Rattle.rules.specs.Bits.{bits}
 use Rattle.rules.specs.Bodies.{aceKind, aceSubject, aceConnection, acePermission}
@@ -20,7 +21,7 @@ use Rattle.rules.specs.Tables.{rowsIn, sound}
 use Rattle.rules.specs.Checks.{verdict}
 use Rattle.rules.proofs.Bools.{cond-cases}
 use Rattle.rules.proofs.BitLaws.{bits-below}
-use Rattle.office.specs.Office.{dashed, dash, hexByte, uuidFrom, uuidText, comma, separated, uuidSubject, roleSubject, connectionSubject, subjectText, href, choices, chosen, picked, braced, resourcesText, rowText, rowsText, listText, officeText, officeVerdict}
+use Rattle.office.specs.Office.{dashed, dash, hexByte, uuidFrom, uuidText, comma, separated, uuidSubject, roleSubject, connectionSubject, subjectText, href, choices, chosen, picked, braced, resourcesText, rowText, rowsText, listText, seasonal, rowsWritten, officeText, officeVerdict}
 
 -- ---- numbers
 
@@ -128,7 +129,10 @@ list-length ws h = simp length-append (omega (arith, all-rows ws h))
 
 pub text-short : (t : Tables) → length (officeText t) ≤ 11693
 unfolding rowsIn
-text-short t = list-length (rowsOf 28 (min (t .naces) 32) (t .aces)) (rw (length-rowsOf 28 (min (t .naces) 32) (t .aces)) (min-le-right (t .naces) 32))
+text-short t =
+    let ws = rowsOf 36 (min (t .naces) 32) (t .aces) in
+    let few : length ws ≤ 32 = rw (length-rowsOf 36 (min (t .naces) 32) (t .aces)) (min-le-right (t .naces) 32) in
+    list-length (rowsWritten ws) (omega (arith, length-without seasonal ws, few))
 
 pub never-18 : (t : Tables) → sound t ≡ true → officeVerdict t 11693 ≡ Pass
 unfolding officeVerdict verdict

@@ -1,19 +1,19 @@
--- U6, the office text of an access list: OCF's JSON, in ASCII with no white space.
--- The rows stand in table order; 17 for tables that are not sound, then 18 for a buffer too short for the text.
+-- The office text of an access list (U6): OCF's JSON, of the rows that hold for every second (U8), as they stand in the table.
+-- And the answer to a call for it, with the buffer afterwards.
 use Prim.Native.Nat.{ℕ, suc, _+_, _/_, _%_}
 use Prim.Native.String.{String}
-use mathlib.Core.Bool.{Bool, true, false, cond, not}
+use mathlib.Core.Bool.{Bool, true, false, cond, not, _&&_}
 use mathlib.Core.List.{List, [], _∷_, _++_, map}
 use lib.Dec.{eqb, ltb}
 use lib.ListN.{length}
 use Rattle.text.specs.Text.{ascii, decimal}
-use Rattle.rows.specs.Rows.{Row, joined}
+use Rattle.rows.specs.Rows.{Row, joined, without}
 use Rattle.rules.specs.declared.Tables.{Tables}
 use Rattle.rules.specs.declared.Table.the-variants.{Aces}
 use Rattle.rules.specs.declared.Check.{Check}
 use Rattle.rules.specs.declared.Check.the-variants.{Pass, Refuse}
 use Rattle.rules.specs.Lookup.{lookup}
-use Rattle.rules.specs.Bodies.{rowNumber, aceKind, acePermission, acePlus, aceMinus, aceStar, inSet, aceSubject, aceAuthority, aceRole, aceConnection}
+use Rattle.rules.specs.Bodies.{rowNumber, aceKind, acePermission, acePlus, aceMinus, aceStar, inSet, aceSubject, aceAuthority, aceRole, aceConnection, aceFirst, aceLast}
 use Rattle.rules.specs.Tables.{rows, sound}
 use Rattle.rules.specs.Checks.{verdict}
 
@@ -117,8 +117,19 @@ rowsText ws = separated true (map rowText ws)
 unfoldable pub listText : List Row → List ℕ
 listText ws = joined (ascii "{\"aclist2\":[" ∷ rowsText ws ∷ ascii "]}" ∷ [])
 
+-- the row holds for every second (U8)
+unfoldable pub always : Row → Bool
+always w = eqb (aceFirst w) 0 && eqb (aceLast w) 4294967295
+
+unfoldable pub seasonal : Row → Bool
+seasonal w = not (always w)
+
+-- rows of a shorter period are left out
+abbrev pub rowsWritten : List Row → List Row
+rowsWritten ws = without seasonal ws
+
 abbrev pub officeText : Tables → List ℕ
-officeText t = listText (rows Aces t)
+officeText t = listText (rowsWritten (rows Aces t))
 
 -- ---- the answer, the length and the lent buffer afterwards
 

@@ -43,16 +43,23 @@ fn sender_connection(record: &[u8]) -> u16
 }
 
 // What the access rows give together.
-fn rows_give(aces: &[u8], count: usize, cred: &[u8], connection: u16, resource: u16) -> u8
-    requires { ⌜ count * 28 ≤ length (now aces) ⌝ }
-    ensures { λ r. ⌜ r ≡ unionOf (gives (now (cred .entry)) connection resource) (rowsOf 28 count (now (aces .entry))) ⌝ }
+fn rows_give(
+    clock: u32,
+    aces: &[u8],
+    count: usize,
+    cred: &[u8],
+    connection: u16,
+    resource: u16,
+) -> u8
+    requires { ⌜ count * 36 ≤ length (now aces) ⌝ }
+    ensures { λ r. ⌜ r ≡ unionOf (gives clock (now (cred .entry)) connection resource) (rowsOf 36 count (now (aces .entry))) ⌝ }
 {
     let mut total: u8 = 0;
     let mut rest = aces;
     let mut left = count;
     while 0 < left {
-        total = total | row_gives(cred, connection, resource, &rest[..28]);
-        rest = &rest[28..];
+        total = total | row_gives(clock, cred, connection, resource, &rest[..36]);
+        rest = &rest[36..];
         left -= 1;
     }
     total
@@ -87,9 +94,9 @@ fn all_if(test: bool) -> u8
 }
 
 // The effective permission of a record's sender on its resource.
-// Rules out: the first fitting row alone; a row owner's rights on another resource.
-pub fn effective(t: Tables, record: &[u8]) -> u8
-    ensures { λ r. ⌜ r ≡ permission t (now («record» .entry)) ⌝ }
+// Rules out: the first fitting row alone; a row owner's rights on another resource; another record's clock.
+pub fn effective(clock: u32, t: Tables, record: &[u8]) -> u8
+    ensures { λ r. ⌜ r ≡ permission clock t (now («record» .entry)) ⌝ }
 {
     let ncreds = held(t.ncreds, 24);
     let naces = held(t.naces, 32);
@@ -97,7 +104,7 @@ pub fn effective(t: Tables, record: &[u8]) -> u8
     let connection = sender_connection(record);
     let creds = t.creds;
     let cred = credential_row(&creds, ncreds, record);
-    let granted = rows_give(&t.aces, naces, cred, connection, resource);
+    let granted = rows_give(clock, &t.aces, naces, cred, connection, resource);
     let e = resource_row(resource as usize);
     let owner = all_if(e.configuration & is_owner(t, cred, resource));
     let unowned = all_if(e.configuration & (t.owned == 0));

@@ -35,11 +35,11 @@ fn own_length(t: Tables, resource: u16) -> usize
 
 // The length of a resource's rows.
 fn rows_length(t: Tables, resource: u16) -> usize
-    ensures { λ r. ⌜ (r ≡ length (rowBytes t resource)) × (r ≤ 896) ⌝ }
+    ensures { λ r. ⌜ (r ≡ length (rowBytes t resource)) × (r ≤ 1152) ⌝ }
 {
     match resource {
         2 => held(t.ncreds, 24) * 23,
-        3 => held(t.naces, 32) * 28,
+        3 => held(t.naces, 32) * 36,
         _ => 0,
     }
 }
@@ -89,7 +89,7 @@ fn put_rows(out: &mut [u8], at: usize, t: Tables, resource: u16) -> usize
             put(out, at, part(&t.creds, 0, n))
         }
         3 => {
-            let n = held(t.naces, 32) * 28;
+            let n = held(t.naces, 32) * 36;
             put(out, at, part(&t.aces, 0, n))
         }
         _ => put(out, at, b""),

@@ -15,7 +15,7 @@ use Rattle.text.specs.Text.{ascii, decimal}
 use Rattle.text.specs.Buffer.{written, largest, Puts}
 use Rattle.text.proofs.Decimals.{decimal-length}
 use Rattle.text.proofs.Buffers.{puts-then, puts-length, Writing, writing-start, writing-step, writing-end}
-use Rattle.report.specs.Run.{lent, header, line, lineFor, cut, lengthOf, firstOf, restOf, isCut, linesFrom, lines, runText}
+use Rattle.report.specs.Run.{header, line, lineFor, cut, lengthOf, firstOf, restOf, isCut, linesFrom, lines, runText}
 use Rattle.report.specs.Room.{LineFits, LinesFit, Whole}
 
 -- ---- a line
@@ -43,10 +43,10 @@ pub record Running (s o : List ℕ) (at : ℕ) (out : List ℕ) (p : ℕ) (t : T
   pub steps : ℕ
   pub enough : length rest ≤ steps
   pub writing : Writing o at (lines s) (linesFrom steps t place rest) out p
-  -- each record took at least two bytes, so the place fits its type
-  pub places : 2 * place + length rest ≤ length s + 2
-  -- nine bytes of text at most for each byte of the input
-  pub short : length s ≤ 32768 → length (lines s) + 9 * length rest ≤ 294912 + length (linesFrom steps t place rest)
+  -- each record took at least six bytes, so the place fits its type
+  pub places : 6 * place + length rest ≤ length s + 6
+  -- four bytes of text at most for each byte of the input
+  pub short : length s ≤ 32768 → length (lines s) + 4 * length rest ≤ 131072 + length (linesFrom steps t place rest)
 
 pub run-start : (s o : List ℕ) {at : ℕ} {t : Tables} → length o ≤ largest → at ≤ largest → t ≡ fresh noDefaults → Running s o at o at t s 1
 unfolding lines
@@ -67,7 +67,7 @@ module _ {s o : List ℕ} {at : ℕ} {out : List ℕ} {p : ℕ} {t : Tables} {re
   -- one step of the definition
   step : 0 < length rest
       → linesFrom (i .steps) t place rest
-      ≡ cond (isCut rest) cut (lineFor t place (firstOf rest) ++ linesFrom (i .steps - 1) (tablesAfter noDefaults t (lent (firstOf rest))) (place + 1) (restOf rest))
+      ≡ cond (isCut rest) cut (lineFor t place (firstOf rest) ++ linesFrom (i .steps - 1) (tablesAfter noDefaults t (firstOf rest)) (place + 1) (restOf rest))
   unfolding linesFrom
   step h =
       let k : i .steps ≡ suc (i .steps - 1) = omega (arith, i .enough) in
@@ -81,23 +81,23 @@ module _ {s o : List ℕ} {at : ℕ} {out : List ℕ} {p : ℕ} {t : Tables} {re
       (writing-end (i .writing) e, λ k. omega (arith, i .short k, ap length e))
 
   -- a record that is not all there
-  pub run-cut : {out′ : List ℕ} {r : ℕ} → 0 < length rest → length rest < 2 + lengthOf rest → Puts out p cut out′ r
+  pub run-cut : {out′ : List ℕ} {r : ℕ} → 0 < length rest → length rest < 6 + lengthOf rest → Puts out p cut out′ r
       → Puts o at (lines s) out′ r × LinesFit s
   run-cut h c q =
-      let e : linesFrom (i .steps) t place rest ≡ cut ++ [] = rw (step h, lt-ltb (length rest) (2 + lengthOf rest) c, append-nil) in
+      let e : linesFrom (i .steps) t place rest ≡ cut ++ [] = rw (step h, lt-ltb (length rest) (6 + lengthOf rest) c, append-nil) in
       (writing-end (writing-step cut [] (i .writing) e q) refl, λ k. omega (arith, i .short k, ap length e ∙ length-append cut [], cut-length))
 
   -- a record, and what the judge says of it
-  pub run-turn : {out′ : List ℕ} {r : ℕ} {rest′ : List ℕ} {j : Judgement} → 0 < length rest → 2 + lengthOf rest ≤ length rest
-      → j ≡ judgementOf (outcome noDefaults t (lent (firstOf rest))) → rest′ ≡ restOf rest
+  pub run-turn : {out′ : List ℕ} {r : ℕ} {rest′ : List ℕ} {j : Judgement} → 0 < length rest → 6 + lengthOf rest ≤ length rest
+      → j ≡ judgementOf (outcome noDefaults t (firstOf rest)) → rest′ ≡ restOf rest
       → Puts out p (line place (j .answer) (j .permission) (j .tables .state)) out′ r
       → LineFits place (j .answer) (j .permission) (j .tables .state)
       → Running s o at out′ r (j .tables) rest′ (place + 1)
   run-turn {out′} {r} {rest′} {j} h c e d q l =
-      let len : length rest′ ≡ length rest - (2 + lengthOf rest) = ap length d ∙ length-drop (2 + lengthOf rest) rest in
+      let len : length rest′ ≡ length rest - (6 + lengthOf rest) = ap length d ∙ length-drop (6 + lengthOf rest) rest in
       let text = line place (j .answer) (j .permission) (j .tables .state) in
       let more = linesFrom (i .steps - 1) (j .tables) (place + 1) rest′ in
-      let two : linesFrom (i .steps) t place rest ≡ text ++ more = rw (e, d, step h, le-ltb (length rest) (2 + lengthOf rest) c) in
+      let two : linesFrom (i .steps) t place rest ≡ text ++ more = rw (e, d, step h, le-ltb (length rest) (6 + lengthOf rest) c) in
       record {
         steps = i .steps - 1;
         enough = omega (arith, i .enough);

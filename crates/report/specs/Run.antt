@@ -1,4 +1,4 @@
--- The text of a run, as document 01 has it under "A run, whole".
+-- The text of a run: "A run, whole" of document 01, with the clocks of U8.
 -- The records are taken from the front of the input, one after the other, and each is judged on the tables that the one before left.
 use mathlib.Core.Bool.{Bool, cond}
 use mathlib.Core.List.{List, [], _++_}
@@ -15,35 +15,38 @@ use Rattle.rules.specs.Outcome.{replyTo, tablesAfter}
 unfoldable pub header : List ℕ
 header = ascii "n answer perm state\n"
 
--- "the record's place from 1, the answer, the permission, the state afterwards, in decimal with one space between"
+-- place of the record in the run, answer, permission and the state it leaves: decimals, a space between each two
 unfoldable pub line : ℕ → ℕ → ℕ → ℕ → List ℕ
 line place answer permission state =
     decimal place ++ ascii " " ++ decimal answer ++ ascii " " ++ decimal permission ++ ascii " " ++ decimal state ++ ascii "\n"
 
 -- each record is lent a buffer that fits any reply
-abbrev pub lent : List ℕ → Request
-lent r = asked r 912
+abbrev pub lent : ℕ → List ℕ → Request
+lent clock r = asked clock r 1168
 
 -- of a record that is judged on the tables t
-abbrev pub lineFor : Tables → ℕ → List ℕ → List ℕ
-lineFor t place r = line place (replyTo noDefaults t (lent r) .answer) (replyTo noDefaults t (lent r) .permission) (tablesAfter noDefaults t (lent r) .state)
+abbrev pub lineFor : Tables → ℕ → Request → List ℕ
+lineFor t place q = line place (replyTo noDefaults t q .answer) (replyTo noDefaults t q .permission) (tablesAfter noDefaults t q .state)
 
 unfoldable pub cut : List ℕ
 cut = ascii "cut\n"
 
--- the 16-bit length that the input starts with, the record after it, and the input after that
-abbrev pub lengthOf : List ℕ → ℕ
-lengthOf s = bits s 0 16
+-- the 32-bit clock that the input starts with (U8), the 16-bit length and the record after it, and the input after that
+abbrev pub clockOf : List ℕ → ℕ
+clockOf s = bits s 0 32
 
-abbrev pub firstOf : List ℕ → List ℕ
-firstOf s = take (lengthOf s) (drop 2 s)
+abbrev pub lengthOf : List ℕ → ℕ
+lengthOf s = bits (drop 4 s) 0 16
+
+abbrev pub firstOf : List ℕ → Request
+firstOf s = lent (clockOf s) (take (lengthOf s) (drop 6 s))
 
 abbrev pub restOf : List ℕ → List ℕ
-restOf s = drop (2 + lengthOf s) s
+restOf s = drop (6 + lengthOf s) s
 
--- "a length whose record isn't all there, or a lone byte"
+-- a clock cut short or with no length after it, or a length whose record isn't all there
 abbrev pub isCut : List ℕ → Bool
-isCut s = ltb (length s) (2 + lengthOf s)
+isCut s = ltb (length s) (6 + lengthOf s)
 
 -- the lines for the input s, in at most so many steps
 unfoldable pub linesFrom : ℕ → Tables → ℕ → List ℕ → List ℕ
@@ -51,9 +54,9 @@ linesFrom zero t place s = []
 linesFrom (suc k) t place s =
     cond (eqb (length s) 0) []
     (cond (isCut s) cut
-    (lineFor t place (firstOf s) ++ linesFrom k (tablesAfter noDefaults t (lent (firstOf s))) (place + 1) (restOf s)))
+    (lineFor t place (firstOf s) ++ linesFrom k (tablesAfter noDefaults t (firstOf s)) (place + 1) (restOf s)))
 
--- from fresh tables; a record takes at least two bytes, so as many steps as there are bytes are enough
+-- from fresh tables; a record takes at least six bytes, so as many steps as there are bytes are enough
 unfoldable pub lines : List ℕ → List ℕ
 lines s = linesFrom (length s) (fresh noDefaults) 1 s
 

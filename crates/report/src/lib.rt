@@ -1,5 +1,8 @@
-// The text of a run: the input is cut into records after 16-bit lengths, and a line for each is written into a lent buffer.
+// The text of a run: the input is cut into records after 32-bit clocks and 16-bit lengths, and a line for each is written into a lent buffer.
 // Each record is judged on the tables that the one before handed back.
+use fields::after;
+use fields::double_word;
+use fields::word;
 use rules::Judgement;
 use rules::Tables;
 use text::put;
@@ -48,11 +51,11 @@ fn start_tables() -> Tables
 }
 
 // Judges a record with a buffer that fits any reply.
-fn judge_one(t: Tables, record: &[u8]) -> Judgement
-    ensures { λ r. ⌜ r ≡ judgementOf (outcome noDefaults t (lent (now («record» .entry)))) ⌝ }
+fn judge_one(t: Tables, clock: u32, record: &[u8]) -> Judgement
+    ensures { λ r. ⌜ r ≡ judgementOf (outcome noDefaults t (lent clock (now («record» .entry)))) ⌝ }
 {
-    let mut reply = [0u8; 912];
-    judge::judge(t, b"", b"", record, &mut reply)
+    let mut reply = [0u8; 1168];
+    judge::judge(t, b"", b"", clock, record, &mut reply)
 }
 
 // The lines of a run, from fresh tables.
@@ -65,11 +68,11 @@ fn put_lines(out: &mut [u8], at: usize, input: &[u8]) -> usize
     let mut rest = input;
     let mut place: usize = 1;
     while 0 < rest.len() {
-        let end = 2 + fields::word(rest) as usize;
+        let end = 6 + word(after(rest, 4)) as usize;
         if rest.len() < end {
             return put_cut(out, p);
         }
-        let j = judge_one(t, &rest[2..end]);
+        let j = judge_one(t, double_word(rest), &rest[6..end]);
         let next = j.tables;
         p = put_line(out, p, place, j.answer, j.permission, next.state);
         t = next;
@@ -80,8 +83,8 @@ fn put_lines(out: &mut [u8], at: usize, input: &[u8]) -> usize
 }
 
 // The text of a run, as much of it as the buffer holds; the result is how many bytes that is.
-// `whole`: a buffer of 294,932 bytes holds all of it, for every run that the run program reads. `part`: a caller may take `&out[..r]`.
-// Rules out: every record judged on the first tables; a cut record judged.
+// `whole`: a buffer of 131,092 bytes holds all of it, for every run that the run program reads. `part`: a caller may take `&out[..r]`.
+// Rules out: every record judged on the first tables; every record judged at the first clock; a cut record judged.
 pub fn run_text(input: &[u8], out: &mut [u8]) -> usize
     ensures count { λ r. ⌜ r ≡ min (length (runText (now (input .entry)))) (length (now (out .entry))) ⌝ }
     ensures buffer { λ r. ⌜ now (out .exit) ≡ written (now (out .entry)) 0 (runText (now (input .entry))) ⌝ }

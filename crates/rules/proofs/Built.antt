@@ -86,13 +86,14 @@ built-isolation d chosen t qs cs built premise =
 
 -- ---- of any functions that meet the contracts
 
--- a record and the buffer lent with it
+-- the clock, a record and the buffer lent with it
 pub record Handed : Type 0 where
+  pub clock : ℕ
   pub bytes : List ℕ
   pub lent : List ℕ
 
 abbrev pub request : Handed → Request
-request h = asked (h .bytes) (length (h .lent))
+request h = asked (h .clock) (h .bytes) (length (h .lent))
 
 module _ (d : Defaults) (judge : Tables → Handed → Judgement) (buffer : Tables → Handed → List ℕ) (payload : List ℕ → ℕ → List ℕ)
     (judges : (t : Tables) (h : Handed) → judge t h ≡ judgementOf (outcome d t (request h)))

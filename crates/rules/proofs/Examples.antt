@@ -14,10 +14,10 @@ use Rattle.rules.specs.declared.Table.the-variants.{Creds, Aces}
 use Rattle.rules.specs.Bits.{bit, bits, word}
 use Rattle.rules.specs.Directory.{resourceOf, someSecurity}
 use Rattle.rules.specs.Record.{Request, asked, Sender, unauthenticated, partner, sender, payloadOf}
-use Rattle.rules.specs.Bodies.{nil, isNil, ownerBody, stateBody, credStorable, credRowOf, setKnown, subjectStorable, aceStorable}
+use Rattle.rules.specs.Bodies.{nil, isNil, ownerBody, stateBody, credStorable, credRowOf, setKnown, subjectStorable, aceStorable, everySecond, aceRowOf}
 use Rattle.rules.specs.Tables.{rowsIn, withRows, rowsSound, headSound, sound, empty, rowOwner}
 use Rattle.rules.specs.Defaults.{Defaults, noDefaults, goodList, defaultRows, fresh}
-use Rattle.rules.specs.Permission.{has, subjectFits, resourceFits, rowFits, gives, names, isOwner, byOwner, byNoOwner, effectiveOf, effective, permission}
+use Rattle.rules.specs.Permission.{has, subjectFits, resourceFits, inForce, rowFits, gives, names, isOwner, byOwner, byNoOwner, effectiveOf, effective, permission}
 use Rattle.rules.specs.Action.{ifAllowed, updateDoxm, updatePstat, storeRow, updateRows, updateAction, deleteNumber, deleteAces, deleteCreds, deleteAction, readAction, securityAction, action}
 use Rattle.rules.specs.States.{writeAllowed, moveListed, moveAllowed}
 use Rattle.rules.specs.declared.Places.{Places}
@@ -32,12 +32,12 @@ use Rattle.rules.proofs.Isolated.{isolation}
 
 -- `unfolding definitions` opens all that its own line names
 definitions : Unit {0}
-unfolding ones onesIn rowsBefore gapOf rowsOf joined packed allZero same hasKey numberedAs placeFrom firstRow some every without distinctNumbers stored unionOf withRow bit bits has resourceOf word sender payloadOf nil isNil ownerBody stateBody credStorable credRowOf setKnown subjectStorable aceStorable rowsIn rowsSound headSound sound empty goodList defaultRows fresh rowOwner subjectFits resourceFits rowFits gives names isOwner byOwner byNoOwner effectiveOf permission ownBody rowBytes contents reads replyOf tooShort ifAllowed updateDoxm updatePstat storeRow updateRows updateAction deleteNumber deleteAces deleteCreds deleteAction readAction securityAction action writeAllowed moveListed moveAllowed badLength noVerb zeroBitSet mismatch unknownResource noCredential noEndpoint notPermitted offered notOffered verdict entered outcomeAt outcome
+unfolding ones onesIn rowsBefore gapOf rowsOf joined packed allZero same hasKey numberedAs placeFrom firstRow some every without distinctNumbers stored unionOf withRow bit bits has resourceOf word sender payloadOf nil isNil ownerBody stateBody credStorable credRowOf setKnown subjectStorable aceStorable everySecond aceRowOf rowsIn rowsSound headSound sound empty goodList defaultRows fresh rowOwner subjectFits resourceFits inForce rowFits gives names isOwner byOwner byNoOwner effectiveOf permission ownBody rowBytes contents reads replyOf tooShort ifAllowed updateDoxm updatePstat storeRow updateRows updateAction deleteNumber deleteAces deleteCreds deleteAction readAction securityAction action writeAllowed moveListed moveAllowed badLength noVerb zeroBitSet mismatch unknownResource noCredential noEndpoint notPermitted offered notOffered verdict entered outcomeAt outcome
 definitions = tt
 
--- a record with a buffer that fits any reply
+-- a record at clock 0, with a buffer that fits any reply
 abbrev lent : List ℕ → Request
-lent r = asked r 912
+lent r = asked 0 r 1168
 
 abbrev answer : Tables → List ℕ → ℕ
 answer t r = replyTo noDefaults t (lent r) .answer
@@ -61,7 +61,7 @@ credRows (suc n) = credRow (suc n) ∷ credRows n
 
 -- 25 credential rows are claimed where 24 stand: nothing else is wrong
 overfull : Tables
-overfull = record { state = 1; owned = 0; ncreds = 25; naces = 0; devowner = nil; rowners = replicate 64 0; creds = packed 552 (credRows 24); aces = replicate 896 0 }
+overfull = record { state = 1; owned = 0; ncreds = 25; naces = 0; devowner = nil; rowners = replicate 64 0; creds = packed 552 (credRows 24); aces = replicate 1152 0 }
 
 -- state 2, the owner in row 5
 pub owned5 : Tables
@@ -123,9 +123,13 @@ worked = refl
 
 -- ---- readings to guard against
 
--- an access row: number, kind, permission, wildcards, set bytes, subject
+-- a body of 28 bytes: number, kind, permission, wildcards, set bytes, subject
+pub aceBody : ℕ → ℕ → ℕ → ℕ → List ℕ → List ℕ → List ℕ
+aceBody n kind permission wild set subject = 0 ∷ n ∷ (kind * 64 + permission * 2 + wild / 4) ∷ (wild % 4 * 64) ∷ (set ++ subject)
+
+-- the row that it stores
 pub aceRow : ℕ → ℕ → ℕ → ℕ → List ℕ → List ℕ → Row
-aceRow n kind permission wild set subject = 0 ∷ n ∷ (kind * 64 + permission * 2 + wild / 4) ∷ (wild % 4 * 64) ∷ (set ++ subject)
+aceRow n kind permission wild set subject = aceBody n kind permission wild set subject ++ everySecond
 
 -- the set of resource 8 alone, and the empty set
 pub weight : List ℕ
@@ -145,16 +149,16 @@ serving ws = withState (withRows Aces owned5 ws) 3
 -- each reading, and beside it that the same row does fit where it should
 pub guards :
     -- the first fitting row decides
-    effective (serving (aceRow 1 2 1 0 weight (connected 0) ∷ aceRow 2 2 4 0 weight (connected 0) ∷ [])) unauthenticated 8
+    effective 0 (serving (aceRow 1 2 1 0 weight (connected 0) ∷ aceRow 2 2 4 0 weight (connected 0) ∷ [])) unauthenticated 8
     -- a wildcard reaches acl2
-    ∷ effective (serving (aceRow 1 2 31 7 none (connected 0) ∷ [])) unauthenticated 3
-    ∷ effective (serving (aceRow 1 2 31 7 none (connected 0) ∷ [])) unauthenticated 8
+    ∷ effective 0 (serving (aceRow 1 2 31 7 none (connected 0) ∷ [])) unauthenticated 3
+    ∷ effective 0 (serving (aceRow 1 2 31 7 none (connected 0) ∷ [])) unauthenticated 8
     -- a nil row owner fits a sender without a credential
-    ∷ effective (serving []) unauthenticated 3
-    ∷ effective (serving []) (partner 5) 3
+    ∷ effective 0 (serving []) unauthenticated 3
+    ∷ effective 0 (serving []) (partner 5) 3
     -- a row for auth-crypt also fits anon-clear
-    ∷ effective (serving (aceRow 1 2 31 1 none (connected 1) ∷ [])) unauthenticated 8
-    ∷ effective (serving (aceRow 1 2 31 1 none (connected 1) ∷ [])) (partner 5) 8
+    ∷ effective 0 (serving (aceRow 1 2 31 1 none (connected 1) ∷ [])) unauthenticated 8
+    ∷ effective 0 (serving (aceRow 1 2 31 1 none (connected 1) ∷ [])) (partner 5) 8
     -- a body is judged before permission
     ∷ answer (serving []) (0x40 ∷ 0x40 ∷ 0x00 ∷ 0x00 ∷ 0xa0 ∷ [])
     ∷ answer (serving []) (0x50 ∷ 0x40 ∷ 0x00 ∷ 0x05 ∷ 0xa0 ∷ [])
@@ -162,7 +166,7 @@ pub guards :
     ∷ answer owned5 (0x50 ∷ 0x40 ∷ 0x00 ∷ 0x05 ∷ 0x40 ∷ [])
     ∷ []
     ≡ 5 ∷ 0 ∷ 31 ∷ 0 ∷ 31 ∷ 0 ∷ 31 ∷ 8 ∷ 10 ∷ 12 ∷ []
-unfolding definitions owned5 serving aceRow weight none connected uuid credRow
+unfolding definitions owned5 serving aceBody aceRow weight none connected uuid credRow
 guards = refl
 
 -- nil fits nobody, not even a credential row that has no bytes, or one whose subject is nil
@@ -181,13 +185,13 @@ crowded = withState (withOwner (withRows Creds (withRows Aces (fresh noDefaults)
 
 -- RETRIEVE of resource 8 by the owner's credential 5
 pub crowded-read : replyTo noDefaults crowded (lent (0x32 ∷ 0x00 ∷ 0x00 ∷ 0x05 ∷ 0x77 ∷ [])) ≡ record { answer = 0; permission = 2; payload = 0x77 ∷ []; contents = []; places = nowhere }
-unfolding definitions crowded aceRows aceRow weight credRows credRow uuid
+unfolding definitions crowded aceRows aceBody aceRow weight credRows credRow uuid
 crowded-read = refl
 
 -- ---- reading back (U1): the replies of the four security resources to the owner, and the length that just fits
 
 pub reply : ℕ → List ℕ → List ℕ
-reply room r = let o = replyTo noDefaults owned5 (asked r room) in o .answer ∷ o .contents
+reply room r = let o = replyTo noDefaults owned5 (asked 0 r room) in o .answer ∷ o .contents
 
 pub replies-read :
     reply 33 (0x30 ∷ 0x00 ∷ 0x00 ∷ 0x05 ∷ [])
@@ -214,11 +218,11 @@ pub applications : List ℕ
 applications = 8 ∷ 9 ∷ 10 ∷ 11 ∷ 12 ∷ 13 ∷ 14 ∷ []
 
 pub endpoints-secure : map (λ n. answer broad (header-of 1 n 5)) applications ≡ 0 ∷ 0 ∷ 0 ∷ 0 ∷ 0 ∷ 0 ∷ 16 ∷ []
-unfolding definitions broad header-of applications owned5 serving aceRow none connected uuid credRow
+unfolding definitions broad header-of applications owned5 serving aceBody aceRow none connected uuid credRow
 endpoints-secure = refl
 
 pub endpoints-clear : map (λ n. answer broad (header-of 0 n 0)) applications ≡ 0 ∷ 16 ∷ 16 ∷ 16 ∷ 0 ∷ 16 ∷ 0 ∷ []
-unfolding definitions broad header-of applications owned5 serving aceRow none connected uuid credRow
+unfolding definitions broad header-of applications owned5 serving aceBody aceRow none connected uuid credRow
 endpoints-clear = refl
 
 -- security resources are exempt: the four are read over connection 0 in fresh tables; and 16 comes before 8
@@ -277,7 +281,7 @@ pub build : Defaults
 build = record { creds = credRow 5 ++ haulierRow 7; aces = aceRow 1 0 2 0 weight uuid }
 
 pub good-lists : fresh build ≡ withRows Aces (withRows Creds empty (credRow 5 ∷ haulierRow 7 ∷ [])) (aceRow 1 0 2 0 weight uuid ∷ [])
-unfolding definitions build haulierRow credRow uuid aceRow weight
+unfolding definitions build haulierRow credRow uuid aceBody aceRow weight
 good-lists = refl
 
 -- three rows; a number twice; a row that no body could store; half a row more
@@ -292,12 +296,12 @@ unfolding definitions haulierRow credRow uuid
 bad-lists = refl
 
 pub one-bad-list : fresh (record { creds = credRow 1 ++ credRow 1; aces = aceRow 1 0 2 0 weight uuid }) ≡ withRows Aces empty (aceRow 1 0 2 0 weight uuid ∷ [])
-unfolding definitions credRow uuid aceRow weight
+unfolding definitions credRow uuid aceBody aceRow weight
 one-bad-list = refl
 
 -- a row deleted, and then RESET by the owner: the build's rows are back
 pub reset-restores : tablesAfter build (tablesAfter build several (deletes (0x00 ∷ 0x03 ∷ []))) (lent (0x50 ∷ 0x40 ∷ 0x00 ∷ 0x05 ∷ 0x00 ∷ [])) ≡ fresh build
-unfolding definitions build several deletes haulierRow owned5 credRow uuid aceRow weight
+unfolding definitions build several deletes haulierRow owned5 credRow uuid aceBody aceRow weight
 reset-restores = refl
 
 -- all rows deleted by whoever stands at a terminal without an owner: the default rows are gone too
@@ -305,12 +309,12 @@ pub emptied : Tables
 emptied = tablesAfter build (tablesAfter build (fresh build) (lent (0x60 ∷ 0x80 ∷ 0x00 ∷ 0x00 ∷ []))) (lent (0x60 ∷ 0xc0 ∷ 0x00 ∷ 0x00 ∷ []))
 
 pub defaults-deleted : emptied ≡ empty
-unfolding definitions emptied build haulierRow credRow uuid aceRow weight
+unfolding definitions emptied build haulierRow credRow uuid aceBody aceRow weight
 defaults-deleted = refl
 
 -- until the next RESET
 pub defaults-back : tablesAfter build emptied (lent (0x40 ∷ 0x40 ∷ 0x00 ∷ 0x00 ∷ 0x00 ∷ [])) ≡ fresh build
-unfolding definitions emptied build haulierRow credRow uuid aceRow weight
+unfolding definitions emptied build haulierRow credRow uuid aceBody aceRow weight
 defaults-back = refl
 
 -- ---- roles of an authority (U7): foremen of two hauliers, both with role 7
@@ -328,28 +332,72 @@ pub foremen : Tables
 foremen = withRows Creds (serving (aceRow 1 1 4 0 weight (foreman 1) ∷ aceRow 2 1 2 0 weight (foreman 0) ∷ [])) (credRow 5 ∷ foremanRow 1 1 ∷ foremanRow 2 2 ∷ foremanRow 3 0 ∷ [])
 
 -- a role fits with its authority alone
-pub roles-fit : effective foremen (partner 1) 8 ∷ effective foremen (partner 2) 8 ∷ effective foremen (partner 3) 8 ∷ effective foremen (partner 5) 8 ∷ [] ≡ 4 ∷ 0 ∷ 2 ∷ 0 ∷ []
-unfolding definitions foremen foremanRow foreman owned5 serving aceRow weight uuid credRow
+pub roles-fit : effective 0 foremen (partner 1) 8 ∷ effective 0 foremen (partner 2) 8 ∷ effective 0 foremen (partner 3) 8 ∷ effective 0 foremen (partner 5) 8 ∷ [] ≡ 4 ∷ 0 ∷ 2 ∷ 0 ∷ []
+unfolding definitions foremen foremanRow foreman owned5 serving aceBody aceRow weight uuid credRow
 roles-fit = refl
 
--- 21 bytes store the row of 23 with authority 0; an authority beside role 0 is a forbidden value, of a role row none is
+-- 21 bytes with role 7 store the row of 23 with authority 0; 23 are the row
 pub roles-stored :
-    credRowOf (credBody 9)
-    ∷ credRowOf (credRow 9)
+    credRowOf (0 ∷ 9 ∷ (replicate 16 0x22 ++ (0 ∷ 7 ∷ 4 ∷ [])))
+    ∷ credRowOf (foremanRow 9 1)
     ∷ []
-    ≡ credRow 9 ∷ credRow 9 ∷ []
-unfolding definitions uuid credBody credRow
+    ≡ foremanRow 9 0 ∷ foremanRow 9 1 ∷ []
+unfolding definitions foremanRow
 roles-stored = refl
 
+-- a role with its authority; an authority beside role 0; 22 bytes; a role row with an authority; one with role 0 beside it
 pub roles-answered :
     answer owned5 (0x50 ∷ 0x80 ∷ 0x00 ∷ 0x05 ∷ foremanRow 9 1)
     ∷ answer owned5 (0x50 ∷ 0x80 ∷ 0x00 ∷ 0x05 ∷ 0 ∷ 9 ∷ (uuid ++ (0 ∷ 0 ∷ 0 ∷ 1 ∷ 4 ∷ [])))
     ∷ answer owned5 (0x50 ∷ 0x80 ∷ 0x00 ∷ 0x05 ∷ 0 ∷ 9 ∷ (uuid ++ (0 ∷ 7 ∷ 1 ∷ 4 ∷ [])))
     ∷ answer owned5 (0x50 ∷ 0xc0 ∷ 0x00 ∷ 0x05 ∷ aceRow 1 1 4 0 weight (foreman 1))
+    ∷ answer owned5 (0x50 ∷ 0xc0 ∷ 0x00 ∷ 0x05 ∷ aceRow 1 1 4 0 weight (replicate 13 0 ++ (1 ∷ 0 ∷ 0 ∷ [])))
     ∷ []
-    ≡ 0 ∷ 10 ∷ 10 ∷ 0 ∷ []
-unfolding definitions foremanRow foreman owned5 aceRow weight uuid credRow
+    ≡ 0 ∷ 10 ∷ 10 ∷ 0 ∷ 10 ∷ []
+unfolding definitions foremanRow foreman owned5 aceBody aceRow weight uuid credRow
 roles-answered = refl
+
+-- ---- rows that hold for a season (U8): a harvest contractor's row holds from second 10 to second 20
+
+pub seasonRow : ℕ → Row
+seasonRow n = aceBody n 0 2 0 weight (replicate 16 0x22) ++ (0 ∷ 0 ∷ 0 ∷ 10 ∷ 0 ∷ 0 ∷ 0 ∷ 20 ∷ [])
+
+pub harvest : Tables
+harvest = withRows Creds (serving (seasonRow 1 ∷ [])) (credRow 5 ∷ haulierRow 7 ∷ [])
+
+-- the clock before, on and behind both ends
+pub periods : map (λ clock. effective clock harvest (partner 7) 8) (0 ∷ 9 ∷ 10 ∷ 20 ∷ 21 ∷ 4294967295 ∷ []) ≡ 0 ∷ 0 ∷ 2 ∷ 2 ∷ 0 ∷ 0 ∷ []
+unfolding definitions harvest seasonRow haulierRow owned5 serving aceBody aceRow weight uuid credRow
+periods = refl
+
+-- the owner's rights have no period
+pub periods-owner : map (λ clock. effective clock harvest (partner 5) 3) (9 ∷ 15 ∷ 21 ∷ []) ≡ 31 ∷ 31 ∷ 31 ∷ []
+unfolding definitions harvest seasonRow haulierRow owned5 serving aceBody aceRow weight uuid credRow
+periods-owner = refl
+
+-- a run in which each record has its own clock: the contractor reads resource 8
+pub season-run : replies (λ t q. replyTo noDefaults t q .answer) (tablesAfter noDefaults) harvest (map (λ clock. asked clock (0x32 ∷ 0x00 ∷ 0x00 ∷ 0x07 ∷ []) 0) (9 ∷ 10 ∷ 20 ∷ 21 ∷ 15 ∷ [])) ≡ 8 ∷ 0 ∷ 0 ∷ 8 ∷ 0 ∷ []
+unfolding definitions harvest seasonRow haulierRow owned5 serving aceBody aceRow weight uuid credRow
+season-run = refl
+
+-- the premise of demand 3 counts a row of any period: this one gives U on acl2 from second 10 to second 20
+pub season-grant : mayAlter (withRows Creds (serving ((aceBody 1 0 4 0 (0x10 ∷ replicate 7 0) (replicate 16 0x22) ++ (0 ∷ 0 ∷ 0 ∷ 10 ∷ 0 ∷ 0 ∷ 0 ∷ 20 ∷ [])) ∷ [])) (credRow 5 ∷ haulierRow 7 ∷ [])) (partner 7) ≡ true
+unfolding definitions rowAlters mayAlter someSecurity haulierRow owned5 serving aceBody aceRow uuid credRow
+season-grant = refl
+
+-- 28 bytes store the row of 36 that holds for every second
+pub periods-stored : aceRowOf (aceBody 1 0 2 0 weight uuid) ∷ aceRowOf (aceRow 1 0 2 0 weight uuid) ∷ [] ≡ aceRow 1 0 2 0 weight uuid ∷ aceRow 1 0 2 0 weight uuid ∷ []
+unfolding definitions aceBody aceRow weight uuid
+periods-stored = refl
+
+-- one second, and a first second later than the last
+pub periods-answered :
+    answer owned5 (0x50 ∷ 0xc0 ∷ 0x00 ∷ 0x05 ∷ (aceBody 1 0 2 0 weight uuid ++ (0 ∷ 1 ∷ 0 ∷ 0 ∷ 0 ∷ 1 ∷ 0 ∷ 0 ∷ [])))
+    ∷ answer owned5 (0x50 ∷ 0xc0 ∷ 0x00 ∷ 0x05 ∷ (aceBody 1 0 2 0 weight uuid ++ (0 ∷ 1 ∷ 0 ∷ 1 ∷ 0 ∷ 1 ∷ 0 ∷ 0 ∷ [])))
+    ∷ []
+    ≡ 0 ∷ 10 ∷ []
+unfolding definitions owned5 aceBody weight uuid credRow
+periods-answered = refl
 
 -- ---- demand 3 is not empty: partner 7, a haulier who may read resource 8, is chosen, and the unauthenticated senders with it
 
@@ -378,7 +426,7 @@ yardRun =
 
 -- everybody's answers: the chosen get 8 for each write, and their read is served
 pub yard-answers : replies (λ t q. replyTo noDefaults t q .answer) (tablesAfter noDefaults) yard yardRun ≡ 8 ∷ 0 ∷ 8 ∷ 0 ∷ 8 ∷ 0 ∷ 0 ∷ []
-unfolding definitions owned5 serving aceRow weight none connected uuid credRow haulier yard yardRun
+unfolding definitions owned5 serving aceBody aceRow weight none connected uuid credRow haulier yard yardRun
 yard-answers = refl
 
 -- the premise for these two senders, as a test
@@ -409,7 +457,7 @@ calm-harmless t h = let p = calm-parts t h in record { hasOwner = λ s c. not-tr
     granted p (partner n) c = rw (eqb-true n 7 c) (not-true _ (p .haulier-alters))
 
 yard-premise : Along (tablesAfter noDefaults) (Premise chosen7) yard (kept (isOthers chosen7) yardRun)
-unfolding definitions calm namesOwner rowAlters mayAlter someSecurity owned5 serving aceRow weight none connected uuid credRow haulier yard yardRun chosen7
+unfolding definitions calm namesOwner rowAlters mayAlter someSecurity owned5 serving aceBody aceRow weight none connected uuid credRow haulier yard yardRun chosen7
 yard-premise = (λ _. calm-harmless _ refl, (λ _. calm-harmless _ refl, (λ _. calm-harmless _ refl, λ _. calm-harmless _ refl)))
 
 -- so the owner's answers, and the tables at the end, are those of the owner's records alone

@@ -1,5 +1,5 @@
 -- Theorem, demand 3 over the rules: what the chosen senders send changes nothing for the others, nor the tables at the end.
--- One claim over the whole list, from 'The others alone'; the premise is read along the others' run. Each request has its buffer's length.
+-- One claim over the whole list, from 'The others alone'; the premise is read along the others' run. Each request has its clock and its buffer's length.
 use Prim.Native.Nat.{ℕ}
 use mathlib.Core.Path.{_≡_, refl, sym, ap, _∙_}
 use mathlib.Core.Bool.{Bool, true, false, _||_, true≢false}
@@ -68,7 +68,7 @@ unchanged-at d t p q lacks = go (verdict (checks t p q)) refl
 -- so does a chosen sender's record
 pub unchanged : (d : Defaults) (chosen : Sender → Bool) (t : Tables) (q : Request) → chosen (sender (q .bytes)) ≡ true → Premise chosen t → tablesAfter d t q ≡ t
 unfolding outcome permission
-unchanged d chosen t q c premise = unchanged-at d t (permission t (q .bytes)) q (λ s sec. effective-lacks chosen t (sender (q .bytes)) (resource (q .bytes)) (premise s) c sec)
+unchanged d chosen t q c premise = unchanged-at d t (permission (q .clock) t (q .bytes)) q (λ s sec. effective-lacks (q .clock) chosen t (sender (q .bytes)) (resource (q .bytes)) (premise s) c sec)
 
 -- demand 3
 pub isolation :

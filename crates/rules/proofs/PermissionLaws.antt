@@ -17,7 +17,7 @@ use Rattle.rules.specs.Directory.{isSecurity, someBelow, someSecurity, d
 use Rattle.rules.specs.Record.{Sender}
 use Rattle.rules.specs.Bodies.{acePermission}
 use Rattle.rules.specs.Tables.{rows}
-use Rattle.rules.specs.Permission.{C, U, D, has, credentialIn, connectionOf, subjectFits, resourceFits, rowFits, gives, isOwner, byOwner, byNoOwner, effectiveOf, effective}
+use Rattle.rules.specs.Permission.{C, U, D, has, credentialIn, connectionOf, subjectFits, resourceFits, inForce, rowFits, gives, isOwner, byOwner, byNoOwner, effectiveOf, effective}
 use Rattle.rules.specs.Isolation.{Harmless, alters, namesOwner, rowAlters, mayAlter}
 use Rattle.rules.proofs.Bools.{cond-cases, contradiction, and-left, and-right, and-false-right, or-neither, or-left, or-right, bool-cases}
 use Rattle.rules.proofs.BodyLaws.{security-number}
@@ -76,12 +76,12 @@ and-weaken true false z g h e u v = rw (u refl)
 and-weaken true true z g h e u v = rw (v e) (and-false g)
 
 -- a row that may not alter a security resource gives nothing to alter resource n by
-gives-lacks : (w : Row) (c n k : ℕ) (a : Row) → isSecurity n ≡ true → ((p : ℕ) → alters p ≡ false → has p (2 ^ k) ≡ false)
-    → (subjectFits w c a && rowAlters a) ≡ false → has (gives w c n a) (2 ^ k) ≡ false
+gives-lacks : (clock : ℕ) (w : Row) (c n k : ℕ) (a : Row) → isSecurity n ≡ true → ((p : ℕ) → alters p ≡ false → has p (2 ^ k) ≡ false)
+    → (subjectFits w c a && rowAlters a) ≡ false → has (gives clock w c n a) (2 ^ k) ≡ false
 unfolding gives rowFits rowAlters
-gives-lacks w c n k a sec sub e =
-    cond-cases (λ (p : ℕ). has p (2 ^ k) ≡ false) (subjectFits w c a && resourceFits n a)
-    (λ f. and-false-right _ _ (and-weaken (subjectFits w c a) (someSecurity (λ m. resourceFits m a)) (alters (acePermission a)) (resourceFits n a) (has (acePermission a) (2 ^ k)) e (security-lacks (λ m. resourceFits m a) n sec) (sub (acePermission a))) f)
+gives-lacks clock w c n k a sec sub e =
+    cond-cases (λ (p : ℕ). has p (2 ^ k) ≡ false) (subjectFits w c a && resourceFits n a && inForce clock a)
+    (λ f. and-false-right (subjectFits w c a && resourceFits n a) _ (and-weaken (subjectFits w c a) (someSecurity (λ m. resourceFits m a)) (alters (acePermission a)) (resourceFits n a) (has (acePermission a) (2 ^ k)) e (security-lacks (λ m. resourceFits m a) n sec) (sub (acePermission a))) (and-left _ _ f))
     (λ _. has-zero (2 ^ k))
 
 -- what holds of each of the bits C, U, D
@@ -93,7 +93,7 @@ alters-lacks p h =
     (h 2 (λ q e. or-right (has q C) _ (or-left (has q C || has q U) _ e))))
     (h 3 (λ q e. or-right (has q C || has q U) _ e))
 
-module _ (chosen : Sender → Bool) (t : Tables) (s : Sender) (n : ℕ) (safe : Harmless chosen t) (c : chosen s ≡ true) (sec : isSecurity n ≡ true) where
+module _ (clock : ℕ) (chosen : Sender → Bool) (t : Tables) (s : Sender) (n : ℕ) (safe : Harmless chosen t) (c : chosen s ≡ true) (sec : isSecurity n ≡ true) where
   owner-none : byOwner t (credentialIn (rows Creds t) s) n ≡ 0
   unfolding byOwner namesOwner
   owner-none = rw (sec, security-lacks (isOwner t (credentialIn (rows Creds t) s)) n sec (safe .notOwner s c))
@@ -103,16 +103,16 @@ module _ (chosen : Sender → Bool) (t : Tables) (s : Sender) (n : ℕ) (safe : 
   unowned-none = rw (sec, safe .hasOwner s c)
 
   -- a chosen sender alters no security resource
-  pub effective-lacks : alters (effective t s n) ≡ false
+  pub effective-lacks : alters (effective clock t s n) ≡ false
   unfolding effectiveOf mayAlter
   effective-lacks =
       let w = credentialIn (rows Creds t) s in
-      let granted = unionOf (gives w (connectionOf s) n) (rows Aces t) in
-      alters-lacks (effective t s n) λ k sub.
+      let granted = unionOf (gives clock w (connectionOf s) n) (rows Aces t) in
+      alters-lacks (effective clock t s n) λ k sub.
       has-or (bitOr granted (byOwner t w n)) (byNoOwner t n) k
       ∙ or-neither _ _
       (has-or granted (byOwner t w n) k
       ∙ or-neither _ _
-      (union-lacks (gives w (connectionOf s) n) (λ a. subjectFits w (connectionOf s) a && rowAlters a) k (λ a e. gives-lacks w (connectionOf s) n k a sec sub e) (rows Aces t) (safe .notGranted s c))
+      (union-lacks (gives clock w (connectionOf s) n) (λ a. subjectFits w (connectionOf s) a && rowAlters a) k (λ a e. gives-lacks clock w (connectionOf s) n k a sec sub e) (rows Aces t) (safe .notGranted s c))
       (ap (λ (x : ℕ). has x (2 ^ k)) owner-none ∙ has-zero (2 ^ k)))
       (ap (λ (x : ℕ). has x (2 ^ k)) unowned-none ∙ has-zero (2 ^ k))

@@ -1,16 +1,16 @@
--- Theorems, U1: storing the rows of a reply in an empty table gives the same rows, and a reply is 912 bytes long at most.
+-- Theorems, U1: the rows that a reply tells, sent as bodies one after the other, make the table again; and how long a reply gets.
 -- The lengths of the owners' fields are those that the struct's types give.
 use Prim.Native.Nat.{ℕ, zero, suc, _+_, _*_, _-_, _/_, _≤_, _<_}
 use native.Mathlib.Nat.{mul-div-cancel}
 use native.Mathlib.Omega.{arith}
 use mathlib.Core.Path.{_≡_, refl, sym, ap, ap₂, _∙_}
 use mathlib.Core.Bool.{Bool, true, false, cond}
-use mathlib.Core.List.{List, [], _∷_, _++_, append-nil}
+use mathlib.Core.List.{List, [], _∷_, _++_, map, append-nil}
 use lib.Dec.{ltb}
 use lib.ListN.{length, take, drop, length-append, length-drop, length-take}
 use lib.Seq.{length-take-le, drop-at}
 use borrow.Author.Tests.{ne-eqb, le-ltb}
-use Rattle.rows.specs.Rows.{Row, rowsOf, joined, storedAll}
+use Rattle.rows.specs.Rows.{Row, rowsOf, joined, every, storedAll}
 use Rattle.rows.proofs.Kept.{AllLong, every-long, length-joined, rowsOf-joined}
 use Rattle.rows.proofs.Restore.{restored}
 use Rattle.rules.specs.declared.Tables.{Tables}
@@ -18,8 +18,10 @@ use Rattle.rules.specs.declared.Table.{Table}
 use Rattle.rules.specs.declared.Table.the-variants.{Creds, Aces}
 use Rattle.rules.specs.Directory.{cred, acl2}
 use Rattle.rules.specs.Record.{resource}
-use Rattle.rules.specs.Tables.{stride, capacity, storable, rows, rowOwner, sound}
+use Rattle.rules.specs.Tables.{stride, capacity, storable, rowOf, rows, rowOwner, sound}
+use Rattle.rules.specs.Bodies.{credRowOf, aceRowOf}
 use Rattle.rules.specs.Reading.{ownBody, rowBytes, contents, reads, replyOf, tooShort}
+use Rattle.rules.proofs.Bools.{and-left, and-right}
 use Rattle.rules.proofs.Answers.{table-parts}
 use Rattle.rules.proofs.BodyLaws.{sized}
 use Rattle.rules.proofs.TableLaws.{few-rows}
@@ -64,20 +66,33 @@ read-rows k owner ws l a =
         bytes : length owner + length (joined ws) - 16 ≡ length (joined ws)
         bytes = omega (arith, l)
 
--- storing the rows of a reply in an empty table gives the same rows
-pub same-rows : (k : Table) (t : Tables) → sound t ≡ true → length (t .rowners) ≡ 64 → storedAll (rowsOfReply k (contents t (holder k))) [] ≡ rows k t
+-- a storable row, sent as a body, is the row that is stored
+pub row-itself : (k : Table) (w : Row) → storable k w ≡ true → rowOf k w ≡ w
+unfolding credRowOf aceRowOf
+row-itself Creds w h = rw (sized Creds w h)
+row-itself Aces w h = rw (sized Aces w h)
+
+rows-themselves : (k : Table) (ws : List Row) → every (storable k) ws ≡ true → map (rowOf k) ws ≡ ws
+unfolding every
+rows-themselves k [] h = refl
+rows-themselves k (w ∷ ws) h =
+    ap₂ (λ (v : Row) (vs : List Row). v ∷ vs) (row-itself k w (and-left _ _ h)) (rows-themselves k ws (and-right (storable k w) _ h))
+
+-- the rows of a reply, stored as bodies in an empty table, are the table's
+pub same-rows : (k : Table) (t : Tables) → sound t ≡ true → length (t .rowners) ≡ 64 → storedAll (map (rowOf k) (rowsOfReply k (contents t (holder k)))) [] ≡ rows k t
 same-rows k t h l =
-    ap (λ (b : List ℕ). storedAll (rowsOfReply k b) []) (reply-is k t)
-    ∙ ap (λ (ws : List Row). storedAll ws []) (read-rows k (rowOwner t (holder k)) (rows k t) (owner-long k t l) (long-rows k t h))
+    ap (λ (b : List ℕ). storedAll (map (rowOf k) (rowsOfReply k b)) []) (reply-is k t)
+    ∙ ap (λ (ws : List Row). storedAll (map (rowOf k) ws) []) (read-rows k (rowOwner t (holder k)) (rows k t) (owner-long k t l) (long-rows k t h))
+    ∙ ap (λ (ws : List Row). storedAll ws []) (rows-themselves k (rows k t) (table-parts k t h .stores))
     ∙ restored (rows k t) (table-parts k t h .apart)
 
 -- ---- the longest reply
 
-rows-short : (k : Table) (t : Tables) → sound t ≡ true → length (joined (rows k t)) ≤ 896
+rows-short : (k : Table) (t : Tables) → sound t ≡ true → length (joined (rows k t)) ≤ 1152
 rows-short Creds t h = let l = length-joined 23 (rows Creds t) (long-rows Creds t h) in omega (arith, l, few-rows Creds t h)
-rows-short Aces t h = let l = length-joined 28 (rows Aces t) (long-rows Aces t h) in omega (arith, l, few-rows Aces t h)
+rows-short Aces t h = let l = length-joined 36 (rows Aces t) (long-rows Aces t h) in omega (arith, l, few-rows Aces t h)
 
-parts-short : (t : Tables) (n : ℕ) → sound t ≡ true → length (t .devowner) ≡ 16 → length (ownBody t n) + length (rowBytes t n) ≤ 896
+parts-short : (t : Tables) (n : ℕ) → sound t ≡ true → length (t .devowner) ≡ 16 → length (ownBody t n) + length (rowBytes t n) ≤ 1152
 unfolding ownBody rowBytes
 parts-short t zero h l = omega (arith, l)
 parts-short t (suc zero) h l = omega arith
@@ -95,17 +110,17 @@ owner-short : (t : Tables) (n : ℕ) → length (rowOwner t n) ≤ 16
 unfolding rowOwner
 owner-short t n = rw (length-take 16 (drop (n * 16) (t .rowners))) (omega arith)
 
--- a reply is 912 bytes long at most
-pub reply-short : (t : Tables) (n : ℕ) → sound t ≡ true → length (t .devowner) ≡ 16 → length (contents t n) ≤ 912
+-- a reply is 1168 bytes long at most
+pub reply-short : (t : Tables) (n : ℕ) → sound t ≡ true → length (t .devowner) ≡ 16 → length (contents t n) ≤ 1168
 unfolding contents
 reply-short t n h l =
     simp length-append (omega (arith, parts-short t n h l, owner-short t n))
 
 -- so a record with a buffer of that length never gets 15
-pub room-enough : (t : Tables) (r : List ℕ) → sound t ≡ true → length (t .devowner) ≡ 16 → tooShort t r 912 ≡ false
+pub room-enough : (t : Tables) (r : List ℕ) → sound t ≡ true → length (t .devowner) ≡ 16 → tooShort t r 1168 ≡ false
 unfolding tooShort replyOf
 room-enough t r h l = go (reads r)
   where
-    go : (b : Bool) → ltb 912 (length (cond b (contents t (resource r)) [])) ≡ false
-    go true = le-ltb 912 (length (contents t (resource r))) (reply-short t (resource r) h l)
+    go : (b : Bool) → ltb 1168 (length (cond b (contents t (resource r)) [])) ≡ false
+    go true = le-ltb 1168 (length (contents t (resource r))) (reply-short t (resource r) h l)
     go false = refl

@@ -53,7 +53,7 @@ rows-sound k size ws room few all apart =
 sound-with : (k : Table) (t : Tables) (ws : List Row) → sound t ≡ true → length ws ≤ capacity k → every (storable k) ws ≡ true → distinctNumbers ws ≡ true → sound (withRows k t ws) ≡ true
 unfolding headSound
 sound-with Creds t ws h few all apart = let s = sound-parts t h in sound-whole _ (record { head = s .head; creds = rows-sound Creds 552 ws (omega arith) few all apart; aces = s .aces })
-sound-with Aces t ws h few all apart = let s = sound-parts t h in sound-whole _ (record { head = s .head; creds = s .creds; aces = rows-sound Aces 896 ws (omega arith) few all apart })
+sound-with Aces t ws h few all apart = let s = sound-parts t h in sound-whole _ (record { head = s .head; creds = s .creds; aces = rows-sound Aces 1152 ws (omega arith) few all apart })
 
 -- the parts of the head
 record Head (t : Tables) : Type 0 where
@@ -181,7 +181,7 @@ sound-kept-at d t p q h = go (verdict (checks t p q)) refl
 -- a record leaves sound tables sound
 pub sound-kept : (d : Defaults) (t : Tables) (q : Request) → sound t ≡ true → sound (tablesAfter d t q) ≡ true
 unfolding outcome
-sound-kept d t q h = sound-kept-at d t (permission t (q .bytes)) q h
+sound-kept d t q h = sound-kept-at d t (permission (q .clock) t (q .bytes)) q h
 
 -- and so does a run of records
 pub run-sound : (d : Defaults) (t : Tables) (qs : List Request) → sound t ≡ true → sound (final (tablesAfter d) t qs) ≡ true

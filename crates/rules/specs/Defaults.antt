@@ -19,7 +19,7 @@ pub record Defaults : Type 0 where
 abbrev pub defaults : List ℕ → List ℕ → Defaults
 defaults creds aces = record { creds = creds; aces = aces }
 
--- 01's examples and the run program have none
+-- of the paper's examples, and of the run program
 abbrev pub noDefaults : Defaults
 noDefaults = defaults [] []
 

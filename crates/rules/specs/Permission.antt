@@ -4,7 +4,7 @@ use Prim.Native.Nat.{ℕ, _/_, _%_}
 use mathlib.Core.Bool.{Bool, false, not, _&&_, _||_, cond}
 use mathlib.Core.List.{List, [], _∷_}
 use lib.Bits.{bitOr}
-use lib.Dec.{eqb}
+use lib.Dec.{eqb, leb}
 use lib.ListN.{length}
 use Rattle.rows.specs.Rows.{Row, same, hasKey, firstRow, unionOf}
 use Rattle.rules.specs.declared.Tables.{Tables}
@@ -13,7 +13,7 @@ use Rattle.rules.specs.Bits.{word}
 use Rattle.rules.specs.Lookup.{lookup}
 use Rattle.rules.specs.Directory.{resourceOf, isSecurity, starReaches, plusReaches, minusReaches}
 use Rattle.rules.specs.Record.{Sender, unauthenticated, partner, sender, resource}
-use Rattle.rules.specs.Bodies.{isNil, credSubject, credRole, credAuthority, aceKind, acePermission, acePlus, aceMinus, aceStar, inSet, aceSubject, aceAuthority, aceRole, aceConnection}
+use Rattle.rules.specs.Bodies.{isNil, credSubject, credRole, credAuthority, aceKind, acePermission, acePlus, aceMinus, aceStar, inSet, aceSubject, aceAuthority, aceRole, aceConnection, aceFirst, aceLast}
 use Rattle.rules.specs.Tables.{rows, rowOwner}
 
 -- permission bits: C 1, R 2, U 4, D 8, N 16
@@ -64,7 +64,7 @@ connectionOf (partner n) = 1
 abbrev pub isRow : Row → Bool
 isRow w = not (eqb (length w) 0)
 
--- ---- 1. the access rows whose subject and resource both fit
+-- ---- 1. the access rows that fit by subject, resource and period
 
 -- a UUID fits the credential row w with that subject, a role the one with that role of that authority, a connection the same bit; role 0 is none, and no role row has it
 unfoldable pub subjectFits : Row → ℕ → Row → Bool
@@ -84,11 +84,15 @@ resourceFits n a =
     || (acePlus a && plusReaches (resourceOf n))
     || (aceMinus a && minusReaches (resourceOf n))
 
-unfoldable pub rowFits : Row → ℕ → ℕ → Row → Bool
-rowFits w connection n a = subjectFits w connection a && resourceFits n a
+-- the clock stands in the row's period (U8)
+unfoldable pub inForce : ℕ → Row → Bool
+inForce clock a = leb (aceFirst a) clock && leb clock (aceLast a)
 
-unfoldable pub gives : Row → ℕ → ℕ → Row → ℕ
-gives w connection n a = cond (rowFits w connection n a) (acePermission a) 0
+unfoldable pub rowFits : ℕ → Row → ℕ → ℕ → Row → Bool
+rowFits clock w connection n a = subjectFits w connection a && resourceFits n a && inForce clock a
+
+unfoldable pub gives : ℕ → Row → ℕ → ℕ → Row → ℕ
+gives clock w connection n a = cond (rowFits clock w connection n a) (acePermission a) 0
 
 -- ---- 2. the owners of a security resource
 
@@ -110,12 +114,12 @@ byNoOwner t n = cond (isSecurity n && eqb (t .owned) 0) all 0
 
 -- ---- the union
 
-unfoldable pub effectiveOf : Tables → Row → ℕ → ℕ → ℕ
-effectiveOf t w connection n = bitOr (bitOr (unionOf (gives w connection n) (rows Aces t)) (byOwner t w n)) (byNoOwner t n)
+unfoldable pub effectiveOf : ℕ → Tables → Row → ℕ → ℕ → ℕ
+effectiveOf clock t w connection n = bitOr (bitOr (unionOf (gives clock w connection n) (rows Aces t)) (byOwner t w n)) (byNoOwner t n)
 
-abbrev pub effective : Tables → Sender → ℕ → ℕ
-effective t s n = effectiveOf t (credentialIn (rows Creds t) s) (connectionOf s) n
+abbrev pub effective : ℕ → Tables → Sender → ℕ → ℕ
+effective clock t s n = effectiveOf clock t (credentialIn (rows Creds t) s) (connectionOf s) n
 
 -- of a record: its sender's on its resource
-unfoldable pub permission : Tables → List ℕ → ℕ
-permission t r = effective t (sender r) (resource r)
+unfoldable pub permission : ℕ → Tables → List ℕ → ℕ
+permission clock t r = effective clock t (sender r) (resource r)

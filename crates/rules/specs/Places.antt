@@ -1,5 +1,5 @@
--- The places to store after a permitted DELETE (U4), so that no row before the deleted one is written.
--- From the first deleted row to the last one held; everything else, a delete that finds no rows included, has none.
+-- The places that a permitted DELETE leaves to store (U4): rows in front of the first one deleted stay where they are.
+-- They end with the last place that held a row. No other record has any, nor a DELETE of no row.
 use Prim.Native.Nat.{ℕ, suc, _-_}
 use mathlib.Core.Bool.{Bool, cond}
 use mathlib.Core.List.{List}

@@ -13,11 +13,11 @@ use Rattle.rules.specs.Directory.{isSecurity, doxm, pstat, cred, acl2}
 use Rattle.rules.specs.Record.{verb, resource}
 use Rattle.rules.specs.Tables.{rows, rowOwner}
 
--- doxm its 17-byte body, owned in the first bit; pstat its one byte with the present state as target, in the first three; cred and acl2 nothing
+-- what an UPDATE of doxm or pstat would set to what is: owned stands in the first bit, the state in the first three; the tables' resources have no such body
 unfoldable pub ownBody : Tables → ℕ → List ℕ
 ownBody t n = lookup n ((doxm, t .owned % 2 * 128 ∷ t .devowner) ∷ (pstat, t .state % 8 * 32 ∷ []) ∷ []) []
 
--- for cred and acl2 all rows, in the form of their bodies
+-- the rows of a table, each as the longest body that stores it
 unfoldable pub rowBytes : Tables → ℕ → List ℕ
 rowBytes t n = lookup n ((cred, joined (rows Creds t)) ∷ (acl2, joined (rows Aces t)) ∷ []) []
 

@@ -9,12 +9,12 @@ use Rattle.rows.specs.Rows.{Row, rowsOf, packed, allZero, every, distinctNumber
 use Rattle.rules.specs.declared.Tables.{Tables}
 use Rattle.rules.specs.declared.Table.{Table}
 use Rattle.rules.specs.declared.Table.the-variants.{Creds, Aces}
-use Rattle.rules.specs.Bodies.{nil, isNil, credStorable, credRowOf, aceStorable}
+use Rattle.rules.specs.Bodies.{nil, isNil, credStorable, credRowOf, aceStorable, aceRowOf}
 
 -- bytes of a row
 abbrev pub stride : Table → ℕ
 stride Creds = 23
-stride Aces = 28
+stride Aces = 36
 
 -- bytes of the shortest body that stores a row
 abbrev pub shortest : Table → ℕ
@@ -34,7 +34,7 @@ storable Aces = aceStorable
 -- the row that a body stores
 abbrev pub rowOf : Table → List ℕ → Row
 rowOf Creds b = credRowOf b
-rowOf Aces b = b
+rowOf Aces b = aceRowOf b
 
 abbrev pub count : Table → Tables → ℕ
 count Creds t = t .ncreds
@@ -84,4 +84,4 @@ sound t = headSound t && rowsSound Creds (t .ncreds) (t .creds) && rowsSound Ace
 -- ---- empty tables: state 1, owned 0, owners nil, no rows
 
 unfoldable pub empty : Tables
-empty = record { state = 1; owned = 0; ncreds = 0; naces = 0; devowner = nil; rowners = replicate 64 0; creds = replicate 552 0; aces = replicate 896 0 }
+empty = record { state = 1; owned = 0; ncreds = 0; naces = 0; devowner = nil; rowners = replicate 64 0; creds = replicate 552 0; aces = replicate 1152 0 }

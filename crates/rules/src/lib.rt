@@ -51,8 +51,8 @@ pub struct Tables {
     pub rowners: [u8; 64],
     // 24 rows of 23 bytes
     pub creds: [u8; 552],
-    // 32 rows of 28 bytes
-    pub aces: [u8; 896],
+    // 32 rows of 36 bytes
+    pub aces: [u8; 1152],
 }
 
 impl Tables {
@@ -69,7 +69,7 @@ impl Tables {
             devowner: Uuid::NIL,
             rowners: [0; 64],
             creds: [0; 552],
-            aces: [0; 896],
+            aces: [0; 1152],
         }
     }
 }

@@ -8,7 +8,7 @@ fn main() {
     io::write_all(1, &out[..k]);
 }
 
-// Room for the text of every run of at most 32,768 bytes: the header, and nine bytes for each byte of the run.
-fn room() -> [u8; 294932] {
-    [0; 294932]
+// Room for the text of every run of at most 32,768 bytes: the header, and four bytes for each byte of the run.
+fn room() -> [u8; 131092] {
+    [0; 131092]
 }

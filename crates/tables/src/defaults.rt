@@ -1,9 +1,9 @@
 // Fresh tables with the build's default rows: two lists of bytes, each with at most two rows.
 // A list that is not good counts as none.
-use crate::rows_storable;
 use format::stride_of;
 use rules::Table;
 use rules::Tables;
+use soundness::rows_storable;
 use text::put;
 ghost use mathlib.Core.Path.{_≡_};
 ghost use Rattle.rows.specs.Rows.{joined};
@@ -49,11 +49,11 @@ fn with_aces(t: Tables, list: &[u8]) -> Tables
     ensures { λ r. ⌜ r ≡ withRows Aces t (defaultRows Aces (now (list .entry))) ⌝ }
 {
     let rows = default_rows(Table::Aces, list);
-    let mut aces = [0u8; 896];
+    let mut aces = [0u8; 1152];
     put(&mut aces, 0, rows);
     let mut next = t;
     next.aces = aces;
-    next.naces = (rows.len() / 28) as u8;
+    next.naces = (rows.len() / 36) as u8;
     next
 }
 

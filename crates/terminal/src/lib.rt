@@ -58,13 +58,14 @@ pub extern "C" fn tillerclover_judge(
     t: Tables,
     creds: &[u8],
     aces: &[u8],
+    clock: u32,
     record: &[u8],
     reply: &mut [u8],
 ) -> Outcome
-    ensures said { λ r. ⌜ r ≡ exported (outcome (defaults (now (creds .entry)) (now (aces .entry))) t (asked (now («record» .entry)) (length (now (reply .entry))))) ⌝ }
-    ensures buffer { λ _. ⌜ now (reply .exit) ≡ filled (now (reply .entry)) (replyTo (defaults (now (creds .entry)) (now (aces .entry))) t (asked (now («record» .entry)) (length (now (reply .entry)))) .contents) ⌝ }
+    ensures said { λ r. ⌜ r ≡ exported (outcome (defaults (now (creds .entry)) (now (aces .entry))) t (asked clock (now («record» .entry)) (length (now (reply .entry))))) ⌝ }
+    ensures buffer { λ _. ⌜ now (reply .exit) ≡ filled (now (reply .entry)) (replyTo (defaults (now (creds .entry)) (now (aces .entry))) t (asked clock (now («record» .entry)) (length (now (reply .entry)))) .contents) ⌝ }
 {
-    let j = judge::judge(t, creds, aces, record, reply);
+    let j = judge::judge(t, creds, aces, clock, record, reply);
     let next = j.tables;
     let places = j.places;
     let answer = j.answer;

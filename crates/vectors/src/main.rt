@@ -1,6 +1,7 @@
 // Judges the records of vectors.bin, which the second model wrote, and compares what comes of each.
 // The file's form stands in model/src/vectors.rs: tables to take, records with their outcome, tables that must be reached, default lists.
 use fields::after;
+use fields::double_word;
 use fields::word;
 use rows::part;
 use rules::Judgement;
@@ -107,19 +108,19 @@ fn byte_or(s: &[u8], i: usize, other: u8) -> u8 {
 fn entry_size(s: &[u8]) -> usize {
     let tag = byte_at(s, 0);
     match tag {
-        0 => 1533,
+        0 => 1789,
         1 => record_size(s),
-        2 => 1533,
+        2 => 1789,
         3 => 3 + byte_at(s, 1) as usize + second_length(s) as usize,
         _ => 0,
     }
 }
 
-// Tag, length and bytes of the record, room, answer, permission, payload start and length, length of the reply, first place and how many, the reply.
+// Tag, clock, length and bytes of the record, room, answer, permission, payload start and length, length of the reply, first place and how many, the reply.
 fn record_size(s: &[u8]) -> usize {
-    let length = word(after(s, 1)) as usize;
-    let reply = word(after(after(s, 11), length)) as usize;
-    15 + length + reply
+    let length = word(after(s, 5)) as usize;
+    let reply = word(after(after(s, 15), length)) as usize;
+    19 + length + reply
 }
 
 // Of an entry with default lists: the length of the second, the first, and the second.
@@ -185,18 +186,19 @@ fn reached(p: Progress, bytes: &[u8]) -> Progress {
     }
 }
 
-// Judges the record behind its length with a buffer of the room behind it, and compares the outcome with the one that follows.
+// Judges the record behind its clock and its length with a buffer of the room behind it, and compares the outcome with the one that follows.
 fn judged(p: Progress, s: &[u8], lists: &[u8]) -> Progress {
-    let length = word(s) as usize;
-    let record = part(s, 2, length);
-    let behind = after(after(s, 2), length);
+    let length = word(after(s, 4)) as usize;
+    let record = part(s, 6, length);
+    let behind = after(after(s, 6), length);
     let expected = after(behind, 2);
-    let mut buffer = [165u8; 1000];
+    let mut buffer = [165u8; 1300];
     let t = p.tables;
     let j = judge_within(
         t,
         default_creds(lists),
         default_aces(lists),
+        double_word(s),
         record,
         &mut buffer,
         word(behind) as usize,
@@ -222,12 +224,13 @@ fn judge_within(
     t: Tables,
     creds: &[u8],
     aces: &[u8],
+    clock: u32,
     record: &[u8],
     buffer: &mut [u8],
     room: usize,
 ) -> Judgement {
     let n = smaller(room, buffer.len());
-    judge::judge(t, creds, aces, record, &mut buffer[..n])
+    judge::judge(t, creds, aces, clock, record, &mut buffer[..n])
 }
 
 fn smaller(a: usize, b: usize) -> usize
@@ -242,7 +245,7 @@ fn smaller(a: usize, b: usize) -> usize
 // Whether the reply is the one behind its length and the places, and the buffer is as before behind it.
 fn same_reply(length: usize, buffer: &[u8], expected: &[u8]) -> bool {
     let reply = part(expected, 4, word(expected) as usize);
-    let mut filled = [165u8; 1000];
+    let mut filled = [165u8; 1300];
     fill(&mut filled, reply);
     (length == reply.len()) & rows::same_bytes(buffer, &filled)
 }
@@ -272,7 +275,7 @@ fn tables_of(bytes: &[u8]) -> Tables {
     let mut devowner = [0u8; 16];
     let mut rowners = [0u8; 64];
     let mut creds = [0u8; 552];
-    let mut aces = [0u8; 896];
+    let mut aces = [0u8; 1152];
     fill(&mut devowner, after(bytes, 4));
     fill(&mut rowners, after(bytes, 20));
     fill(&mut creds, after(bytes, 84));
@@ -306,5 +309,5 @@ fn same_tables(t: Tables, bytes: &[u8]) -> bool {
         & rows::same_bytes(&t.devowner, part(bytes, 4, 16))
         & rows::same_bytes(&t.rowners, part(bytes, 20, 64))
         & rows::same_bytes(&t.creds, part(bytes, 84, 552))
-        & rows::same_bytes(&t.aces, part(bytes, 636, 896))
+        & rows::same_bytes(&t.aces, part(bytes, 636, 1152))
 }

@@ -7,7 +7,7 @@ use std::time::Instant;
 
 use model::case::Case as Put;
 use model::examples::{access, credential, role, uuid, AUTH};
-use model::generate::{record, session};
+use model::generate::{clock, record, session};
 use model::library::{self, Tables as Given};
 use model::office::{self, LONGEST_TEXT};
 use model::options::{Options, Program};
@@ -125,6 +125,7 @@ impl Case {
         black_box(library::decide(
             black_box(&self.given),
             &self.put.defaults,
+            black_box(self.put.clock),
             black_box(&self.put.record),
             black_box(reply),
         ));
@@ -305,7 +306,8 @@ fn mixed(repetitions: u64) {
         let session = session(&mut random);
         let mut stored = session.tables;
         for _ in 0..session.records {
-            let put = Put::new(&stored, &record(&mut random, session.style, &stored));
+            let clock = clock(&mut random, &stored);
+            let put = Put { clock, ..Put::new(&stored, &record(&mut random, session.style, &stored, clock)) };
             let next = judge(&put).tables;
             cases.push((put, Given::from_bytes(&stored)));
             stored = next;
@@ -315,7 +317,7 @@ fn mixed(repetitions: u64) {
     let all = [cases];
     let library = |cases: &Vec<(Put, Given)>, reply: &mut Reply| {
         for (put, given) in cases {
-            black_box(library::decide(given, &put.defaults, &put.record, reply));
+            black_box(library::decide(given, &put.defaults, put.clock, &put.record, reply));
         }
     };
     let model = |cases: &Vec<(Put, Given)>| {

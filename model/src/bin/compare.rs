@@ -15,21 +15,22 @@ const PROGRAM: Program = Program {
     name: "compare",
     help: "\
 compare [--records N] [--seed S] [--trace]
-compare --replay TABLES:RECORD:ROOM:CREDENTIALS:ACCESSES
+compare --replay TABLES:CLOCK:RECORD:ROOM:CREDENTIALS:ACCESSES
 
-Judges the same records on the same tables by the library and by the model,
-and compares answer, permission, payload, length of the reply, every byte of
-the lent buffer (and some behind it), the places to store after a delete and
-every byte of the tables; fresh tables and the clear button too. Default lists,
-good and bad, are drawn with the cases. The office text of many of the tables,
-and of some for it alone, is compared in the same way.
+Judges the same records on the same tables at the same clock by the library and
+by the model, and compares answer, permission, payload, length of the reply,
+every byte of the lent buffer (and some behind it), the places to store after a
+delete and every byte of the tables; fresh tables and the clear button too.
+Default lists, good and bad, are drawn with the cases. The office text of many
+of the tables, and of some for it alone, is compared in the same way.
 
   --records N   so many records (default 300000)
   --seed S      another choice of records (default 1)
   --trace       print each case before it is judged
   --replay CASE judge this one case and show both outcomes, also those of the
-                office text of its tables; ROOM, the length of the buffer for
-                either, is a decimal number, all else hexadecimal digits
+                office text of its tables; CLOCK and ROOM, the length of the
+                buffer for either, are decimal numbers, all else hexadecimal
+                digits
   --help        this text
 
 Ends with 0 when all are equal, with 1 when one is not.
@@ -186,7 +187,7 @@ fn clear_differs(case: &Case) -> Option<usize> {
 }
 
 fn show_small(case: &Case, what: &str, differs: fn(&Case) -> Option<usize>) {
-    let case = Case { record: Vec::new(), room: 0, ..case.clone() };
+    let case = Case { clock: 0, record: Vec::new(), room: 0, ..case.clone() };
     let small = shrink(case, |case| differs(case).is_some());
     println!("{what} {}", differs(&small).map_or("no difference".into(), field));
     show_command(&small);

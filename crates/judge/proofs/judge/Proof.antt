@@ -31,16 +31,16 @@ use Rattle.judge.proofs.judge.Tie as tie
 module _ (d : Defaults) (t : Tables) (q : Request) where
   -- the buffer after a verdict
   abbrev held : List ℕ → Check → List ℕ
-  held b c = filled b (outcomeOf d t (permission t (q .bytes)) (q .bytes) c .reply .contents)
+  held b c = filled b (outcomeOf d t (permission (q .clock) t (q .bytes)) (q .bytes) c .reply .contents)
 
   -- a refusal: what is said, and the buffer stays
-  turned : (c : Check) (n : ℕ) (j : Judgement) (b : List ℕ) → c ≡ Refuse n → c ≡ verdict (checks t (permission t (q .bytes)) q) → j ≡ refusal t (numberOf c)
+  turned : (c : Check) (n : ℕ) (j : Judgement) (b : List ℕ) → c ≡ Refuse n → c ≡ verdict (checks t (permission (q .clock) t (q .bytes)) q) → j ≡ refusal t (numberOf c)
       → (j ≡ judgementOf (outcome d t q)) × (b ≡ filled b (replyTo d t q .contents))
   unfolding outcome outcomeAt filled
   turned c n j b e v r = (r ∙ rw (← v, e), ap (held b) (sym e ∙ v))
 
   -- a permit: what is said, and the buffer holds the reply
-  let-through : (p l : ℕ) (g : Places) (next : Tables) (b b′ : List ℕ) → p ≡ permission t (q .bytes) → l ≡ length (replyOf t (q .bytes)) → Pass ≡ verdict (checks t (permission t (q .bytes)) q)
+  let-through : (p l : ℕ) (g : Places) (next : Tables) (b b′ : List ℕ) → p ≡ permission (q .clock) t (q .bytes) → l ≡ length (replyOf t (q .bytes)) → Pass ≡ verdict (checks t (permission (q .clock) t (q .bytes)) q)
       → g ≡ placesOf t (body (q .bytes)) (action (q .bytes)) → next ≡ effect d t (body (q .bytes)) (action (q .bytes)) → b′ ≡ filled b (replyOf t (q .bytes))
       → (record { answer = 0; permission = p; length = l; places = g; tables = next } ≡ judgementOf (outcome d t q)) × (b′ ≡ filled b (replyTo d t q .contents))
   unfolding outcome outcomeAt
@@ -58,7 +58,7 @@ abbrev lists : tie.Start → Defaults
 lists s = defaults (now (s .args .creds)) (now (s .args .aces))
 
 abbrev request : tie.Start → Request
-request s = asked (now (s .args .«record»)) (length (now (s .args .reply)))
+request s = asked (s .args .clock) (now (s .args .«record»)) (length (now (s .args .reply)))
 
 -- what the first seven checks let pass
 is-sound : (c : tie.After-enum-told) → sound (start c .args .t) ≡ true
@@ -71,7 +71,7 @@ returns c =
     let r = now (s .args .«record») in
     let form = formChecks (s .args .t) r in
     turned (lists s) (s .args .t) (request s) _ _ _ _ (told .enum-told2 .given .1)
-    (stop-all (form ++ askedChecks (s .args .t) (permission (s .args .t) r) r (action r)) _ _ (stop-all form _ _ (told .before .before .check-form .ensures) (told .enum-told2 .given .1)) (told .enum-told2 .given .1))
+    (stop-all (form ++ askedChecks (s .args .t) (permission (s .args .clock) (s .args .t) r) r (action r)) _ _ (stop-all form _ _ (told .before .before .check-form .ensures) (told .enum-told2 .given .1)) (told .enum-told2 .given .1))
     (c .refused .ensures)
 
 check-asked-requires : tie.Need-check-asked-requires
@@ -79,7 +79,7 @@ check-asked-requires c κs = c .action-of .ensures
 
 -- the verdict of the checks up to 14
 fourteen : (c : tie.After-check-asked) → let s = start (c .before .before .before) in let r = now (s .args .«record») in
-    c .check-asked .result ≡ verdict (formChecks (s .args .t) r ++ askedChecks (s .args .t) (permission (s .args .t) r) r (action r))
+    c .check-asked .result ≡ verdict (formChecks (s .args .t) r ++ askedChecks (s .args .t) (permission (s .args .clock) (s .args .t) r) r (action r))
 fourteen c =
     let p = c .before .before .before in
     let s = start p in
@@ -93,7 +93,7 @@ returns-2 c =
     let s = start (call .before .before .before) in
     let r = now (s .args .«record») in
     turned (lists s) (s .args .t) (request s) _ _ _ _ (told .enum-told4 .given .1)
-    (stop-all (formChecks (s .args .t) r ++ askedChecks (s .args .t) (permission (s .args .t) r) r (action r)) _ _ (fourteen call) (told .enum-told4 .given .1))
+    (stop-all (formChecks (s .args .t) r ++ askedChecks (s .args .t) (permission (s .args .clock) (s .args .t) r) r (action r)) _ _ (fourteen call) (told .enum-told4 .given .1))
     (c .refused2 .ensures)
 
 -- back from the check of the room
@@ -107,12 +107,12 @@ room-checked c = last _ _ (rw (← c .before .reply-length .ensures) (c .check-r
 
 -- the verdict of the whole list
 whole : (c : tie.After-check-room) → let s = start (before-room c .before .before .before) in
-    c .check-room .result ≡ verdict (checks (s .args .t) (permission (s .args .t) (now (s .args .«record»))) (request s))
+    c .check-room .result ≡ verdict (checks (s .args .t) (permission (s .args .clock) (s .args .t) (now (s .args .«record»))) (request s))
 whole c =
     let call = before-room c in
     let s = start (call .before .before .before) in
     let r = now (s .args .«record») in
-    skip-all (formChecks (s .args .t) r ++ askedChecks (s .args .t) (permission (s .args .t) r) r (action r)) _ (fourteen call) (c .before .before .enum-told3 .given .1) (room-checked c)
+    skip-all (formChecks (s .args .t) r ++ askedChecks (s .args .t) (permission (s .args .clock) (s .args .t) r) r (action r)) _ (fourteen call) (c .before .before .enum-told3 .given .1) (room-checked c)
 
 returns-3 : tie.Need-returns-3
 returns-3 c =

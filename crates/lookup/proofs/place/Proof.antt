@@ -22,7 +22,7 @@ find-requires-2 : tie.Need-find-requires-2
 find-requires-2 c κs =
     let told = c .before .before .before in
     let start = told .before .before .before .before in
-    let l : length (start .args .t1 .aces) ≡ 896 = search needs in
+    let l : length (start .args .t1 .aces) ≡ 1152 = search needs in
     omega (arith, told .held2 .ensures)
 
 returns : tie.Need-returns

@@ -11,7 +11,7 @@ use Rattle.permission.proofs.effective.Tie as tie
 credential-row-requires : tie.Need-credential-row-requires
 credential-row-requires c κs =
     let start = c .before .before .before .before .before .before .before in
-    let l : length (start .args .t1 .creds) ≡ 552 = search needs in
+    let l : length (start .args .t2 .creds) ≡ 552 = search needs in
     omega arith
 
 returns : tie.Need-returns

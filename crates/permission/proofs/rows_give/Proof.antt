@@ -11,17 +11,17 @@ use Rattle.permission.proofs.rows_give.Statement.{statement}
 use Rattle.permission.proofs.rows_give.Tie as tie
 
 abbrev Inv-loop : tie.InvT-loop
-Inv-loop aces count cred connection resource total₀ rest₀ left₀ total rest left = UnionInv (gives cred connection resource) 28 count aces rest left total
+Inv-loop clock aces count cred connection resource total₀ rest₀ left₀ total rest left = UnionInv (gives clock cred connection resource) 36 count aces rest left total
 
 abbrev μ-loop : tie.MeasureT-loop
-μ-loop aces count cred connection resource total₀ rest₀ left₀ total rest left = left
+μ-loop clock aces count cred connection resource total₀ rest₀ left₀ total rest left = left
 
 -- a turn has a row
-row-here : (c : tie.In-loop Inv-loop μ-loop) → 28 ≤ length (c .before .loop .rest .now)
-row-here c = a-row 28 _ (c .before .loop .rest .now) (c .loop-test .taken) (c .before .loop .inv .room)
+row-here : (c : tie.In-loop Inv-loop μ-loop) → 36 ≤ length (c .before .loop .rest .now)
+row-here c = a-row 36 _ (c .before .loop .rest .now) (c .loop-test .taken) (c .before .loop .inv .room)
 
 slice-aggregate-row-gives : tie.Need-slice-aggregate-row-gives Inv-loop μ-loop
-slice-aggregate-row-gives c = sym (length-take-le 28 (c .before .before .loop .rest .now) (row-here (c .before)))
+slice-aggregate-row-gives c = sym (length-take-le 36 (c .before .before .loop .rest .now) (row-here (c .before)))
 
 loop-again : tie.Need-loop-again Inv-loop μ-loop
 loop-again c =

@@ -16,7 +16,7 @@ returns c = let l : length (c .before .before .args .t .creds) ≡ 552 = search 
 
 returns-2 : tie.Need-returns-2
 unfolding rowBytes
-returns-2 c = let l : length (c .before .before .args .t .aces) ≡ 896 = search needs in rw (c .before .match .keys2) (row-length Aces _ _ _ (c .held2 .ensures) l, omega (arith, c .held2 .ensures))
+returns-2 c = let l : length (c .before .before .args .t .aces) ≡ 1152 = search needs in rw (c .before .match .keys2) (row-length Aces _ _ _ (c .held2 .ensures) l, omega (arith, c .held2 .ensures))
 
 returns-3 : tie.Need-returns-3
 unfolding rowBytes

@@ -1,13 +1,15 @@
 -- `put_lines` meets its contract.
 -- Invariant: what is written, and the lines of the rest of the input, are the lines of the input.
 use mathlib.Core.Path.{_≡_}
-use Prim.Native.Nat.{_+_, _<_}
+use Prim.Native.Nat.{_+_, _<_, _≤_}
+use denote.Ref.{now}
 use native.Mathlib.Nat.{add-sub-cancel-left}
 use native.Mathlib.Omega.{arith}
 use borrow.Author.Needs.{needs}
 use lib.ListN.{length}
 use Rattle.rows.proofs.Laws.{take-rest}
 use Rattle.rules.proofs.BitLaws.{field-below}
+use Rattle.text.specs.Buffer.{largest}
 use Rattle.text.proofs.Buffers.{puts-length, writing-length}
 use Rattle.report.specs.Run.{lengthOf}
 use Rattle.report.proofs.Lines.{Running, run-start, run-turn, run-cut, run-end}
@@ -23,35 +25,45 @@ abbrev μ-loop : tie.MeasureT-loop
 loop-holds : tie.Need-loop-holds Inv-loop μ-loop
 loop-holds c = run-start _ _ (omega arith) (omega arith) (c .start-tables .ensures)
 
--- the length that the rest starts with
-long : (c : tie.After-word Inv-loop μ-loop) → c .word .result ≡ lengthOf (c .before .before .loop .rest .now)
-long c = c .word .ensures
+-- the length that the rest has behind its clock
+long : (c : tie.After-word Inv-loop μ-loop) → c .word .result ≡ lengthOf (c .before .before .before .loop .rest .now)
+long c = rw (c .before .after .ensures) at (c .word .ensures)
 
 small : (c : tie.After-word Inv-loop μ-loop) → c .word .result < 65536
 small c = field-below _ 0 16 16 _ (omega arith) (c .word .ensures)
 
 same-length : tie.Need-same-length Inv-loop μ-loop
 same-length c =
-    omega (arith, puts-length (c .before .before .put-cut .ensures), writing-length (c .before .before .before .before .before .before .before .loop .inv .writing))
+    omega (arith, puts-length (c .before .before .put-cut .ensures), writing-length (c .before .before .before .before .before .before .before .before .loop .inv .writing))
 
 returns : tie.Need-returns Inv-loop μ-loop
 returns c =
     let test = c .before .before .before .before in
     let short = rw (long (test .before)) at (test .if1 .taken) in
-    run-cut (test .before .before .before .loop .inv) (test .before .before .loop-test .taken) short (c .before .before .put-cut .ensures)
+    let turn = test .before .before .before in
+    run-cut (turn .before .loop .inv) (turn .loop-test .taken) short (c .before .before .put-cut .ensures)
+
+-- an input is no longer than a slice can be
+bound : (c : tie.After-shared-slice-known Inv-loop μ-loop) → length (now (c .before .before .args .input)) ≤ largest
+bound c = omega arith
 
 add-place : tie.Need-add-place Inv-loop μ-loop
-add-place c = omega (arith, c .before .before .before .before .before .before .before .before .before .before .before .loop .inv .places)
+add-place c =
+    let at = c .before .before .before .before .before .before .before .before .before .before .before .before .before in
+    omega (arith, at .loop .inv .places, bound (at .before .before))
 
 loop-again : tie.Need-loop-again Inv-loop μ-loop
 loop-again c =
     let line = c .before .before .before .put-line .ensures in
-    let test = c .before .before .before .before .before .before .before .before in
-    let l = test .before .before .before .loop in
+    let call = c .before .before .before .before .before .before in
+    let clock = call .before .before in
+    let test = clock .before in
+    let turn = test .before .before .before in
+    let l = turn .before .loop in
     let e = long (test .before) in
-    let judged = rw (e, add-sub-cancel-left) at (c .before .before .before .before .before .before .judge-one .ensures) in
-    run-turn (l .inv) (test .before .before .loop-test .taken) (rw e at (test .if1 .left)) judged
-    (rw e (take-rest (2 + lengthOf (l .rest .now)) (l .rest .now))) (line .0) (line .1)
+    let judged = rw (e, add-sub-cancel-left, clock .double-word .ensures) at (call .judge-one .ensures) in
+    run-turn (l .inv) (turn .loop-test .taken) (rw e at (test .if1 .left)) judged
+    (rw e (take-rest (6 + lengthOf (l .rest .now)) (l .rest .now))) (line .0) (line .1)
 
 same-length-2 : tie.Need-same-length-2 Inv-loop μ-loop
 same-length-2 c = writing-length (c .before .loop .inv .writing)
@@ -66,9 +78,9 @@ put-lines-spec =
     Inv-loop
     μ-loop
     (λ c κs. search needs) loop-holds
-    (λ c κs. search needs) (λ c. search needs) (λ c. omega (arith, small c)) (λ c κs. search needs) same-length
+    (λ c κs. search needs) (λ c κs. search needs) (λ c. search needs) (λ c. omega (arith, small c)) (λ c κs. search needs) same-length
     returns
-    (λ c. search needs) (λ c. search needs) (λ c. search needs) (λ c κs. search needs) (λ c κs. search needs)
+    (λ c κs. search needs) (λ c. search needs) (λ c. search needs) (λ c. search needs) (λ c κs. search needs) (λ c κs. search needs)
     (λ c. search needs) (λ c. search needs) (λ c. search needs) add-place
     (λ c. search needs) loop-again
     same-length-2

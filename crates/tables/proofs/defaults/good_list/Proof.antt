@@ -18,9 +18,6 @@ returns c = rw (lt-leb _ 2 (rw (c .before .stride-of .ensures) at (c .if1 .taken
 rem-result : tie.Need-rem-result
 rem-result c = rw (c .before .stride-of .ensures) (positive (c .before .before .before .args .table))
 
-rows-storable-requires : tie.Need-rows-storable-requires
-rows-storable-requires c κs = rw (c .before .stride-of .ensures) (rows-within (c .before .before .before .args .table) _)
-
 distinct-requires : tie.Need-distinct-requires
 distinct-requires c κs = let at = c .before .before in rw (at .stride-of .ensures) (two-long (at .before .before .args .table), rows-within (at .before .before .args .table) _)
 
@@ -35,6 +32,6 @@ good-list-spec =
     (λ c κs. search needs) div-n
     returns
     rem-result
-    rows-storable-requires
+    (λ c κs. search needs)
     distinct-requires
     returns-2)

@@ -1,9 +1,9 @@
--- `soundness::head_sound`: test by test.
+-- `head_sound`: test by test.
 use Rattle.rules.specs.Tables.{headSound}
 use Rattle.rules.proofs.Bools.{not-word}
 use borrow.Author.Needs.{needs}
-use Rattle.tables.proofs.soundness.head_sound.Statement.{statement}
-use Rattle.tables.proofs.soundness.head_sound.Tie as tie
+use Rattle.soundness.proofs.head_sound.Statement.{statement}
+use Rattle.soundness.proofs.head_sound.Tie as tie
 
 returns : tie.Need-returns
 unfolding headSound

@@ -1,4 +1,4 @@
--- `soundness::rows_sound`: the rows lie within the bytes once their count is tested.
+-- `rows_sound`: the rows lie within the bytes once their count is tested.
 use mathlib.Core.Path.{_≡_, sym, ap, _∙_}
 use Prim.Native.Nat.{ℕ, _*_, _≤_}
 use native.Mathlib.Nat.{mul-le-mul-right}
@@ -11,8 +11,8 @@ use Rattle.rules.specs.declared.Table.{Table}
 use Rattle.rules.proofs.Answers.{rows-counted}
 use Rattle.rules.proofs.BodyLaws.{two-long}
 use Rattle.rules.specs.Tables.{stride, capacity, rowsSound}
-use Rattle.tables.proofs.soundness.rows_sound.Statement.{statement}
-use Rattle.tables.proofs.soundness.rows_sound.Tie as tie
+use Rattle.soundness.proofs.rows_sound.Statement.{statement}
+use Rattle.soundness.proofs.rows_sound.Tie as tie
 
 few : (c : tie.After-stride-of) → let a = c .before .before .before .before .args in a .count ≤ capacity (a .table)
 few c = rw (c .before .before .capacity-of .ensures) at (c .before .if1 .left)
@@ -46,5 +46,5 @@ rows-sound-spec =
     (tie.spec
     (λ c κs. search needs) returns
     (λ c κs. search needs) mul-end
-    (λ c κs. search needs) (λ c κs. fits (c .before)) distinct-requires
+    (λ c κs. search needs) (λ c κs. search needs) distinct-requires
     returns-2)

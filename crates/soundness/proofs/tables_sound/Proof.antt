@@ -1,8 +1,8 @@
--- `soundness::tables_sound`: the head and both tables.
+-- `tables_sound`: the head and both tables.
 use borrow.Author.Needs.{needs}
 use Rattle.rules.specs.Tables.{sound}
-use Rattle.tables.proofs.soundness.tables_sound.Statement.{statement}
-use Rattle.tables.proofs.soundness.tables_sound.Tie as tie
+use Rattle.soundness.proofs.tables_sound.Statement.{statement}
+use Rattle.soundness.proofs.tables_sound.Tie as tie
 
 returns : tie.Need-returns
 unfolding sound

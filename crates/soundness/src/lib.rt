@@ -1,15 +1,37 @@
 // Whether tables are sound.
 // The head, then each table: room for its rows, zeros after them, each row storable, distinct numbers.
-use crate::rows_storable;
 use format::capacity_of;
 use format::is_nil;
+use format::row_storable;
 use format::stride_of;
 use rules::Table;
 use rules::Tables;
 ghost use mathlib.Core.Path.{_≡_};
 ghost use Prim.Native.Nat.{_*_};
 ghost use lib.ListN.{length};
-ghost use Rattle.rules.specs.Tables.{stride, capacity, rowsSound, headSound, sound};
+ghost use Rattle.rows.specs.Rows.{rowsOf, every};
+ghost use Rattle.rules.specs.Tables.{stride, storable, capacity, rowsSound, headSound, sound};
+
+// Whether each of the first `count` rows is one that a body could store; one that is cut short is not.
+// Rules out: the last row not looked at; a row of the other table.
+pub fn rows_storable(table: Table, rows: &[u8], count: usize) -> bool
+    ensures { λ r. ⌜ r ≡ every (storable table) (rowsOf (stride table) count (now (rows .entry))) ⌝ }
+{
+    let long = stride_of(table);
+    let mut rest = rows;
+    let mut left = count;
+    while 0 < left {
+        if rest.len() < long {
+            return false;
+        }
+        if !row_storable(table, &rest[..long]) {
+            return false;
+        }
+        rest = &rest[long..];
+        left -= 1;
+    }
+    true
+}
 
 fn rows_sound(table: Table, count: usize, bytes: &[u8]) -> bool
     requires { ⌜ length (now bytes) ≡ capacity table * stride table ⌝ }
