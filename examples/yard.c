@@ -1,6 +1,6 @@
-/* A weighbridge yard: the owner sets a terminal up and reads it back, the office gets the access list as text; a
- * haulier, two foremen, a harvest contractor, a stranger and a broken sender call. Before that the program sees that its
- * structs are laid out as the library's.
+/* A weighbridge yard: the owner sets a terminal up and reads it back, the office gets the access list as text and polls
+ * the whole yard; a haulier, two foremen, a harvest contractor, a stranger and a broken sender call. Before that the
+ * program sees that its structs are laid out as the library's.
  *
  *     rt staticlib terminal
  *     cc -std=c11 -Wall -Wextra -Werror -Iinclude examples/yard.c target/staticlib/libterminal.a -o target/yard
@@ -12,7 +12,16 @@
 
 #include "tillerclover.h"
 
-enum { OWNER = 5, HAULIER = 7, HAULIER_SPARE = 8, UNKNOWN = 9, FOREMAN = 20, OTHER_FOREMAN = 21, CONTRACTOR = 30 };
+enum {
+    OWNER = 5,
+    HAULIER = 7,
+    HAULIER_SPARE = 8,
+    UNKNOWN = 9,
+    FOREMAN = 20,
+    OTHER_FOREMAN = 21,
+    CONTRACTOR = 30,
+    OFFICE = 40
+};
 
 /* Two hauliers both call their foremen role 7; the authority tells them apart. */
 enum { NO_ROLE = 0, FOREMAN_ROLE = 7, WORKS = 0, HAULIER_AUTHORITY = 2, OTHER_AUTHORITY = 3 };
@@ -30,6 +39,8 @@ static const uint8_t OTHER_FOREMAN_UUID[TILLERCLOVER_UUID_LENGTH] = {0x83, 0x2c,
                                                                      0xa2, 0xe4, 0x58, 0x19, 0xc6, 0x7f, 0x0b, 0xd3};
 static const uint8_t CONTRACTOR_UUID[TILLERCLOVER_UUID_LENGTH] = {0x6a, 0xd5, 0x40, 0x8e, 0x21, 0xf3, 0x4c, 0xb7,
                                                                   0x95, 0x0d, 0xe6, 0x72, 0x3b, 0x18, 0xac, 0x54};
+static const uint8_t OFFICE_UUID[TILLERCLOVER_UUID_LENGTH] = {0xf7, 0x02, 0x6c, 0xb8, 0x15, 0x9e, 0x43, 0xd0,
+                                                              0x84, 0x3a, 0x60, 0x27, 0xdb, 0x95, 0x1e, 0xc3};
 
 /* The yard's build has no default rows; the maker's, further down, has some. */
 static const uint8_t NONE[1] = {0};
@@ -57,6 +68,13 @@ static const char *const ANSWERS[] = {
 };
 
 static const char *const STATES[] = {"RESET", "RFOTM", "RFPRO", "RFNOP", "SRESET"};
+
+/* The links of the yard, by their number. */
+static const char *const LINKS[] = {
+    [TILLERCLOVER_WEIGHT] = "/weight", [TILLERCLOVER_TARE] = "/tare",   [TILLERCLOVER_ZERO] = "/zero",
+    [TILLERCLOVER_TICKET] = "/ticket", [TILLERCLOVER_LAMP] = "/lamp",   [TILLERCLOVER_CALIB] = "/calib",
+    [TILLERCLOVER_DISPLAY] = "/display",
+};
 
 /* ---- Records */
 
@@ -160,20 +178,27 @@ static struct record delete_ace(unsigned sender, unsigned number)
     return r;
 }
 
-/* An access row that gives a subject one resource, by the body without a period: it holds for every second. */
-static struct record store_subject_ace(unsigned sender, unsigned number, unsigned kind, unsigned permission,
-                                       enum tillerclover_resource resource, const uint8_t subject[16])
+/* An access row that gives a subject a set of resources, by the body without a period: it holds for every second. */
+static struct record store_set_ace(unsigned sender, unsigned number, unsigned kind, unsigned permission, uint64_t set,
+                                   const uint8_t subject[16])
 {
     struct record r = header(TILLERCLOVER_UPDATE, TILLERCLOVER_ACL2, sender);
-    uint8_t set[8] = {0};
-    set[resource / 8] = (uint8_t)(0x80u >> resource % 8);
     add_number(&r, number);
     /* two bits of subject kind, five of permission, no wildcard, six zero bits */
     add_byte(&r, kind << 6 | permission << 1);
     add_byte(&r, 0);
-    add(&r, set, sizeof set);
+    for (unsigned place = 64; place > 0; place -= 16) {
+        add_number(&r, (unsigned)(set >> (place - 16)));
+    }
     add(&r, subject, 16);
     return r;
+}
+
+/* The same for one resource. */
+static struct record store_subject_ace(unsigned sender, unsigned number, unsigned kind, unsigned permission,
+                                       enum tillerclover_resource resource, const uint8_t subject[16])
+{
+    return store_set_ace(sender, number, kind, permission, TILLERCLOVER_SET_BIT(resource), subject);
 }
 
 /* An access row that gives a UUID one resource from the first second to the last. */
@@ -270,8 +295,9 @@ static void refused_tables(void)
     tillerclover_tables t = pattern();
     tillerclover_outcome o = judge(t, header(TILLERCLOVER_RETRIEVE, TILLERCLOVER_WEIGHT, 0));
     expect(o.answer == TILLERCLOVER_NOT_SOUND, "tables of any bytes were taken for sound");
-    expect(o.permission == 0 && o.start == 0 && o.length == 0 && o.reply == 0 && o.first == 0 && o.many == 0,
-           "a refusal has a permission, a payload, a reply or places");
+    expect(o.permission == 0 && o.start == 0 && o.length == 0 && o.reply == 0 && o.first == 0 && o.many == 0 &&
+               o.set == 0 && o.size == 0,
+           "a refusal has a permission, a payload, a reply, places or a set");
     expect(same(&o.tables, &t), "a refusal changed the tables");
 }
 
@@ -317,7 +343,8 @@ static void each_field(void)
     add(&r, "on", 2);
     tillerclover_outcome o = judge(t, r);
     expect(o.answer == TILLERCLOVER_PERMITTED && o.permission == TILLERCLOVER_MAY_ALL, "answer or permission stands elsewhere");
-    expect(o.start == 4 && o.length == 2 && o.reply == 0 && o.first == 0 && o.many == 0, "start or length stands elsewhere");
+    expect(o.start == 4 && o.length == 2 && o.reply == 0 && o.first == 0 && o.many == 0 && o.set == 0 && o.size == 0,
+           "start or length stands elsewhere");
     expect(same(&o.tables, &expected), "tables stands elsewhere in the outcome");
     o = judge(t, header(TILLERCLOVER_RETRIEVE, TILLERCLOVER_CRED, 100));
     expect(o.answer == TILLERCLOVER_PERMITTED && o.start == 0 && o.length == 0, "answer, start or length stands elsewhere");
@@ -337,6 +364,32 @@ static void each_field(void)
     memcpy(t.aces + o.first * TILLERCLOVER_ACE_LENGTH, o.tables.aces + o.first * TILLERCLOVER_ACE_LENGTH,
            o.many * TILLERCLOVER_ACE_LENGTH);
     expect(same(&o.tables, &t), "a delete changed another place");
+}
+
+/* The set of the yard and its size: a link more for each row that is stored. DISPLAY has no secure endpoint. */
+static void sets(void)
+{
+    tillerclover_tables t = tillerclover_fresh(NONE, 0, NONE, 0);
+    uint64_t expected = 0;
+    size_t size = 0;
+    t = after(t, store_cred(0, OWNER, OWNER_UUID));
+    t = after(t, store_ace(0, 1, TILLERCLOVER_MAY_RETRIEVE, TILLERCLOVER_YARD, OWNER_UUID));
+    t = after(t, set_owner(0, OWNER_UUID));
+    t = after(t, set_state(OWNER, TILLERCLOVER_RFPRO));
+    for (unsigned link = TILLERCLOVER_WEIGHT; link <= TILLERCLOVER_DISPLAY; link++) {
+        t = after(t, store_ace(OWNER, link, TILLERCLOVER_MAY_RETRIEVE, (enum tillerclover_resource)link, OWNER_UUID));
+        t = after(t, set_state(OWNER, TILLERCLOVER_RFNOP));
+        if (link != TILLERCLOVER_DISPLAY) {
+            expected |= UINT64_C(0x8000000000000000) >> link;
+            size++;
+        }
+        tillerclover_outcome o = judge(t, header(TILLERCLOVER_RETRIEVE, TILLERCLOVER_YARD, OWNER));
+        expect(o.answer == TILLERCLOVER_PERMITTED && o.set == expected && o.size == size, "set or size stands elsewhere");
+        expect(same(&o.tables, &t), "tables stands elsewhere behind a set");
+        o = judge(t, header(TILLERCLOVER_OBSERVE, TILLERCLOVER_YARD, OWNER));
+        expect(o.answer == TILLERCLOVER_PERMITTED && o.set == 0 && o.size == 0, "an OBSERVE has a set");
+        t = after(t, set_state(OWNER, TILLERCLOVER_RFPRO));
+    }
 }
 
 /* The longest reply in a buffer that just fits, and in one that just does not; the bytes behind it stay. */
@@ -422,6 +475,18 @@ static void no_bytes(void)
 
 /* ---- The yard */
 
+/* Which links of the yard the sender may use. */
+static void print_set(uint64_t set)
+{
+    printf("   ");
+    for (unsigned link = TILLERCLOVER_WEIGHT; link <= TILLERCLOVER_DISPLAY; link++) {
+        if ((set & TILLERCLOVER_SET_BIT(link)) != 0) {
+            printf(" %s", LINKS[link]);
+        }
+    }
+    printf("\n");
+}
+
 /* Judges a record, prints what came of it and keeps the tables that were handed back. Returns the reply's length. */
 static size_t call(tillerclover_tables *t, const char *what, struct record r)
 {
@@ -440,7 +505,13 @@ static size_t call(tillerclover_tables *t, const char *what, struct record r)
     if (o.many != 0) {
         printf(", %zu to store from place %zu", o.many, o.first);
     }
+    if (o.size != 0) {
+        printf(", set of %zu", o.size);
+    }
     printf("\n");
+    if (o.size != 0) {
+        print_set(o.set);
+    }
     return o.reply;
 }
 
@@ -496,6 +567,7 @@ int main(void)
     whole_tables();
     refused_tables();
     each_field();
+    sets();
     buffers();
     lists();
     clocks();
@@ -521,6 +593,13 @@ int main(void)
     call(&t, "stores a harvest contractor's credential", store_cred(OWNER, CONTRACTOR, CONTRACTOR_UUID));
     call(&t, "and lets it write the tare in the harvest",
          store_season_ace(OWNER, 4, TILLERCLOVER_MAY_UPDATE, TILLERCLOVER_TARE, CONTRACTOR_UUID, HARVEST_FIRST, HARVEST_LAST));
+    call(&t, "stores the office's credential", store_cred(OWNER, OFFICE, OFFICE_UUID));
+    call(&t, "lets it poll the yard and use the lamp",
+         store_set_ace(OWNER, 5, 0, TILLERCLOVER_MAY_RETRIEVE | TILLERCLOVER_MAY_UPDATE,
+                       TILLERCLOVER_SET_BIT(TILLERCLOVER_YARD) | TILLERCLOVER_SET_BIT(TILLERCLOVER_LAMP), OFFICE_UUID));
+    call(&t, "and read the weight and the ticket",
+         store_set_ace(OWNER, 6, 0, TILLERCLOVER_MAY_RETRIEVE,
+                       TILLERCLOVER_SET_BIT(TILLERCLOVER_WEIGHT) | TILLERCLOVER_SET_BIT(TILLERCLOVER_TICKET), OFFICE_UUID));
     call(&t, "and moves the terminal to RFNOP", set_state(OWNER, TILLERCLOVER_RFNOP));
 
     struct record tare = header(TILLERCLOVER_UPDATE, TILLERCLOVER_TARE, HAULIER);
@@ -535,6 +614,12 @@ int main(void)
     call(&t, "the haulier's foreman sets the lamp", lamp);
     lamp.bytes[3] = OTHER_FOREMAN;
     call(&t, "the other haulier's foreman tries to", lamp);
+
+    call(&t, "the office polls the yard", header(TILLERCLOVER_RETRIEVE, TILLERCLOVER_YARD, OFFICE));
+    struct record night = header(TILLERCLOVER_UPDATE, TILLERCLOVER_YARD, OFFICE);
+    add(&night, "night", 5);
+    call(&t, "and switches it to the night", night);
+    call(&t, "the haulier tries to poll it", header(TILLERCLOVER_RETRIEVE, TILLERCLOVER_YARD, HAULIER));
 
     struct record load = header(TILLERCLOVER_UPDATE, TILLERCLOVER_TARE, CONTRACTOR);
     add(&load, "3150 kg", 7);

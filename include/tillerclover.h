@@ -6,7 +6,7 @@
  * What the four functions return, and what a reply or a text holds, depends on their arguments alone. They
  * keep no state between calls, allocate nothing, do no input or output, never fail and always
  * return. So any number of threads may call them at once, each with a buffer of its own. A thread
- * needs 16 KiB of free stack for a call; docs/BENCHMARKS.md has the measured depth.
+ * needs 24 KiB of free stack for a call; docs/BENCHMARKS.md has the measured depth.
  *
  * Tables go in and come out by value: the caller owns every copy, and keeps the one that was
  * handed back. A caller that shares its tables between threads holds its own lock from reading
@@ -47,7 +47,7 @@ enum {
     /* the longest reply: a row owner and all access rows */
     TILLERCLOVER_REPLY_MAX = 1168,
     /* the longest text of tillerclover_access_list */
-    TILLERCLOVER_TEXT_MAX = 11693
+    TILLERCLOVER_TEXT_MAX = 12237
 };
 
 /* ---- Numbers in tables and records */
@@ -88,8 +88,13 @@ enum tillerclover_resource {
     TILLERCLOVER_TICKET = 11,
     TILLERCLOVER_LAMP = 12,
     TILLERCLOVER_CALIB = 13,
-    TILLERCLOVER_DISPLAY = 14
+    TILLERCLOVER_DISPLAY = 14,
+    /* the whole yard, with links to WEIGHT to DISPLAY */
+    TILLERCLOVER_YARD = 16
 };
+
+/* The bit of a resource in a set of 64. */
+#define TILLERCLOVER_SET_BIT(resource) (UINT64_C(1) << (63 - (resource)))
 
 /* Permission bits. OBSERVE needs RETRIEVE's; no verb needs NOTIFY's. */
 enum tillerclover_permission {
@@ -199,6 +204,12 @@ typedef struct tillerclover_outcome {
      * that finds no rows. */
     size_t first;
     size_t many;
+    /* The links of TILLERCLOVER_YARD, 8 to 14, that the sender may use now: those whose own record,
+     * with the same verb and sender and at the same clock, would be permitted. The top bit stands for
+     * resource 0, so a link is in it by TILLERCLOVER_SET_BIT. `size` is how many they are. Both are 0 for every
+     * record but a permitted RETRIEVE or UPDATE of TILLERCLOVER_YARD. */
+    uint64_t set;
+    size_t size;
     /* the tables afterwards: of a refusal those that were handed in, byte for byte */
     tillerclover_tables tables;
 } tillerclover_outcome;
@@ -285,7 +296,7 @@ TILLERCLOVER_ASSERT(offsetof(tillerclover_tables, creds) == 84, "creds");
 TILLERCLOVER_ASSERT(offsetof(tillerclover_tables, aces) == 636, "aces");
 
 TILLERCLOVER_ASSERT(sizeof(size_t) == 8, "the library is for 64 bits");
-TILLERCLOVER_ASSERT(sizeof(tillerclover_outcome) == 1840, "an outcome has 1,840 bytes");
+TILLERCLOVER_ASSERT(sizeof(tillerclover_outcome) == 1856, "an outcome has 1,856 bytes");
 TILLERCLOVER_ASSERT(offsetof(tillerclover_outcome, answer) == 0, "answer");
 TILLERCLOVER_ASSERT(offsetof(tillerclover_outcome, permission) == 1, "permission");
 TILLERCLOVER_ASSERT(offsetof(tillerclover_outcome, start) == 8, "start");
@@ -293,7 +304,9 @@ TILLERCLOVER_ASSERT(offsetof(tillerclover_outcome, length) == 16, "length");
 TILLERCLOVER_ASSERT(offsetof(tillerclover_outcome, reply) == 24, "reply");
 TILLERCLOVER_ASSERT(offsetof(tillerclover_outcome, first) == 32, "first");
 TILLERCLOVER_ASSERT(offsetof(tillerclover_outcome, many) == 40, "many");
-TILLERCLOVER_ASSERT(offsetof(tillerclover_outcome, tables) == 48, "tables");
+TILLERCLOVER_ASSERT(offsetof(tillerclover_outcome, set) == 48, "set");
+TILLERCLOVER_ASSERT(offsetof(tillerclover_outcome, size) == 56, "size");
+TILLERCLOVER_ASSERT(offsetof(tillerclover_outcome, tables) == 64, "tables");
 
 TILLERCLOVER_ASSERT(sizeof(tillerclover_listed) == 16, "what is said of a list has 16 bytes");
 TILLERCLOVER_ASSERT(offsetof(tillerclover_listed, answer) == 0, "answer");

@@ -15,6 +15,15 @@ impl<'a> Fields<'a> {
     pub fn take(&mut self, width: usize) -> u128 {
         let mut value = 0;
         let mut wanted = width;
+        // Whole bytes at a time where the field stands on one.
+        if self.place.is_multiple_of(8) {
+            let whole = wanted / 8;
+            for &byte in &self.bytes[self.place / 8..][..whole] {
+                value = value << 8 | u128::from(byte);
+            }
+            self.place += 8 * whole;
+            wanted -= 8 * whole;
+        }
         while wanted > 0 {
             let left_in_byte = 8 - self.place % 8;
             let now = wanted.min(left_in_byte);
@@ -46,13 +55,17 @@ impl Packer {
 
     /// Appends the low `width` bits of `value`.
     pub fn put(mut self, value: u128, width: usize) -> Self {
-        for shift in (0..width).rev() {
+        let mut left = width;
+        while left > 0 {
             if self.place.is_multiple_of(8) {
                 self.bytes.push(0);
             }
-            let bit = (value >> shift & 1) as u8;
-            self.bytes[self.place / 8] |= bit << (7 - self.place % 8);
-            self.place += 1;
+            let left_in_byte = 8 - self.place % 8;
+            let now = left.min(left_in_byte);
+            left -= now;
+            let piece = (value >> left) as u8 & (0xFF >> (8 - now));
+            self.bytes[self.place / 8] |= piece << (left_in_byte - now);
+            self.place += now;
         }
         self
     }

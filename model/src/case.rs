@@ -225,6 +225,9 @@ pub struct Seen {
     /// The first place to store after a delete, and how many.
     pub first: usize,
     pub many: usize,
+    /// The set that the yard answers, and its size as it is reported.
+    pub set: u64,
+    pub size: usize,
     pub tables: Stored,
 }
 
@@ -244,6 +247,8 @@ impl Seen {
             buffer,
             first: outcome.places.start,
             many: outcome.places.len(),
+            set: outcome.set,
+            size: outcome.size,
             tables: outcome.tables,
         }
     }
@@ -256,6 +261,7 @@ impl Seen {
             && self.reply == other.reply
             && self.buffer == other.buffer
             && (self.first, self.many) == (other.first, other.many)
+            && (self.set, self.size) == (other.set, other.size)
             && self.tables == other.tables
     }
 
@@ -272,7 +278,7 @@ impl Seen {
         };
         format!(
             "answer {}, permission {}, payload from {} length {}, reply length {}, {}, \
-             places from {} many {}, {tables}",
+             places from {} many {}, set {:016x} size {}, {tables}",
             self.answer,
             self.permission,
             self.payload.start,
@@ -280,7 +286,9 @@ impl Seen {
             self.reply,
             written(&self.buffer),
             self.first,
-            self.many
+            self.many,
+            self.set,
+            self.size
         )
     }
 }

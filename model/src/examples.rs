@@ -19,6 +19,8 @@ pub struct Example {
     pub room: usize,
     pub answer: u8,
     pub permission: u8,
+    /// The links that the yard answers.
+    pub set: u64,
 }
 
 impl Example {
@@ -101,6 +103,7 @@ pub fn refusals() -> Vec<Example> {
             room: 16 + 24 * 23 - 1,
             answer,
             permission: 0,
+            set: 0,
         })
         .collect()
 }
@@ -110,7 +113,7 @@ pub fn wrong_readings() -> Vec<Example> {
     let mut examples = Vec::new();
     let mut add = |name, tables: &Tables, record, answer, permission| {
         let room = LONGEST_REPLY;
-        examples.push(Example { name, tables: tables.bytes(), clock: 0, record, room, answer, permission });
+        examples.push(Example { name, tables: tables.bytes(), clock: 0, record, room, answer, permission, set: 0 });
     };
 
     let two = with_access(State::Rfnop, vec![access(1, ANON, 1, 0, &[8]), access(2, ANON, 4, 0, &[8])]);
@@ -159,7 +162,7 @@ pub fn decided() -> Vec<Example> {
     let mut examples = Vec::new();
     let mut add = |name, tables: &Tables, record, answer, permission| {
         let room = LONGEST_REPLY;
-        examples.push(Example { name, tables: tables.bytes(), clock: 0, record, room, answer, permission });
+        examples.push(Example { name, tables: tables.bytes(), clock: 0, record, room, answer, permission, set: 0 });
     };
     let fresh = Tables::fresh();
     let taken = owned(State::Rfpro);
@@ -247,6 +250,7 @@ pub fn decided() -> Vec<Example> {
         0,
     );
     examples.extend(seasons());
+    examples.extend(yards());
     examples
 }
 
@@ -255,7 +259,7 @@ fn seasons() -> Vec<Example> {
     let mut examples = Vec::new();
     let mut add = |name, tables: &Tables, clock, record, answer, permission| {
         let room = LONGEST_REPLY;
-        examples.push(Example { name, tables: tables.bytes(), clock, record, room, answer, permission });
+        examples.push(Example { name, tables: tables.bytes(), clock, record, room, answer, permission, set: 0 });
     };
     const MAX: u32 = u32::MAX;
     let read = || compose(Verb::Retrieve, 8, 0, &[]);
@@ -287,6 +291,54 @@ fn seasons() -> Vec<Example> {
     add("a period of one second", &fresh, 9, store("00000007 00000007"), 0, 31);
     add("a body without a period", &fresh, MAX, store(""), 0, 31);
     add("an owner has no period", &owned(State::Rfpro), MAX, compose(Verb::Retrieve, 3, 5, &[]), 0, 31);
+    examples
+}
+
+/// Polls of the whole yard.
+fn yards() -> Vec<Example> {
+    let mut examples = Vec::new();
+    let mut add = |name, tables: &Tables, clock, record, answer, permission, set| {
+        let room = 0;
+        examples.push(Example { name, tables: tables.bytes(), clock, record, room, answer, permission, set });
+    };
+    let read = |sender| compose(Verb::Retrieve, 16, sender, &[]);
+    let write = |sender| compose(Verb::Update, 16, sender, &[1, 2]);
+
+    let named = with_access(
+        State::Rfnop,
+        vec![access(1, AUTH, 6, 0, &[16]), access(2, AUTH, 2, 0, &[8, 9, 14]), access(3, AUTH, 4, 0, &[9, 13])],
+    );
+    add("links to read", &named, 0, read(5), 0, 6, 0x00C0_0000_0000_0000);
+    add("links to write", &named, 0, write(5), 0, 6, 0x0044_0000_0000_0000);
+    add("no set for an OBSERVE", &named, 0, compose(Verb::Observe, 16, 5, &[]), 0, 6, 0);
+    add("the yard in clear", &named, 0, read(0), 16, 0, 0);
+    add("a link alone", &named, 0, compose(Verb::Retrieve, 8, 5, &[]), 0, 2, 0);
+    let all = with_access(State::Rfnop, vec![access(1, AUTH, 31, 1, &[])]);
+    add("all but /display by *", &all, 0, read(5), 0, 31, 0x00FC_0000_0000_0000);
+    add("all but /display by *", &all, 0, write(5), 0, 31, 0x00FC_0000_0000_0000);
+    for verb in [Verb::Create, Verb::Delete, Verb::Observe] {
+        add("no set for another verb", &all, 0, compose(verb, 16, 5, &[]), 0, 31, 0);
+    }
+    let plus = with_access(State::Rfnop, vec![access(1, AUTH, 2, 4, &[])]);
+    add("those to be discovered by +", &plus, 0, read(5), 0, 2, 0x00F8_0000_0000_0000);
+    let minus = with_access(State::Rfnop, vec![access(1, AUTH, 2, 2, &[])]);
+    add("no yard by -", &minus, 0, read(5), 8, 0, 0);
+    let minus = with_access(State::Rfnop, vec![access(1, AUTH, 2, 2, &[16])]);
+    add("links by -", &minus, 0, read(5), 0, 2, 0x0088_0000_0000_0000);
+    let alone = with_access(State::Rfnop, vec![access(1, AUTH, 2, 0, &[16]), access(2, ANON, 31, 7, &[])]);
+    add("no link at all", &alone, 0, read(5), 0, 2, 0);
+    let links = with_access(State::Rfnop, vec![access(1, AUTH, 31, 0, &[8, 9, 10, 11, 12, 13, 14])]);
+    add("links without the yard", &links, 0, read(5), 8, 0, 0);
+    let elsewhere = with_access(State::Rfpro, vec![access(1, AUTH, 31, 1, &[])]);
+    add("the yard in RFNOP only", &elsewhere, 0, read(5), 11, 0, 0);
+    let season = Period { first: 10, last: 20 };
+    let season = with_access(
+        State::Rfnop,
+        vec![access(1, AUTH, 2, 0, &[16, 12]), Access { period: season, ..access(2, AUTH, 2, 0, &[8]) }],
+    );
+    for (clock, set) in [(9, 0x0008), (10, 0x0088), (20, 0x0088), (21, 0x0008)] {
+        add("a link for a season", &season, clock, read(5), 0, 2, set << 48);
+    }
     examples
 }
 
@@ -330,6 +382,8 @@ mod tests {
             let shown = format!("{}: {}", example.name, hex::write(&example.record));
             assert_eq!(outcome.answer, example.answer, "{shown}");
             assert_eq!(outcome.permission, example.permission, "{shown}");
+            assert_eq!(outcome.set, example.set, "{shown}");
+            assert_eq!(outcome.size, example.set.count_ones() as usize, "{shown}");
             if outcome.answer != 0 {
                 assert_eq!(outcome.payload, 0..0, "{shown}");
                 assert_eq!(outcome.tables, example.tables, "{shown}");

@@ -2,7 +2,7 @@
 
 use crate::case::Case;
 use crate::defaults::{join, Defaults, MOST};
-use crate::directory::{self, DIRECTORY};
+use crate::directory::{self, DIRECTORY, LINKS, YARD};
 use crate::examples;
 use crate::random::Random;
 use crate::record::{compose, device_owner_body, target_body, Header, Verb, HEADER, LONGEST};
@@ -193,7 +193,14 @@ pub fn access(random: &mut Random, held: &[u16]) -> Access {
     let wildcards = if random.chance(55) { 0 } else { random.below(8) as u8 };
     let set = match random.below(10) {
         0 | 1 => 0,
-        2..=5 => DIRECTORY[random.below(DIRECTORY.len())].bit(),
+        2..=4 if random.chance(15) => directory::set_bit(YARD),
+        2..=4 => DIRECTORY[random.below(DIRECTORY.len())].bit(),
+        // The yard with one or some of its links.
+        5 => {
+            let chosen =
+                if random.chance(50) { directory::set_bit(random.between(8, 14) as u8) } else { random.next() };
+            LINKS.fold(directory::set_bit(YARD), |set, link| set | directory::set_bit(link) & chosen)
+        }
         6 => directory::known(),
         _ => directory::known() & random.next(),
     };
@@ -661,7 +668,13 @@ fn application(random: &mut Random) -> Wish {
         2..=6 => 0,
         _ => random.between(1, 24),
     };
-    Wish::new(random.pick(&Verb::ALL), random.between(8, 14) as u8, random.bytes(length))
+    let (verb, resource) = if random.chance(25) {
+        let verbs = [(4, Verb::Retrieve), (4, Verb::Update), (2, Verb::Observe), (1, Verb::Create), (1, Verb::Delete)];
+        (random.weighted(&verbs), YARD)
+    } else {
+        (random.pick(&Verb::ALL), random.between(8, 14) as u8)
+    };
+    Wish::new(verb, resource, random.bytes(length))
 }
 
 /// The next step of somebody who sets the terminal up and uses it.
@@ -839,7 +852,7 @@ pub fn walk(seed: u64, records: u64, mut visit: impl FnMut(Part, &Case) -> Store
 }
 
 /// The systematic cases, up to `records`; gives how many are left.
-fn walk_groups(seed: u64, records: u64, visit: &mut impl FnMut(Part, &Case) -> Stored) -> u64 {
+pub fn walk_groups(seed: u64, records: u64, visit: &mut impl FnMut(Part, &Case) -> Stored) -> u64 {
     let mut random = Random::part(seed, 4);
     let mut left = records;
     for group in systematic::groups(seed) {
@@ -860,7 +873,7 @@ fn walk_groups(seed: u64, records: u64, visit: &mut impl FnMut(Part, &Case) -> S
 }
 
 /// Random sessions, `left` records in all.
-fn walk_sessions(seed: u64, mut left: u64, visit: &mut impl FnMut(Part, &Case) -> Stored) {
+pub fn walk_sessions(seed: u64, mut left: u64, visit: &mut impl FnMut(Part, &Case) -> Stored) {
     let mut random = Random::part(seed, 1);
     while left > 0 {
         let session = session(&mut random);
@@ -976,7 +989,7 @@ fn append(input: &mut Vec<u8>, clock: u32, record: &[u8]) {
 #[cfg(test)]
 mod tests {
     use super::*;
-    use crate::histogram::{Clocks, Histogram, Places, Replies, Resets, Subjects};
+    use crate::histogram::{Clocks, Histogram, Places, Replies, Resets, Sets, Subjects};
     use crate::rules::LAST_ANSWER;
     use crate::run;
 
@@ -1013,6 +1026,10 @@ mod tests {
             for count in [first, last, just_before, just_after, within, outside] {
                 assert!(count >= 100, "{histogram}");
             }
+            let Sets { sizes, unasked } = histogram.sets;
+            assert!(unasked >= 100, "{histogram}");
+            // No partner reaches all seven: one of them has no secure endpoint.
+            assert!(sizes[..7].iter().all(|&count| count >= 5) && sizes[7] == 0, "{histogram}");
         }
     }
 
@@ -1036,7 +1053,7 @@ mod tests {
 
     #[test]
     fn the_rules_keep_tables_sound() {
-        walk_sessions(2, 30_000, &mut |_, case| {
+        walk_sessions(2, 15_000, &mut |_, case| {
             let outcome = judge(case);
             assert_eq!(Tables::read(&case.tables).is_ok(), Tables::read(&outcome.tables).is_ok());
             outcome.tables
@@ -1045,7 +1062,7 @@ mod tests {
 
     #[test]
     fn exactly_so_many_records() {
-        for records in [0, 1, 40, 100_000] {
+        for records in [0, 1, 40, 5_000] {
             let mut seen = 0;
             walk(3, records, |_, case| {
                 seen += 1;

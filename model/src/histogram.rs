@@ -1,12 +1,13 @@
 //! How often each answer came, what was permitted, how the replies fitted, how
 //! many rows the deletes by subject found, which places deletes report, which
-//! default rows resets gave, and how the clocks stood to the periods of rows.
+//! default rows resets gave, how the clocks stood to the periods of rows, and how
+//! many links the yard answered.
 
 use std::fmt;
 
 use crate::case::Case;
 use crate::defaults::Defaults;
-use crate::directory::{self, Security, DIRECTORY};
+use crate::directory::{self, Security, DIRECTORY, YARD};
 use crate::record::{Header, Verb, HEADER};
 use crate::rules::{fits, judge, Outcome, Refusal, Sender, LAST_ANSWER, LONGEST_REPLY};
 use crate::tables::{Period, Tables, CREDENTIAL_COUNT};
@@ -21,6 +22,16 @@ pub struct Histogram {
     pub places: Places,
     pub resets: Resets,
     pub clocks: Clocks,
+    pub sets: Sets,
+}
+
+/// Permitted records to the yard.
+#[derive(Clone, Default)]
+pub struct Sets {
+    /// RETRIEVE and UPDATE, by the size of the set.
+    pub sizes: [u64; 8],
+    /// Other verbs, which get no set.
+    pub unasked: u64,
 }
 
 /// Rows of a shorter period than every second, as often as such a row is for the
@@ -166,6 +177,11 @@ impl Histogram {
             if let Some(resource) = resource {
                 self.permitted[resource][header.verb as usize] += 1;
             }
+            match Verb::from_number(header.verb) {
+                Some(Verb::Retrieve | Verb::Update) if header.resource == YARD => self.sets.sizes[outcome.size] += 1,
+                _ if header.resource == YARD => self.sets.unasked += 1,
+                _ => {}
+            }
         }
     }
 
@@ -226,6 +242,12 @@ impl fmt::Display for Histogram {
             "clocks: {first} at the first second of a row's period, {last} at the last, {within} between,\n\
              {:8}{just_before} a second before, {just_after} a second after, {outside} further outside",
             ""
-        )
+        )?;
+        let Sets { sizes, unasked } = self.sets;
+        write!(out, "sets of the yard, by size from 0:")?;
+        for count in sizes {
+            write!(out, " {count}")?;
+        }
+        writeln!(out, "; {unasked} not asked for")
     }
 }

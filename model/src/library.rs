@@ -1,5 +1,6 @@
 //! The proved library, as C sees it. include/tillerclover.h declares the same.
 
+use std::mem::offset_of;
 use std::ops::Range;
 
 use crate::case::{Case, Seen, BEHIND};
@@ -29,6 +30,8 @@ pub struct Outcome {
     pub reply: usize,
     pub first: usize,
     pub many: usize,
+    pub set: u64,
+    pub size: usize,
     pub tables: Tables,
 }
 
@@ -39,6 +42,8 @@ pub struct Listing {
 }
 
 const _: () = assert!(size_of::<Tables>() == tables::SIZE);
+const _: () = assert!(offset_of!(Outcome, set) == 48 && offset_of!(Outcome, tables) == 64);
+const _: () = assert!(size_of::<Outcome>() == 1856);
 
 #[link(name = "terminal", kind = "static")]
 extern "C" {
@@ -151,6 +156,8 @@ pub fn judge(case: &Case) -> Seen {
         buffer,
         first: outcome.first,
         many: outcome.many,
+        set: outcome.set,
+        size: outcome.size,
         tables: outcome.tables.bytes(),
     }
 }

@@ -95,7 +95,7 @@ fn set_bit(bytes: &mut [u8], place: usize) {
 /// A number of 6 bits that no resource has.
 pub fn unknown_resource(random: &mut Random) -> usize {
     loop {
-        let bound = random.pick(&[17, 64]);
+        let bound = random.pick(&[18, 64]);
         let number = random.below(bound);
         if directory::find(number as u8).is_none() {
             return number;

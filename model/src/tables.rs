@@ -369,7 +369,7 @@ pub fn fresh_bytes() -> Stored {
 }
 
 pub fn read_uuid(bytes: &[u8]) -> Option<Uuid> {
-    Uuid::new(Fields::new(bytes).take(128))
+    Uuid::new(u128::from_be_bytes(bytes.try_into().expect("sixteen bytes")))
 }
 
 pub fn uuid_bytes(uuid: Option<Uuid>) -> [u8; 16] {
@@ -390,7 +390,8 @@ fn read_rows<R: Row>(bytes: &[u8], count: u8) -> Result<Vec<R>, Fault> {
         }
         rows.push(row);
     }
-    if unused.iter().any(|&byte| byte != 0) {
+    // All bytes at once is faster than up to the first.
+    if unused.iter().fold(0, |all, &byte| all | byte) != 0 {
         return Err(Fault::UnusedRow);
     }
     Ok(rows)

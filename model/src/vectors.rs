@@ -6,16 +6,17 @@
 //!    the record, the length of the lent buffer (16 bits), then answer,
 //!    permission (a byte each), payload start and payload length (16 bits each;
 //!    start 0 when the length is 0), length of the reply (16 bits), first place
-//!    to store and how many (a byte each), the reply; the tables afterwards are
-//!    the current ones;
+//!    to store and how many (a byte each), the set that the yard answers (64
+//!    bits) and its size (a byte), the reply; the tables afterwards are the
+//!    current ones;
 //! 2: tables (1,788 bytes) that the current ones must equal;
 //! 3: default lists, of credentials and of accesses, each behind its length (a
 //!    byte), from now on the current ones. Both are empty at first.
-//! Numbers of 16 and 32 bits have their high byte first.
+//! Numbers of 16, 32 and 64 bits have their high byte first.
 
 use crate::case::Case;
 use crate::defaults::Defaults;
-use crate::directory::DIRECTORY;
+use crate::directory::{DIRECTORY, LINKS, YARD};
 use crate::examples;
 use crate::generate::{self, Style};
 use crate::histogram::Histogram;
@@ -23,7 +24,7 @@ use crate::random::Random;
 use crate::record::{compose, target_body, Verb};
 use crate::rules::{judge, Refusal, LONGEST_REPLY};
 use crate::spoil::{ACCESS_FAULTS, CREDENTIAL_FAULTS, TABLE_FAULTS};
-use crate::tables::{Access, Credential, Row, State, Stored, Tables, ACCESSES, CREDENTIALS, SIZE};
+use crate::tables::{Access, Credential, Period, Row, State, Stored, Subject, Tables, ACCESSES, CREDENTIALS, SIZE};
 
 pub const TABLES: u8 = 0;
 pub const RECORD: u8 = 1;
@@ -71,6 +72,7 @@ impl Vectors {
         vectors.check();
         vectors.headers();
         vectors.replies(&mut random);
+        vectors.yards();
         vectors.default_lists(&mut random);
         vectors.faults(&mut random);
         vectors.sessions(&mut random, limit);
@@ -119,6 +121,8 @@ impl Vectors {
         self.bytes.extend(length.to_be_bytes());
         self.bytes.extend((outcome.reply.len() as u16).to_be_bytes());
         self.bytes.extend([outcome.places.start as u8, outcome.places.len() as u8]);
+        self.bytes.extend(outcome.set.to_be_bytes());
+        self.bytes.push(outcome.size as u8);
         self.bytes.extend(&outcome.reply);
         self.histogram.add(&case, &outcome);
         self.records += 1;
@@ -174,6 +178,34 @@ impl Vectors {
                     self.record(u32::MAX, &record, room);
                 }
                 self.record(0, &compose(Verb::Observe, resource, 0, &[]), 0);
+            }
+        }
+        self.check();
+    }
+
+    /// Polls of the yard by partners who have one link more each, some of them
+    /// in a period.
+    fn yards(&mut self) {
+        let mut tables = examples::owned(State::Rfnop);
+        tables.accesses.push(examples::access(1, examples::AUTH, 6, 0, &[YARD]));
+        for link in LINKS {
+            let number = u16::from(link);
+            let subject = examples::uuid(link);
+            tables.credentials.push(examples::credential(number, subject));
+            let chosen: Vec<u8> = (8..=link).collect();
+            let period = Period { first: 100, last: 100 + u32::from(link % 2) };
+            let row = examples::access(number, Subject::Uuid(subject), 2, 0, &chosen);
+            tables.accesses.push(Access { period, ..row });
+            let wildcards = (link - 8) % 8;
+            tables.accesses.push(examples::access(number + 10, Subject::Uuid(subject), 4, wildcards, &[]));
+        }
+        self.set_tables(&tables.bytes());
+        for sender in LINKS.map(u16::from).chain([0, 5]) {
+            for clock in [99, 100, 101, 102] {
+                self.record(clock, &compose(Verb::Retrieve, YARD, sender, &[]), 0);
+            }
+            for verb in Verb::ALL {
+                self.record(100, &compose(verb, YARD, sender, &[0x59]), 0);
             }
         }
         self.check();
@@ -369,6 +401,8 @@ mod tests {
                     let places = take(2).unwrap();
                     assert_eq!(places[0] as usize, outcome.places.start);
                     assert_eq!(places[1] as usize, outcome.places.len());
+                    assert_eq!(take(8).unwrap(), outcome.set.to_be_bytes());
+                    assert_eq!(take(1).unwrap()[0] as usize, outcome.size);
                     assert_eq!(take(length).unwrap(), outcome.reply);
                     current = Some(outcome.tables);
                     records += 1;
@@ -387,7 +421,7 @@ mod tests {
 
     #[test]
     fn the_file_holds_what_it_says() {
-        for (seed, limit, often) in [(1, 399_999, 20), (2, LEAST, 1), (3, LEAST, 1)] {
+        for (seed, limit, often) in [(1, 399_999, 15), (2, LEAST, 1), (3, LEAST, 1)] {
             let vectors = Vectors::build(seed, limit);
             assert!(vectors.bytes.len() <= limit, "{}", vectors.bytes.len());
             assert_eq!(replay(&vectors.bytes), (vectors.records, vectors.checks));

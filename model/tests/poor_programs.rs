@@ -2,9 +2,12 @@
 
 use model::case::{Case, Seen};
 use model::defaults::{Defaults, ListFault};
-use model::generate::walk;
+use model::directory::{find, set_bit, LINKS, YARD};
+use model::examples::{access, AUTH};
+use model::generate::{walk_groups, walk_sessions};
 use model::office::{text, Listed};
-use model::rules::judge;
+use model::record::{Header, Verb, ALL_BITS};
+use model::rules::{effective_permission, Sender};
 use model::tables::{
     fresh_bytes, read_uuid, Access, Credential, Period, Role, Row, Subject, Tables, Uuid, ACCESSES, ACCESS_COUNT,
     CREDENTIALS, CREDENTIAL_COUNT,
@@ -16,7 +19,18 @@ type Program = fn(&Case, Seen) -> Seen;
 
 fn refused(answer: u8, case: &Case) -> Seen {
     let buffer = Case::pattern(case.room + model::case::BEHIND);
-    Seen { answer, permission: 0, payload: 0..0, reply: 0, buffer, first: 0, many: 0, tables: case.tables }
+    Seen {
+        answer,
+        permission: 0,
+        payload: 0..0,
+        reply: 0,
+        buffer,
+        first: 0,
+        many: 0,
+        set: 0,
+        size: 0,
+        tables: case.tables,
+    }
 }
 
 fn alters(case: &Case, right: &Seen) -> bool {
@@ -133,7 +147,55 @@ fn turned(row: &[u8]) -> bool {
     row.len() == 36 && row[28..32] > row[32..]
 }
 
-const PROGRAMS: [(&str, Program); 63] = [
+/// The header of a record for the yard that gets as far as its connection.
+fn to_yard(case: &Case, right: &Seen) -> Option<Header> {
+    let past = !matches!(right.answer, 1..=7);
+    past.then(|| Header::read(&case.record)).filter(|header| header.resource == YARD)
+}
+
+/// The same when it is permitted and a set goes with it.
+fn polls(case: &Case, right: &Seen) -> Option<Header> {
+    let asks = |header: &Header| header.verb == Verb::Retrieve as u8 || header.verb == Verb::Update as u8;
+    to_yard(case, right).filter(|header| right.answer == 0 && asks(header))
+}
+
+/// What is right, but with another set for a poll.
+fn answered(case: &Case, right: Seen, other: impl Fn(u64) -> u64) -> Seen {
+    match polls(case, &right) {
+        Some(_) => with_set(right.clone(), other(right.set)),
+        None => right,
+    }
+}
+
+fn with_set(right: Seen, set: u64) -> Seen {
+    Seen { set, size: set.count_ones() as usize, ..right }
+}
+
+/// What is right, but with the set that other tables, or another record, give to
+/// a poll.
+fn answered_as(case: &Case, right: Seen, change: impl Fn(&mut Tables, &mut Header)) -> Seen {
+    let Some(mut header) = polls(case, &right) else {
+        return right;
+    };
+    let mut tables = Tables::read(&case.tables).expect("sound");
+    // The poll itself stays permitted.
+    tables.accesses.truncate(Access::CAPACITY - 1);
+    change(&mut tables, &mut header);
+    let number = (1..).find(|&number| tables.accesses.iter().all(|row| row.number != number)).expect("a number");
+    tables.accesses.push(access(number, AUTH, ALL_BITS, 0, &[YARD]));
+    let other = Case { tables: tables.bytes(), record: header.with_body(&[]), ..case.clone() }.expected();
+    with_set(right, other.set)
+}
+
+/// What is right, but with rows that reach the yard otherwise.
+fn reached_otherwise(case: &Case, right: Seen, change: fn(&mut Access)) -> Seen {
+    if to_yard(case, &right).is_none() {
+        return right;
+    }
+    permitted_by(case, right, |tables| tables.accesses.iter_mut().for_each(change))
+}
+
+const PROGRAMS: [(&str, Program); 92] = [
     ("turns all away", |case, _| refused(8, case)),
     ("permits all", |case, right| if right.answer == 0 { right } else { refused(0, case) }),
     ("never alters the tables", |case, right| Seen { tables: case.tables, ..right }),
@@ -426,22 +488,120 @@ const PROGRAMS: [(&str, Program); 63] = [
         }
         right
     }),
+    ("does not know the yard", |case, right| match to_yard(case, &right) {
+        Some(_) => refused(6, case),
+        None => right,
+    }),
+    ("serves the yard in clear", |case, right| match to_yard(case, &right) {
+        Some(_) if right.answer == 16 => refused(0, case),
+        _ => right,
+    }),
+    ("reaches the yard by -", |case, right| {
+        reached_otherwise(case, right, |row| {
+            if row.wildcards.minus {
+                row.set |= set_bit(YARD);
+            }
+        })
+    }),
+    ("does not reach the yard by +", |case, right| reached_otherwise(case, right, |row| row.wildcards.plus = false)),
+    ("does not reach the yard by *", |case, right| reached_otherwise(case, right, |row| row.wildcards.star = false)),
+    ("does not reach the yard by its number", |case, right| {
+        reached_otherwise(case, right, |row| row.set &= !set_bit(YARD))
+    }),
+    ("serves the yard to who may use a link", |case, right| {
+        reached_otherwise(case, right, |row| {
+            if LINKS.map(set_bit).any(|link| row.set & link != 0) {
+                row.set |= set_bit(YARD);
+            }
+        })
+    }),
+    ("answers no set", |_, right| Seen { set: 0, size: 0, ..right }),
+    ("answers a set without its size", |_, right| Seen { size: 0, ..right }),
+    ("answers a size without the set", |_, right| Seen { set: 0, ..right }),
+    ("answers all links", |case, right| answered(case, right, |_| 0xFE << 48)),
+    ("answers all links with a secure endpoint", |case, right| answered(case, right, |_| 0xFC << 48)),
+    ("answers all links or none", |case, right| answered(case, right, |set| if set == 0xFC << 48 { set } else { 0 })),
+    ("answers any link or none", |case, right| answered(case, right, |set| if set != 0 { 0xFC << 48 } else { 0 })),
+    ("answers the yard as well", |case, right| answered(case, right, |set| set | set_bit(YARD))),
+    ("leaves the first link out", |case, right| answered(case, right, |set| set & !set_bit(8))),
+    ("leaves out links not to be discovered", |case, right| answered(case, right, |set| set & !set_bit(13))),
+    ("has resource 0 at the low end", |case, right| answered(case, right, |set| set.reverse_bits())),
+    ("counts the links from the top bit", |case, right| answered(case, right, |set| set << 8)),
+    ("counts resources from 1", |case, right| answered(case, right, |set| set >> 1)),
+    ("counts a link too many", |case, mut right| {
+        right.size += usize::from(polls(case, &right).is_some());
+        right
+    }),
+    ("counts a link too few", |_, right| Seen { size: right.size.saturating_sub(1), ..right }),
+    ("counts the links there are", |case, right| match polls(case, &right) {
+        Some(_) => Seen { size: 7, ..right },
+        None => right,
+    }),
+    ("answers an OBSERVE", |case, right| match to_yard(case, &right) {
+        Some(header) if right.answer == 0 && header.verb == Verb::Observe as u8 => {
+            let read = Header { verb: Verb::Retrieve as u8, ..header };
+            with_set(right, Case { record: read.with_body(&[]), ..case.clone() }.expected().set)
+        }
+        _ => right,
+    }),
+    ("answers every permitted record to the yard", |case, right| match to_yard(case, &right) {
+        Some(header) if right.answer == 0 && !matches!(header.verb, 1 | 2) => with_set(right, 0xFC << 48),
+        _ => right,
+    }),
+    ("answers the links to read when asked to write", |case, right| {
+        answered_as(case, right, |_, header| header.verb = Verb::Retrieve as u8)
+    }),
+    ("asks no endpoint of a link", |case, right| {
+        let Some(header) = polls(case, &right) else {
+            return right;
+        };
+        let tables = Tables::read(&case.tables).expect("sound");
+        let sender = Sender::Partner(tables.credential(header.credential).expect("permitted"));
+        let display = find(14).expect("known");
+        let needed = Verb::from_number(header.verb).expect("a verb").needs();
+        let set =
+            if effective_permission(&tables, sender, display, case.clock) & needed != 0 { display.bit() } else { 0 };
+        with_set(right.clone(), right.set | set)
+    }),
+    ("answers links of a period that does not hold", |case, right| {
+        answered_as(case, right, |tables, _| tables.accesses.iter_mut().for_each(|row| row.period = Period::ALWAYS))
+    }),
+    ("answers links named by a row only", |case, right| {
+        answered_as(case, right, |tables, _| {
+            tables.accesses.iter_mut().for_each(|row| row.wildcards = Default::default())
+        })
+    }),
 ];
+
+/// A program that differs so often is found and is asked no more.
+const ENOUGH: usize = 25;
 
 #[test]
 fn poor_programs_are_found() {
     let mut found = [0; PROGRAMS.len()];
-    walk(1, 250_000, |_, case| {
+    let mut written = [0; WRITERS.len()];
+    let mut picks = Picks::new(1);
+    // Both kinds in one walk, since the cases take more time than the programs.
+    let mut visit = |_, case: &Case| {
         let right = case.expected();
-        for (count, (_, program)) in found.iter_mut().zip(PROGRAMS) {
-            if !right.same(&program(case, right.clone())) {
-                *count += 1;
+        for (count, (_, program)) in found.iter_mut().zip(PROGRAMS).filter(|(count, _)| **count < ENOUGH) {
+            *count += usize::from(!right.same(&program(case, right.clone())));
+        }
+        if let Some(case) = picks.pick(&right.tables) {
+            let right = Listed::expected(&case);
+            for (count, (_, writer)) in written.iter_mut().zip(WRITERS).filter(|(count, _)| **count < ENOUGH) {
+                *count += usize::from(writer(&case, right.clone()) != right);
             }
         }
         right.tables
-    });
+    };
+    walk_sessions(1, 40_000, &mut visit);
+    walk_groups(1, u64::MAX, &mut visit);
     for (count, (name, _)) in found.iter().zip(PROGRAMS) {
-        assert!(*count > 100, "a program that {name}: {count}");
+        assert!(*count >= ENOUGH, "a program that {name}: {count}");
+    }
+    for (count, (name, _)) in written.iter().zip(WRITERS) {
+        assert!(*count >= ENOUGH, "a writer that {name}: {count}");
     }
 }
 
@@ -653,24 +813,3 @@ const WRITERS: [(&str, Writer); 43] = [
     }),
     ("puts a space behind each comma", |case, right| replaced(case, right, ",", ", ")),
 ];
-
-#[test]
-fn poor_writers_are_found() {
-    let mut found = [0; WRITERS.len()];
-    let mut picks = Picks::new(1);
-    walk(1, 250_000, |_, case| {
-        let tables = judge(case).tables;
-        if let Some(case) = picks.pick(&tables) {
-            let right = Listed::expected(&case);
-            for (count, (_, writer)) in found.iter_mut().zip(WRITERS) {
-                if writer(&case, right.clone()) != right {
-                    *count += 1;
-                }
-            }
-        }
-        tables
-    });
-    for (count, (name, _)) in found.iter().zip(WRITERS) {
-        assert!(*count > 100, "a writer that {name}: {count}");
-    }
-}

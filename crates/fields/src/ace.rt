@@ -105,10 +105,10 @@ pub fn connection_zeros(row: &[u8]) -> u16
 pub fn set_known(row: &[u8]) -> bool
     ensures { λ b. ⌜ b ≡ setKnown (now (row .entry)) 64 ⌝ }
 {
-    // 4 to 7, 15, and 16 to 63
+    // 4 to 7, 15, and 17 to 63
     (field(row, 36, 4) == 0)
         & (field(row, 47, 1) == 0)
-        & (field(row, 48, 16) == 0)
+        & (field(row, 49, 15) == 0)
         & (field(row, 64, 16) == 0)
         & (field(row, 80, 16) == 0)
 }

@@ -1,12 +1,12 @@
 // The judge of the terminal: for any record beside any tables, exactly one outcome.
 // It asks nothing of its caller.
-mod asked;
 mod effect;
 
 use action::action_of;
 use asked::check_asked;
 use effect::apply;
 use form::check_form;
+use links::links_of;
 use lookup::places_of;
 use outcome::check_room;
 use outcome::refused;
@@ -23,7 +23,7 @@ ghost use Rattle.rules.specs.Reading.{filled};
 ghost use Rattle.rules.specs.Defaults.{defaults};
 ghost use Rattle.rules.specs.Outcome.{outcome, replyTo, judgementOf};
 
-// What becomes of a record: the answer, the permission, the length of the reply, the places to store and the tables afterwards; the reply fills the lent buffer.
+// What becomes of a record: the answer, the permission, the length of the reply, the places to store, the links of /yard and the tables afterwards; the reply fills the lent buffer.
 // `creds` and `aces` are the build's default rows, for a RESET; `clock` is the terminal's.
 // Rules out: a judge that refuses every record with 8; one that answers and never alters the tables; one that looks at no clock; a byte written on a refusal.
 pub fn judge(
@@ -54,12 +54,14 @@ pub fn judge(
     };
     put_reply(reply, t, record);
     let places = places_of(t, a, record);
+    let links = links_of(clock, t, record);
     let next = apply(t, a, record, creds, aces);
     Judgement {
         answer: 0,
         permission: permission,
         length: length,
         places: places,
+        links: links,
         tables: next,
     }
 }

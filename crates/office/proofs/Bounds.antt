@@ -103,37 +103,37 @@ all-items (false ∷ []) x xs = simp length-append (omega arith)
 all-items (false ∷ b ∷ bs) x [] = simp length-append (omega arith)
 all-items (false ∷ b ∷ bs) x (y ∷ xs) = simp length-append (omega (arith, simp length-append at (all-items (b ∷ bs) y xs)))
 
-resources-length : (w : Row) → length (resourcesText w) ≤ 260
+resources-length : (w : Row) → length (resourcesText w) ≤ 277
 unfolding resourcesText choices href braced comma joined ascii
 resources-length w = omega (arith, all-items (chosen w) (href "/oic/sec/doxm") (drop 1 choices))
 
 -- ---- a row, and the list
 
-row-length : (w : Row) → length (rowText w) ≤ 364
+row-length : (w : Row) → length (rowText w) ≤ 381
 unfolding rowText joined ascii
 row-length w = simp length-append (omega (arith, word-length w 0, subject-length w, resources-length w, permission-length w))
 
-later-rows : (ws : List Row) → length (separated false (map rowText ws)) ≤ 365 * length ws
+later-rows : (ws : List Row) → length (separated false (map rowText ws)) ≤ 382 * length ws
 unfolding comma ascii
 later-rows [] = omega arith
 later-rows (w ∷ ws) = simp length-append (omega (arith, row-length w, later-rows ws))
 
-all-rows : (ws : List Row) → length ws ≤ 32 → length (separated true (map rowText ws)) ≤ 11679
+all-rows : (ws : List Row) → length ws ≤ 32 → length (separated true (map rowText ws)) ≤ 12223
 unfolding comma ascii
 all-rows [] h = omega arith
 all-rows (w ∷ ws) h = simp length-append (omega (arith, row-length w, later-rows ws))
 
-list-length : (ws : List Row) → length ws ≤ 32 → length (listText ws) ≤ 11693
+list-length : (ws : List Row) → length ws ≤ 32 → length (listText ws) ≤ 12237
 unfolding listText rowsText joined ascii
 list-length ws h = simp length-append (omega (arith, all-rows ws h))
 
-pub text-short : (t : Tables) → length (officeText t) ≤ 11693
+pub text-short : (t : Tables) → length (officeText t) ≤ 12237
 unfolding rowsIn
 text-short t =
     let ws = rowsOf 36 (min (t .naces) 32) (t .aces) in
     let few : length ws ≤ 32 = rw (length-rowsOf 36 (min (t .naces) 32) (t .aces)) (min-le-right (t .naces) 32) in
     list-length (rowsWritten ws) (omega (arith, length-without seasonal ws, few))
 
-pub never-18 : (t : Tables) → sound t ≡ true → officeVerdict t 11693 ≡ Pass
+pub never-18 : (t : Tables) → sound t ≡ true → officeVerdict t 12237 ≡ Pass
 unfolding officeVerdict verdict
-never-18 t h = rw (h, le-ltb 11693 (length (officeText t)) (text-short t))
+never-18 t h = rw (h, le-ltb 12237 (length (officeText t)) (text-short t))

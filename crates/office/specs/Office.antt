@@ -71,7 +71,7 @@ abbrev pub names : List (ℕ × String)
 names =
     (0, "/oic/sec/doxm") ∷ (1, "/oic/sec/pstat") ∷ (2, "/oic/sec/cred") ∷ (3, "/oic/sec/acl2")
     ∷ (8, "/weight") ∷ (9, "/tare") ∷ (10, "/zero") ∷ (11, "/ticket")
-    ∷ (12, "/lamp") ∷ (13, "/calib") ∷ (14, "/display")
+    ∷ (12, "/lamp") ∷ (13, "/calib") ∷ (14, "/display") ∷ (16, "/yard")
     ∷ []
 
 unfoldable pub href : String → List ℕ

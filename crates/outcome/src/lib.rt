@@ -1,15 +1,17 @@
-// The parts of an outcome that are the same for every record: a refusal, no places, the room for a reply, the payload.
+// The parts of an outcome that are the same for every record: a refusal, no places, no links, the room for a reply, the payload.
 // Every function is total.
 use fields::after;
 use fields::record::resource_of;
 use rules::Check;
 use rules::Judgement;
+use rules::Links;
 use rules::Places;
 use rules::Tables;
 use rules::directory::resource_row;
 ghost use mathlib.Core.Path.{_≡_};
 ghost use lib.Dec.{ltb};
 ghost use Rattle.rules.specs.Places.{nowhere};
+ghost use Rattle.rules.specs.Links.{noLinks};
 ghost use Rattle.rules.specs.Checks.{numberOf, refuseIf};
 ghost use Rattle.rules.specs.Outcome.{refusal, payloadAt};
 
@@ -21,7 +23,15 @@ pub fn no_places() -> Places
     Places { first: 0, many: 0 }
 }
 
-// A refusal hands the tables back as they are, with permission 0, no reply and no places.
+// No links: the set is empty.
+// Rules out: a set that holds resource 0; a size without a set.
+pub fn no_links() -> Links
+    ensures { λ r. ⌜ r ≡ noLinks ⌝ }
+{
+    Links { set: 0, size: 0 }
+}
+
+// A refusal hands the tables back as they are, with permission 0, no reply, no places and no links.
 // Rules out: tables that are changed on a refusal; a refusal that says 0.
 pub fn refused(t: Tables, c: Check) -> Judgement
     ensures { λ r. ⌜ r ≡ refusal t (numberOf c) ⌝ }
@@ -32,6 +42,7 @@ pub fn refused(t: Tables, c: Check) -> Judgement
             permission: 0,
             length: 0,
             places: no_places(),
+            links: no_links(),
             tables: t,
         },
         Check::Refuse(n) => Judgement {
@@ -39,6 +50,7 @@ pub fn refused(t: Tables, c: Check) -> Judgement
             permission: 0,
             length: 0,
             places: no_places(),
+            links: no_links(),
             tables: t,
         },
     }

@@ -46,23 +46,24 @@ fn put_scale(out: &mut [u8], at: usize, k: usize) -> usize
 }
 
 fn put_yard(out: &mut [u8], at: usize, k: usize) -> usize
-    requires { ⌜ (8 ≤ k) × (k < 11) ⌝ }
+    requires { ⌜ (8 ≤ k) × (k < 12) ⌝ }
     ensures { λ r. ⌜ Puts (now (out .entry)) at (braced (getD choices k [])) (now (out .exit)) r ⌝ }
 {
     match k {
         8 => put(out, at, b"{\"href\":\"/lamp\"}"),
         9 => put(out, at, b"{\"href\":\"/calib\"}"),
-        _ => put(out, at, b"{\"href\":\"/display\"}"),
+        10 => put(out, at, b"{\"href\":\"/display\"}"),
+        _ => put(out, at, b"{\"href\":\"/yard\"}"),
     }
 }
 
 fn put_wildcard(out: &mut [u8], at: usize, k: usize) -> usize
-    requires { ⌜ (11 ≤ k) × (k < 14) ⌝ }
+    requires { ⌜ (12 ≤ k) × (k < 15) ⌝ }
     ensures { λ r. ⌜ Puts (now (out .entry)) at (braced (getD choices k [])) (now (out .exit)) r ⌝ }
 {
     match k {
-        11 => put(out, at, b"{\"wc\":\"+\"}"),
-        12 => put(out, at, b"{\"wc\":\"-\"}"),
+        12 => put(out, at, b"{\"wc\":\"+\"}"),
+        13 => put(out, at, b"{\"wc\":\"-\"}"),
         _ => put(out, at, b"{\"wc\":\"*\"}"),
     }
 }
@@ -70,7 +71,7 @@ fn put_wildcard(out: &mut [u8], at: usize, k: usize) -> usize
 // What a row's resources may name: the known resources by rising number, then the wildcards.
 // In four groups, since what a match costs to prove grows faster than its arms.
 fn put_choice(out: &mut [u8], at: usize, k: usize) -> usize
-    requires { ⌜ k < 14 ⌝ }
+    requires { ⌜ k < 15 ⌝ }
     ensures { λ r. ⌜ Puts (now (out .entry)) at (braced (getD choices k [])) (now (out .exit)) r ⌝ }
 {
     if k < 4 {
@@ -79,32 +80,32 @@ fn put_choice(out: &mut [u8], at: usize, k: usize) -> usize
     if k < 8 {
         return put_scale(out, at, k);
     }
-    if k < 11 {
+    if k < 12 {
         return put_yard(out, at, k);
     }
     put_wildcard(out, at, k)
 }
 
 // The numbers of the known resources.
-const NUMBERS: [u16; 11] = [0, 1, 2, 3, 8, 9, 10, 11, 12, 13, 14];
+const NUMBERS: [u16; 12] = [0, 1, 2, 3, 8, 9, 10, 11, 12, 13, 14, 16];
 
 // Whether the row names choice k.
 fn is_chosen(row: &[u8], k: usize) -> bool
-    requires { ⌜ k < 14 ⌝ }
+    requires { ⌜ k < 15 ⌝ }
     ensures { λ r. ⌜ r ≡ getD (chosen (now (row .entry))) k false ⌝ }
 {
-    if k < 11 {
+    if k < 12 {
         return ace::in_set(row, NUMBERS[k]);
     }
     match k {
-        11 => ace::plus(row),
-        12 => ace::minus(row),
+        12 => ace::plus(row),
+        13 => ace::minus(row),
         _ => ace::star(row),
     }
 }
 
 fn put_item(out: &mut [u8], at: usize, first: bool, k: usize) -> usize
-    requires { ⌜ k < 14 ⌝ }
+    requires { ⌜ k < 15 ⌝ }
     ensures { λ r. ⌜ Puts (now (out .entry)) at (comma first ++ braced (getD choices k [])) (now (out .exit)) r ⌝ }
 {
     let p = put_comma(out, at, first);
@@ -119,7 +120,7 @@ pub fn put_resources(out: &mut [u8], at: usize, row: &[u8]) -> usize
     let mut p = at;
     let mut first = true;
     let mut k = 0;
-    while k < 14 {
+    while k < 15 {
         if !is_chosen(row, k) {
             k += 1;
             continue;

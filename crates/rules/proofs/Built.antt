@@ -33,6 +33,7 @@ told c = record {
   payload = c .payload;
   contents = take (c .judgement .length) (c .buffer);
   places = c .judgement .places;
+  links = c .judgement .links;
 }
 
 -- what a call meets, on the tables t, for the request q

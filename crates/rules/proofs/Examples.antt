@@ -22,6 +22,7 @@ use Rattle.rules.specs.Action.{ifAllowed, updateDoxm, updatePstat, store
 use Rattle.rules.specs.States.{writeAllowed, moveListed, moveAllowed}
 use Rattle.rules.specs.declared.Places.{Places}
 use Rattle.rules.specs.Places.{nowhere, gapOf}
+use Rattle.rules.specs.Links.{ownRecord, permits, setOf, asksLinks, linkSet, noLinks}
 use Rattle.rules.specs.Reading.{ownBody, rowBytes, contents, reads, replyOf, tooShort}
 use Rattle.rules.specs.Checks.{badLength, noVerb, zeroBitSet, mismatch, unknownResource, noCredential, noEndpoint, notPermitted, offered, notOffered, verdict}
 use Rattle.rules.specs.Outcome.{Reply, outcomeAt, outcome, withOwner, withState, entered, replyTo, tablesAfter}
@@ -32,7 +33,7 @@ use Rattle.rules.proofs.Isolated.{isolation}
 
 -- `unfolding definitions` opens all that its own line names
 definitions : Unit {0}
-unfolding ones onesIn rowsBefore gapOf rowsOf joined packed allZero same hasKey numberedAs placeFrom firstRow some every without distinctNumbers stored unionOf withRow bit bits has resourceOf word sender payloadOf nil isNil ownerBody stateBody credStorable credRowOf setKnown subjectStorable aceStorable everySecond aceRowOf rowsIn rowsSound headSound sound empty goodList defaultRows fresh rowOwner subjectFits resourceFits inForce rowFits gives names isOwner byOwner byNoOwner effectiveOf permission ownBody rowBytes contents reads replyOf tooShort ifAllowed updateDoxm updatePstat storeRow updateRows updateAction deleteNumber deleteAces deleteCreds deleteAction readAction securityAction action writeAllowed moveListed moveAllowed badLength noVerb zeroBitSet mismatch unknownResource noCredential noEndpoint notPermitted offered notOffered verdict entered outcomeAt outcome
+unfolding ones onesIn rowsBefore gapOf rowsOf joined packed allZero same hasKey numberedAs placeFrom firstRow some every without distinctNumbers stored unionOf withRow bit bits has resourceOf word sender payloadOf nil isNil ownerBody stateBody credStorable credRowOf setKnown subjectStorable aceStorable everySecond aceRowOf rowsIn rowsSound headSound sound empty goodList defaultRows fresh rowOwner subjectFits resourceFits inForce rowFits gives names isOwner byOwner byNoOwner effectiveOf permission ownBody rowBytes contents reads replyOf tooShort ifAllowed updateDoxm updatePstat storeRow updateRows updateAction deleteNumber deleteAces deleteCreds deleteAction readAction securityAction action writeAllowed moveListed moveAllowed badLength noVerb zeroBitSet mismatch unknownResource noCredential noEndpoint notPermitted offered notOffered verdict entered asksLinks linkSet outcomeAt outcome
 definitions = tt
 
 -- a record at clock 0, with a buffer that fits any reply
@@ -184,7 +185,7 @@ pub crowded : Tables
 crowded = withState (withOwner (withRows Creds (withRows Aces (fresh noDefaults) (aceRows 32)) (credRows 24)) 1 uuid) 3
 
 -- RETRIEVE of resource 8 by the owner's credential 5
-pub crowded-read : replyTo noDefaults crowded (lent (0x32 ∷ 0x00 ∷ 0x00 ∷ 0x05 ∷ 0x77 ∷ [])) ≡ record { answer = 0; permission = 2; payload = 0x77 ∷ []; contents = []; places = nowhere }
+pub crowded-read : replyTo noDefaults crowded (lent (0x32 ∷ 0x00 ∷ 0x00 ∷ 0x05 ∷ 0x77 ∷ [])) ≡ record { answer = 0; permission = 2; payload = 0x77 ∷ []; contents = []; places = nowhere; links = noLinks }
 unfolding definitions crowded aceRows aceBody aceRow weight credRows credRow uuid
 crowded-read = refl
 
@@ -398,6 +399,28 @@ pub periods-answered :
     ≡ 0 ∷ 10 ∷ []
 unfolding definitions owned5 aceBody weight uuid credRow
 periods-answered = refl
+
+-- ---- the whole yard at once (U9): the contractor has R on 8 from second 10 to second 20, and at all times on 13, 14 and /yard
+
+pub polled : Tables
+polled = withRows Creds (serving (seasonRow 1 ∷ aceRow 2 0 2 0 (0 ∷ 0x06 ∷ 0x80 ∷ replicate 5 0) (replicate 16 0x22) ∷ [])) (credRow 5 ∷ haulierRow 7 ∷ [])
+
+-- RETRIEVE, UPDATE and OBSERVE of /yard by the contractor, and RETRIEVE of 13, in and out of the season: 13 has the secure endpoint, 14 has not
+pub links-told :
+    linkSet 15 polled (0x34 ∷ 0x00 ∷ 0x00 ∷ 0x07 ∷ [])
+    ∷ linkSet 21 polled (0x34 ∷ 0x00 ∷ 0x00 ∷ 0x07 ∷ [])
+    ∷ linkSet 15 polled (0x54 ∷ 0x00 ∷ 0x00 ∷ 0x07 ∷ [])
+    ∷ linkSet 15 polled (0x94 ∷ 0x00 ∷ 0x00 ∷ 0x07 ∷ [])
+    ∷ linkSet 15 polled (0x33 ∷ 0x40 ∷ 0x00 ∷ 0x07 ∷ [])
+    ∷ []
+    ≡ 0x0084000000000000 ∷ 0x0004000000000000 ∷ 0 ∷ 0 ∷ 0 ∷ []
+unfolding definitions permits ownRecord setOf polled seasonRow haulierRow owned5 serving aceBody aceRow weight uuid credRow
+links-told = refl
+
+-- and /yard itself is answered
+pub yard-answered : map (λ clock. replyTo noDefaults polled (asked clock (0x34 ∷ 0x00 ∷ 0x00 ∷ 0x07 ∷ []) 0) .answer) (15 ∷ 21 ∷ []) ≡ 0 ∷ 0 ∷ []
+unfolding definitions polled seasonRow haulierRow owned5 serving aceBody aceRow weight uuid credRow
+yard-answered = refl
 
 -- ---- demand 3 is not empty: partner 7, a haulier who may read resource 8, is chosen, and the unauthenticated senders with it
 

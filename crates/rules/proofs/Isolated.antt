@@ -61,7 +61,7 @@ pub unchanged-at : (d : Defaults) (t : Tables) (p : ℕ) (q : Request) → (soun
 unfolding outcomeAt notPermitted
 unchanged-at d t p q lacks = go (verdict (checks t p q)) refl
   where
-    go : (c : Check) → verdict (checks t p q) ≡ c → outcomeOf d t p (q .bytes) c .tables ≡ t
+    go : (c : Check) → verdict (checks t p q) ≡ c → outcomeOf d t p q c .tables ≡ t
     go Pass e = effect-same d t (q .bytes) p (lacks (not-false (sound t) (passed (checks t p q) e 1))) (not-false _ (passed (checks t p q) e 8))
     go (Refuse n) e = refl
 

@@ -1,4 +1,4 @@
--- The laws of the definitions, and the theorems over them: Refusals, SoundKept, ReadBack, Gaps, Isolated, Built, Examples.
+-- The laws of the definitions, and the theorems over them: Refusals, SoundKept, ReadBack, Gaps, LinkLaws, Isolated, Built, Examples.
 pub mod Bools
 pub mod BitLaws
 pub mod RecordLaws
@@ -14,6 +14,7 @@ pub mod PermissionLaws
 pub mod SoundKept
 pub mod ReadBack
 pub mod Gaps
+pub mod LinkLaws
 pub mod Isolated
 pub mod Built
 pub mod Examples

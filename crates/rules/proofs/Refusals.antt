@@ -15,6 +15,7 @@ use Rattle.rules.specs.Record.{Request, payloadOf}
 use Rattle.rules.specs.Permission.{permission}
 use Rattle.rules.specs.Defaults.{Defaults}
 use Rattle.rules.specs.Places.{nowhere}
+use Rattle.rules.specs.Links.{noLinks}
 use Rattle.rules.specs.Checks.{checks, verdict}
 use Rattle.rules.specs.Outcome.{Outcome, outcome, outcomeAt, outcomeOf, payloadAt, replyTo, tablesAfter}
 use Rattle.rules.proofs.Bools.{contradiction}
@@ -94,7 +95,7 @@ pub permitted-is : (d : Defaults) (t : Tables) (q : Request) → replyTo d t q .
 unfolding outcome outcomeAt
 permitted-is d t q = go (verdict (checks t (permission (q .clock) t (q .bytes)) q)) refl
   where
-    go : (c : Check) → verdict (checks t (permission (q .clock) t (q .bytes)) q) ≡ c → outcomeOf d t (permission (q .clock) t (q .bytes)) (q .bytes) c .reply .answer ≡ 0 → noneApplies (checks t (permission (q .clock) t (q .bytes)) q) ≡ true
+    go : (c : Check) → verdict (checks t (permission (q .clock) t (q .bytes)) q) ≡ c → outcomeOf d t (permission (q .clock) t (q .bytes)) q c .reply .answer ≡ 0 → noneApplies (checks t (permission (q .clock) t (q .bytes)) q) ≡ true
     go Pass e a = permitted-none (checks t (permission (q .clock) t (q .bytes)) q) e
     go (Refuse n) e a = contradiction (eq-eqb n 0 a) (refused-number (checks t (permission (q .clock) t (q .bytes)) q) n refl e)
 
@@ -103,27 +104,27 @@ pub refused-is : (d : Defaults) (t : Tables) (q : Request) (n : ℕ) → replyTo
 unfolding outcome outcomeAt
 refused-is d t q n = go (verdict (checks t (permission (q .clock) t (q .bytes)) q)) refl
   where
-    go : (c : Check) → verdict (checks t (permission (q .clock) t (q .bytes)) q) ≡ c → outcomeOf d t (permission (q .clock) t (q .bytes)) (q .bytes) c .reply .answer ≡ suc n → FirstOf (suc n) (checks t (permission (q .clock) t (q .bytes)) q)
+    go : (c : Check) → verdict (checks t (permission (q .clock) t (q .bytes)) q) ≡ c → outcomeOf d t (permission (q .clock) t (q .bytes)) q c .reply .answer ≡ suc n → FirstOf (suc n) (checks t (permission (q .clock) t (q .bytes)) q)
     go Pass e a = absurd (omega arith)
     go (Refuse m) e a = refused-first (checks t (permission (q .clock) t (q .bytes)) q) (suc n) (e ∙ ap (λ (k : ℕ). Refuse k) a)
 
 -- and only then
 pub is-permitted : (d : Defaults) (t : Tables) (q : Request) → noneApplies (checks t (permission (q .clock) t (q .bytes)) q) ≡ true → replyTo d t q .answer ≡ 0
 unfolding outcome outcomeAt
-is-permitted d t q h = ap (λ (c : Check). outcomeOf d t (permission (q .clock) t (q .bytes)) (q .bytes) c .reply .answer) (none-permitted (checks t (permission (q .clock) t (q .bytes)) q) h)
+is-permitted d t q h = ap (λ (c : Check). outcomeOf d t (permission (q .clock) t (q .bytes)) q c .reply .answer) (none-permitted (checks t (permission (q .clock) t (q .bytes)) q) h)
 
 pub is-refused : (d : Defaults) (t : Tables) (q : Request) (n : ℕ) → FirstOf n (checks t (permission (q .clock) t (q .bytes)) q) → replyTo d t q .answer ≡ n
 unfolding outcome outcomeAt
-is-refused d t q n f = ap (λ (c : Check). outcomeOf d t (permission (q .clock) t (q .bytes)) (q .bytes) c .reply .answer) (first-refused (checks t (permission (q .clock) t (q .bytes)) q) n f)
+is-refused d t q n f = ap (λ (c : Check). outcomeOf d t (permission (q .clock) t (q .bytes)) q c .reply .answer) (first-refused (checks t (permission (q .clock) t (q .bytes)) q) n f)
 
 -- ---- a refusal
 
 -- any answer but 0 goes with permission 0, the empty payload, no reply, no places and the same tables
-pub refusal-is : (d : Defaults) (t : Tables) (q : Request) (n : ℕ) → replyTo d t q .answer ≡ suc n → outcome d t q ≡ record { reply = record { answer = suc n; permission = 0; payload = []; contents = []; places = nowhere }; tables = t }
+pub refusal-is : (d : Defaults) (t : Tables) (q : Request) (n : ℕ) → replyTo d t q .answer ≡ suc n → outcome d t q ≡ record { reply = record { answer = suc n; permission = 0; payload = []; contents = []; places = nowhere; links = noLinks }; tables = t }
 unfolding outcome outcomeAt
 refusal-is d t q n = go (verdict (checks t (permission (q .clock) t (q .bytes)) q))
   where
-    go : (c : Check) → outcomeOf d t (permission (q .clock) t (q .bytes)) (q .bytes) c .reply .answer ≡ suc n → outcomeOf d t (permission (q .clock) t (q .bytes)) (q .bytes) c ≡ record { reply = record { answer = suc n; permission = 0; payload = []; contents = []; places = nowhere }; tables = t }
+    go : (c : Check) → outcomeOf d t (permission (q .clock) t (q .bytes)) q c .reply .answer ≡ suc n → outcomeOf d t (permission (q .clock) t (q .bytes)) q c ≡ record { reply = record { answer = suc n; permission = 0; payload = []; contents = []; places = nowhere; links = noLinks }; tables = t }
     go Pass e = absurd (omega arith)
     go (Refuse m) e = rw e
 
@@ -132,11 +133,11 @@ pub payload-is : (d : Defaults) (t : Tables) (q : Request) → payloadAt (replyT
 unfolding payloadAt outcome outcomeAt
 payload-is d t q = go (verdict (checks t (permission (q .clock) t (q .bytes)) q)) refl
   where
-    go : (c : Check) → verdict (checks t (permission (q .clock) t (q .bytes)) q) ≡ c → let o = outcomeOf d t (permission (q .clock) t (q .bytes)) (q .bytes) c .reply in cond (eqb (o .answer) 0) (payloadOf (q .bytes)) [] ≡ o .payload
+    go : (c : Check) → verdict (checks t (permission (q .clock) t (q .bytes)) q) ≡ c → let o = outcomeOf d t (permission (q .clock) t (q .bytes)) q c .reply in cond (eqb (o .answer) 0) (payloadOf (q .bytes)) [] ≡ o .payload
     go Pass e = refl
     go (Refuse n) e = rw (refused-number (checks t (permission (q .clock) t (q .bytes)) q) n refl e)
 
 -- tables that are not sound: each record gets 1, and they are handed back as they are
-pub unsound-refused : (d : Defaults) (t : Tables) (q : Request) → sound t ≡ false → outcome d t q ≡ record { reply = record { answer = 1; permission = 0; payload = []; contents = []; places = nowhere }; tables = t }
+pub unsound-refused : (d : Defaults) (t : Tables) (q : Request) → sound t ≡ false → outcome d t q ≡ record { reply = record { answer = 1; permission = 0; payload = []; contents = []; places = nowhere; links = noLinks }; tables = t }
 unfolding outcome outcomeAt verdict
 unsound-refused d t q e = rw e

@@ -71,9 +71,9 @@ none : (r : Row) → setKnown r 0 ≡ true
 unfolding setKnown
 none r = refl
 
--- the ranges of the directory: 0 to 3 known, 4 to 7 not, 8 to 14 known, 15 not, 16 to 63 not
+-- the ranges of the directory: 0 to 3 known, 4 to 7 not, 8 to 14 known, 15 not, 16 known, 17 to 63 not
 pub set-ranges : (r : Row) → setKnown r 64
-    ≡ (eqb (bits r 36 4) 0 && eqb (bits r 47 1) 0 && eqb (bits r 48 16) 0 && eqb (bits r 64 16) 0 && eqb (bits r 80 16) 0)
+    ≡ (eqb (bits r 36 4) 0 && eqb (bits r 47 1) 0 && eqb (bits r 49 15) 0 && eqb (bits r 64 16) 0 && eqb (bits r 80 16) 0)
 unfolding resourceOf
 set-ranges r =
     unknown-part r 48 16 refl
@@ -82,10 +82,10 @@ set-ranges r =
     (unknown-part r 32 16 refl
     ∙ and-comm (eqb (bits r 64 16) 0) (setKnown r 32)
     ∙ ap (λ (b : Bool). b && eqb (bits r 64 16) 0)
-    (unknown-part r 16 16 refl
-    ∙ and-comm (eqb (bits r 48 16) 0) (setKnown r 16)
-    ∙ ap (λ (b : Bool). b && eqb (bits r 48 16) 0)
-    (unknown-part r 15 1 refl
+    (unknown-part r 17 15 refl
+    ∙ and-comm (eqb (bits r 49 15) 0) (setKnown r 17)
+    ∙ ap (λ (b : Bool). b && eqb (bits r 49 15) 0)
+    (known-part r 16 1 refl ∙ unknown-part r 15 1 refl
     ∙ and-comm (eqb (bits r 47 1) 0) (setKnown r 15)
     ∙ ap (λ (b : Bool). b && eqb (bits r 47 1) 0)
     (known-part r 8 7 refl ∙ unknown-part r 4 4 refl ∙ and-comm (eqb (bits r 36 4) 0) (setKnown r 4)

@@ -170,7 +170,7 @@ pub sound-kept-at : (d : Defaults) (t : Tables) (p : ℕ) (q : Request) → soun
 unfolding outcomeAt
 sound-kept-at d t p q h = go (verdict (checks t p q)) refl
   where
-    go : (c : Check) → verdict (checks t p q) ≡ c → sound (outcomeOf d t p (q .bytes) c .tables) ≡ true
+    go : (c : Check) → verdict (checks t p q) ≡ c → sound (outcomeOf d t p q c .tables) ≡ true
     go Pass e =
         effect-sound d t (body (q .bytes)) (action (q .bytes)) h (action-valid (q .bytes))
         (not-false _ (passed (checks t p q) e 11))

@@ -12,6 +12,7 @@ pub mod States
 pub mod Reading
 pub mod Places
 pub mod Checks
+pub mod Links
 pub mod Outcome
 pub mod Run
 pub mod Isolation

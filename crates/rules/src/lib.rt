@@ -135,11 +135,19 @@ pub struct Places {
     pub many: usize,
 }
 
-// What is said of a record: the answer's number, the permission, the length of the reply in the lent buffer, the places to store, and the tables afterwards.
+// A set of resources, the top bit for resource 0, and its size.
+#[repr(C)]
+pub struct Links {
+    pub set: u64,
+    pub size: u32,
+}
+
+// What is said of a record: the answer's number, the permission, the length of the reply in the lent buffer, the places to store, the links, and the tables afterwards.
 pub struct Judgement {
     pub answer: u8,
     pub permission: u8,
     pub length: usize,
     pub places: Places,
+    pub links: Links,
     pub tables: Tables,
 }

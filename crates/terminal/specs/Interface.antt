@@ -19,5 +19,7 @@ exported o = record {
   reply = length (o .reply .contents);
   first = o .reply .places .first;
   many = o .reply .places .many;
+  set = o .reply .links .set;
+  size = o .reply .links .size;
   tables = o .tables;
 }

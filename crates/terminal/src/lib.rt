@@ -13,7 +13,7 @@ ghost use Rattle.office.specs.Office.{officeVerdict, officeReply};
 ghost use Rattle.terminal.specs.Interface.{exported, startOf};
 
 // What becomes of a record. Without a payload both its start and its length are 0; `reply` is the length written to the lent buffer;
-// `first` and `many` are the places of the table to store after a DELETE.
+// `first` and `many` are the places of the table to store after a DELETE; `set` and `size` are the links of /yard.
 #[repr(C)]
 pub struct Outcome {
     pub answer: u8,
@@ -23,6 +23,8 @@ pub struct Outcome {
     pub reply: usize,
     pub first: usize,
     pub many: usize,
+    pub set: u64,
+    pub size: usize,
     pub tables: Tables,
 }
 
@@ -68,6 +70,7 @@ pub extern "C" fn tillerclover_judge(
     let j = judge::judge(t, creds, aces, clock, record, reply);
     let next = j.tables;
     let places = j.places;
+    let links = j.links;
     let answer = j.answer;
     let length = outcome::payload(record, answer).len();
     Outcome {
@@ -78,6 +81,8 @@ pub extern "C" fn tillerclover_judge(
         reply: j.length,
         first: places.first,
         many: places.many,
+        set: links.set,
+        size: links.size as usize,
         tables: next,
     }
 }

@@ -5,6 +5,7 @@ use fields::double_word;
 use fields::word;
 use rows::part;
 use rules::Judgement;
+use rules::Links;
 use rules::Places;
 use rules::Tables;
 ghost use Prim.Native.Nat.{_≤_};
@@ -116,11 +117,11 @@ fn entry_size(s: &[u8]) -> usize {
     }
 }
 
-// Tag, clock, length and bytes of the record, room, answer, permission, payload start and length, length of the reply, first place and how many, the reply.
+// Tag, clock, length and bytes of the record, room, answer, permission, payload start and length, length of the reply, first place and how many, the links and their number, the reply.
 fn record_size(s: &[u8]) -> usize {
     let length = word(after(s, 5)) as usize;
     let reply = word(after(after(s, 15), length)) as usize;
-    19 + length + reply
+    28 + length + reply
 }
 
 // Of an entry with default lists: the length of the second, the first, and the second.
@@ -212,6 +213,7 @@ fn judged(p: Progress, s: &[u8], lists: &[u8]) -> Progress {
     if same_outcome(answer, j.permission, payload, record, expected)
         & same_reply(j.length, &buffer, after(expected, 6))
         & same_places(j.places, after(expected, 8))
+        & same_links(j.links, after(expected, 10))
     {
         next
     } else {
@@ -242,9 +244,9 @@ fn smaller(a: usize, b: usize) -> usize
     b
 }
 
-// Whether the reply is the one behind its length and the places, and the buffer is as before behind it.
+// Whether the reply is the one behind its length, the places and the links, and the buffer is as before behind it.
 fn same_reply(length: usize, buffer: &[u8], expected: &[u8]) -> bool {
-    let reply = part(expected, 4, word(expected) as usize);
+    let reply = part(expected, 13, word(expected) as usize);
     let mut filled = [165u8; 1300];
     fill(&mut filled, reply);
     (length == reply.len()) & rows::same_bytes(buffer, &filled)
@@ -253,6 +255,15 @@ fn same_reply(length: usize, buffer: &[u8], expected: &[u8]) -> bool {
 // Whether the first place to store and how many are those of these bytes.
 fn same_places(p: Places, expected: &[u8]) -> bool {
     (p.first == byte_at(expected, 0) as usize) & (p.many == byte_at(expected, 1) as usize)
+}
+
+// Whether the set of links and its size are those of these bytes.
+fn same_links(l: Links, expected: &[u8]) -> bool {
+    let high = double_word(expected) as u64;
+    let low = double_word(after(expected, 4)) as u64;
+    (l.set / 4294967296 == high)
+        & (l.set % 4294967296 == low)
+        & (l.size == byte_at(expected, 8) as u32)
 }
 
 // Whether an outcome is the one of these bytes: answer, permission, payload start and payload length.

@@ -6,6 +6,7 @@ use std::hint::black_box;
 use std::time::Instant;
 
 use model::case::Case as Put;
+use model::directory::YARD;
 use model::examples::{access, credential, role, uuid, AUTH};
 use model::generate::{clock, record, session};
 use model::library::{self, Tables as Given};
@@ -48,6 +49,8 @@ const WEIGHT: u8 = 8;
 const TARE: u8 = 9;
 const CREDENTIALS: u8 = 2;
 const ACCESSES: u8 = 3;
+/// The wildcard "*".
+const STAR: u8 = 1;
 
 /// How many rows the two tables hold.
 #[derive(Clone, Copy)]
@@ -81,6 +84,15 @@ impl Rows {
         tables.device_owner = Some(uuid(1));
         if let (Some(sender), Some(last)) = (tables.credentials.last(), tables.accesses.last_mut()) {
             *last = access(last.number, Subject::Uuid(sender.subject), UPDATE_BIT, 0, &[TARE]);
+        }
+        tables
+    }
+
+    /// The same, but the last access row lets the last credential read all that a wildcard reaches.
+    fn polled(self) -> Tables {
+        let mut tables = self.serving();
+        if let (Some(sender), Some(last)) = (tables.credentials.last(), tables.accesses.last_mut()) {
+            *last = access(last.number, Subject::Uuid(sender.subject), RETRIEVE_BIT, STAR, &[]);
         }
         tables
     }
@@ -168,6 +180,13 @@ fn cases(rows: Rows) -> Vec<Case> {
             "UPDATE /tare, 64 bytes, by the last rows",
             rows.serving().bytes(),
             compose(Verb::Update, TARE, sender, &[0x55; 64]),
+            0,
+        ));
+        cases.push(Case::new(
+            "poll",
+            "RETRIEVE /yard, six links, by the last rows",
+            rows.polled().bytes(),
+            compose(Verb::Retrieve, YARD, sender, &[]),
             0,
         ));
     }

@@ -20,9 +20,10 @@ compare --replay TABLES:CLOCK:RECORD:ROOM:CREDENTIALS:ACCESSES
 Judges the same records on the same tables at the same clock by the library and
 by the model, and compares answer, permission, payload, length of the reply,
 every byte of the lent buffer (and some behind it), the places to store after a
-delete and every byte of the tables; fresh tables and the clear button too.
-Default lists, good and bad, are drawn with the cases. The office text of many
-of the tables, and of some for it alone, is compared in the same way.
+delete, the set of the yard and its size, and every byte of the tables; fresh
+tables and the clear button too. Default lists, good and bad, are drawn with the
+cases. The office text of many of the tables, and of some for it alone, is
+compared in the same way.
 
   --records N   so many records (default 300000)
   --seed S      another choice of records (default 1)

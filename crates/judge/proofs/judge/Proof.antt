@@ -18,7 +18,9 @@ use Rattle.rules.specs.Defaults.{Defaults, defaults}
 use Rattle.rules.specs.Permission.{permission}
 use Rattle.rules.specs.Action.{action}
 use Rattle.rules.specs.declared.Places.{Places}
+use Rattle.rules.specs.declared.Links.{Links}
 use Rattle.rules.specs.Places.{placesOf}
+use Rattle.rules.specs.Links.{linksOf}
 use Rattle.rules.specs.Reading.{replyOf, tooShort, filled}
 use Rattle.rules.specs.Checks.{verdict, numberOf, formChecks, askedChecks, roomChecks, checks}
 use Rattle.rules.specs.Outcome.{outcome, outcomeAt, outcomeOf, replyTo, judgementOf, refusal, effect}
@@ -31,7 +33,7 @@ use Rattle.judge.proofs.judge.Tie as tie
 module _ (d : Defaults) (t : Tables) (q : Request) where
   -- the buffer after a verdict
   abbrev held : List ℕ → Check → List ℕ
-  held b c = filled b (outcomeOf d t (permission (q .clock) t (q .bytes)) (q .bytes) c .reply .contents)
+  held b c = filled b (outcomeOf d t (permission (q .clock) t (q .bytes)) q c .reply .contents)
 
   -- a refusal: what is said, and the buffer stays
   turned : (c : Check) (n : ℕ) (j : Judgement) (b : List ℕ) → c ≡ Refuse n → c ≡ verdict (checks t (permission (q .clock) t (q .bytes)) q) → j ≡ refusal t (numberOf c)
@@ -40,11 +42,11 @@ module _ (d : Defaults) (t : Tables) (q : Request) where
   turned c n j b e v r = (r ∙ rw (← v, e), ap (held b) (sym e ∙ v))
 
   -- a permit: what is said, and the buffer holds the reply
-  let-through : (p l : ℕ) (g : Places) (next : Tables) (b b′ : List ℕ) → p ≡ permission (q .clock) t (q .bytes) → l ≡ length (replyOf t (q .bytes)) → Pass ≡ verdict (checks t (permission (q .clock) t (q .bytes)) q)
-      → g ≡ placesOf t (body (q .bytes)) (action (q .bytes)) → next ≡ effect d t (body (q .bytes)) (action (q .bytes)) → b′ ≡ filled b (replyOf t (q .bytes))
-      → (record { answer = 0; permission = p; length = l; places = g; tables = next } ≡ judgementOf (outcome d t q)) × (b′ ≡ filled b (replyTo d t q .contents))
+  let-through : (p l : ℕ) (g : Places) (k : Links) (next : Tables) (b b′ : List ℕ) → p ≡ permission (q .clock) t (q .bytes) → l ≡ length (replyOf t (q .bytes)) → Pass ≡ verdict (checks t (permission (q .clock) t (q .bytes)) q)
+      → g ≡ placesOf t (body (q .bytes)) (action (q .bytes)) → k ≡ linksOf (q .clock) t (q .bytes) → next ≡ effect d t (body (q .bytes)) (action (q .bytes)) → b′ ≡ filled b (replyOf t (q .bytes))
+      → (record { answer = 0; permission = p; length = l; places = g; links = k; tables = next } ≡ judgementOf (outcome d t q)) × (b′ ≡ filled b (replyTo d t q .contents))
   unfolding outcome outcomeAt
-  let-through p l g next b b′ e k v n f w = (rw (← v, e, k, n, f), w ∙ ap (held b) v)
+  let-through p l g k next b b′ e m v n i f w = (rw (← v, e, m, n, i, f), w ∙ ap (held b) v)
 
 -- a reply that fits fills the buffer from its start
 fills : (b b′ s : List ℕ) (r : ℕ) → length s ≤ length b → Puts b 0 s b′ r → b′ ≡ filled b s
@@ -73,9 +75,6 @@ returns c =
     turned (lists s) (s .args .t) (request s) _ _ _ _ (told .enum-told2 .given .1)
     (stop-all (form ++ askedChecks (s .args .t) (permission (s .args .clock) (s .args .t) r) r (action r)) _ _ (stop-all form _ _ (told .before .before .check-form .ensures) (told .enum-told2 .given .1)) (told .enum-told2 .given .1))
     (c .refused .ensures)
-
-check-asked-requires : tie.Need-check-asked-requires
-check-asked-requires c κs = c .action-of .ensures
 
 -- the verdict of the checks up to 14
 fourteen : (c : tie.After-check-asked) → let s = start (c .before .before .before) in let r = now (s .args .«record») in
@@ -135,22 +134,23 @@ reply-fits c =
 
 apply-requires : tie.Need-apply-requires
 apply-requires c κs =
-    let call = before-room (fitted (c .before .before .before) .before .before) in
+    let call = before-room (fitted (c .before .before .before .before) .before .before) in
     let s = start (call .before .before .before) in
-    (is-sound (call .before .before .before), call .before .action-of .ensures, passed (askedChecks (s .args .t) (call .before .before .effective .result) (now (s .args .«record»)) (call .before .action-of .result)) (sym (call .check-asked .ensures) ∙ (fitted (c .before .before .before) .before .before .before .before .enum-told3 .given .1)) 14)
+    (is-sound (call .before .before .before), call .before .action-of .ensures, passed (askedChecks (s .args .t) (call .before .before .effective .result) (now (s .args .«record»)) (call .before .action-of .result)) (sym (call .check-asked .ensures) ∙ (fitted (c .before .before .before .before) .before .before .before .before .enum-told3 .given .1)) 14)
 
 same-length : tie.Need-same-length
-same-length c = puts-length (c .before .before .before .before .put-reply .ensures)
+same-length c = puts-length (c .before .before .before .before .before .put-reply .ensures)
 
 returns-4 : tie.Need-returns-4
 returns-4 c =
-    let wrote = c .before .before .before .before in
+    let wrote = c .before .before .before .before .before in
     let fit = fitted wrote in
     let room = fit .before .before in
     let call = before-room room in
     let s = start (call .before .before .before) in
-    let-through (lists s) (s .args .t) (request s) _ _ _ _ _ _ (call .before .before .effective .ensures) (room .before .reply-length .ensures) (sym (fit .enum-told5 .given .1) ∙ whole room)
-    (c .before .places-of .ensures ∙ ap (placesOf (s .args .t) (body (now (s .args .«record»)))) (call .before .action-of .ensures))
+    let-through (lists s) (s .args .t) (request s) _ _ _ _ _ _ _ (call .before .before .effective .ensures) (room .before .reply-length .ensures) (sym (fit .enum-told5 .given .1) ∙ whole room)
+    (c .before .before .places-of .ensures ∙ ap (placesOf (s .args .t) (body (now (s .args .«record»)))) (call .before .action-of .ensures))
+    (c .before .links-of .ensures)
     (c .apply .ensures ∙ ap (effect (lists s) (s .args .t) (body (now (s .args .«record»)))) (call .before .action-of .ensures))
     (fills _ _ _ _ (reply-fits fit) (wrote .put-reply .ensures))
 
@@ -159,9 +159,8 @@ judge-spec =
     tie.close
     (tie.spec
     (λ c κs. search needs) (λ c. search needs) (λ c. search needs) (λ c κs. search needs) returns
-    (λ c κs. search needs) (λ c κs. search needs) check-asked-requires
-    (λ c. search needs) (λ c. search needs) (λ c κs. search needs) returns-2
+    (λ c κs. search needs) (λ c κs. search needs) (λ c κs. search needs) (λ c. search needs) (λ c. search needs) (λ c κs. search needs) returns-2
     (λ c κs. search needs) (λ c κs. search needs) (λ c. search needs) (λ c. search needs) (λ c κs. search needs) returns-3
-    (λ c κs. search needs) (λ c κs. search needs) apply-requires
+    (λ c κs. search needs) (λ c κs. search needs) (λ c κs. search needs) apply-requires
     same-length
     returns-4)

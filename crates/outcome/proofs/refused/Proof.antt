@@ -4,14 +4,14 @@ use Rattle.outcome.proofs.refused.Statement.{statement}
 use Rattle.outcome.proofs.refused.Tie as tie
 
 returns : tie.Need-returns
-returns c = rw (c .before .enum-told .given .1, c .no-places .ensures)
+returns c = rw (c .before .before .enum-told .given .1, c .before .no-places .ensures, c .no-links .ensures)
 
 returns-2 : tie.Need-returns-2
-returns-2 c = rw (c .before .before .c .given .1, c .no-places2 .ensures)
+returns-2 c = rw (c .before .before .before .c .given .1, c .before .no-places2 .ensures, c .no-links2 .ensures)
 
 pub refused-spec : {M : Type 1} → statement M
 refused-spec =
     tie.close
     (tie.spec
-    (λ c. search needs) (λ c κs. search needs) (λ c. search needs) (λ c κs. search needs) returns
+    (λ c. search needs) (λ c κs. search needs) (λ c κs. search needs) (λ c. search needs) (λ c κs. search needs) (λ c κs. search needs) returns
     returns-2)

@@ -18,21 +18,26 @@ returns-2 : tie.Need-returns-2
 unfolding choices href braced joined ascii
 returns-2 c = let put = c .before .before in choice-puts (put .before .before .before .match .keys2) refl (put .put2 .ensures)
 
--- none of the numbers before
-left : (k : ℕ) → 8 ≤ k → k < 11 → (k ≡ 8 → ⊥) → (k ≡ 9 → ⊥) → k ≡ 10
-left k l h a b = omega arith
-
-last : (c : tie.At-match-rest) → c .before .before .args .k ≡ 10
-last c = let r = c .match .rest in left (c .before .before .args .k) (c .before .before .pre .0) (c .before .before .pre .1) (r .0 .1) (r .1)
-
 returns-3 : tie.Need-returns-3
 unfolding choices href braced joined ascii
-returns-3 c = let put = c .before .before in choice-puts (last (put .before .before .before)) refl (put .put3 .ensures)
+returns-3 c = let put = c .before .before in choice-puts (put .before .before .before .match .keys3) refl (put .put3 .ensures)
+
+-- none of the numbers before
+left : (k : ℕ) → 8 ≤ k → k < 12 → (k ≡ 8 → ⊥) → (k ≡ 9 → ⊥) → (k ≡ 10 → ⊥) → k ≡ 11
+left k l h a b c = omega arith
+
+last : (c : tie.At-match-rest) → c .before .before .args .k ≡ 11
+last c = let r = c .match .rest in left (c .before .before .args .k) (c .before .before .pre .0) (c .before .before .pre .1) (r .0 .0 .1) (r .0 .1) (r .1)
+
+returns-4 : tie.Need-returns-4
+unfolding choices href braced joined ascii
+returns-4 c = let put = c .before .before in choice-puts (last (put .before .before .before)) refl (put .put4 .ensures)
 
 pub put-yard-spec : {M : Type 1} → statement M
 put-yard-spec =
     tie.close
     (tie.spec
-    (λ c. search needs) (λ c κs. search needs) (λ c. search needs) (λ c κs. search needs) (λ c. search needs) (λ c κs. search needs) (λ c. search needs) returns
+    (λ c. search needs) (λ c κs. search needs) (λ c. search needs) (λ c κs. search needs) (λ c. search needs) (λ c κs. search needs) (λ c. search needs) (λ c κs. search needs) (λ c. search needs) returns
     (λ c. search needs) returns-2
-    (λ c. search needs) returns-3)
+    (λ c. search needs) returns-3
+    (λ c. search needs) returns-4)

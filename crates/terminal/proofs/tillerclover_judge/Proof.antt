@@ -16,20 +16,21 @@ use Rattle.terminal.proofs.tillerclover_judge.Statement.{statement}
 use Rattle.terminal.proofs.tillerclover_judge.Tie as tie
 
 told : (d : Defaults) (t : Tables) (q : Request) (j : Judgement) (p : List ℕ) (s : ℕ) → j ≡ judgementOf (outcome d t q) → p ≡ payloadAt (j .answer) (q .bytes) → s ≡ startOf (length p)
-    → record { answer = j .answer; permission = j .permission; start = s; length = length p; reply = j .length; first = j .places .first; many = j .places .many; tables = j .tables } ≡ exported (outcome d t q)
+    → record { answer = j .answer; permission = j .permission; start = s; length = length p; reply = j .length; first = j .places .first; many = j .places .many; set = j .links .set; size = j .links .size; tables = j .tables } ≡ exported (outcome d t q)
 told d t q j p s e f g = rw (g, f, e, payload-is d t q)
 
 -- back to the call of the judge
 abbrev call : tie.After-start-of → tie.After-judge
-call c = c .before .before .before .before .before .before
+call c = c .before .before .before .before .before .before .before
 
 returns : tie.Need-returns
 returns c =
-    let said = call c .judge .ensures in
-    (told _ _ _ _ _ _ (said .0) (c .before .payload .ensures) (c .start-of .ensures), said .1)
+    let start = c .before in
+    let said = call start .judge .ensures in
+    (told _ _ _ _ _ _ (said .0) (start .before .payload .ensures) (start .start-of .ensures), said .1)
 
 pub tillerclover-judge-spec : {M : Type 1} → statement M
 tillerclover-judge-spec =
     tie.close
     (tie.spec
-    (λ c κs. search needs) (λ c κs. search needs) (λ c κs. search needs) (λ c. search needs) returns)
+    (λ c κs. search needs) (λ c κs. search needs) (λ c κs. search needs) (λ c. search needs) (λ c. search needs) returns)

@@ -1,4 +1,4 @@
--- `asked::check_asked`: a check that refuses ends the list, one that passes leaves the rest.
+-- `check_asked`: a check that refuses ends the list, one that passes leaves the rest.
 use mathlib.Core.Path.{_≡_}
 use mathlib.Core.Bool.{Bool}
 use mathlib.Core.List.{List, _++_}
@@ -8,8 +8,8 @@ use Rattle.rules.specs.declared.Check.{Check}
 use Rattle.rules.proofs.CheckLaws.{stop, skip, last, stop-all, skip-all}
 use Rattle.rules.specs.Checks.{verdict, requestChecks, stateChecks, rowChecks, askedChecks}
 use borrow.Author.Needs.{needs}
-use Rattle.judge.proofs.asked.check_asked.Statement.{statement}
-use Rattle.judge.proofs.asked.check_asked.Tie as tie
+use Rattle.asked.proofs.check_asked.Statement.{statement}
+use Rattle.asked.proofs.check_asked.Tie as tie
 
 module _ (s : tie.Start) where
   abbrev requests : List (ℕ × Bool)

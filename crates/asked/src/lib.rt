@@ -1,5 +1,7 @@
 // Checks 16 and 8 to 14: what is asked for, the device state, then the rows and the room for a new one.
-// The first refusal is returned at once.
+// The first refusal is returned at once. Every public function is total.
+use bodies::ace_row;
+use bodies::cred_row;
 use fields::record::body_of;
 use format::capacity_of;
 use lookup::check_missing;
@@ -10,15 +12,32 @@ use rows::Found;
 use rows::part;
 use rules::Action;
 use rules::Check;
+use rules::Table;
 use rules::Tables;
 use states::check_states;
 ghost use mathlib.Core.Path.{_≡_};
+ghost use Rattle.rows.specs.Rows.{placeOf, numberedAs};
 ghost use Rattle.rules.specs.Record.{body};
-ghost use Rattle.rules.specs.Action.{action};
+ghost use Rattle.rules.specs.Tables.{rowOf, rows};
 ghost use Rattle.rules.specs.Checks.{refuseIf, verdict, full, askedChecks};
 
+// Where the table holds the number of the row that the body stores.
+fn numbered_place(t: Tables, table: Table, b: &[u8]) -> Found
+    ensures { λ r. ⌜ r ≡ placeOf (numberedAs (rowOf table (now (b .entry)))) (rows table t) ⌝ }
+{
+    match table {
+        Table::Creds => {
+            let row = cred_row(b);
+            place(t, table, 0, part(&row, 0, 2))
+        }
+        Table::Aces => {
+            let row = ace_row(b);
+            place(t, table, 0, part(&row, 0, 2))
+        }
+    }
+}
+
 fn check_full(t: Tables, a: Action, record: &[u8]) -> Check
-    requires { ⌜ a ≡ action (now «record») ⌝ }
     ensures { λ c. ⌜ c ≡ refuseIf 14 (full t (body (now («record» .entry))) a) ⌝ }
 {
     let Action::Store(table) = a else {
@@ -27,16 +46,15 @@ fn check_full(t: Tables, a: Action, record: &[u8]) -> Check
     if count_of(t, table) < capacity_of(table) {
         return Check::Pass;
     }
-    let b = body_of(record);
-    let Found::At(_) = place(t, table, 0, part(b, 0, 2)) else {
+    let Found::At(_) = numbered_place(t, table, body_of(record)) else {
         return Check::Refuse(14);
     };
     Check::Pass
 }
 
 // The first of the checks 16 and 8 to 14 that applies to the action `a` of the record.
+// Rules out: the body judged before the permission; a full table that refuses a row whose number it holds.
 pub fn check_asked(t: Tables, permission: u8, record: &[u8], a: Action) -> Check
-    requires { ⌜ a ≡ action (now «record») ⌝ }
     ensures { λ c. ⌜ c ≡ verdict (askedChecks t permission (now («record» .entry)) a) ⌝ }
 {
     let c = check_request(permission, record, a);

@@ -1,0 +1,23 @@
+-- `links_of`: the set and the count of its ones, or nothing.
+use mathlib.Core.Path.{sym, _∙_}
+use lib.Count.{ones, onesIn}
+use borrow.Author.Tests.{not-true, not-false}
+use Rattle.rules.specs.Links.{linkSet}
+use borrow.Author.Needs.{needs}
+use Rattle.links.proofs.links_of.Statement.{statement}
+use Rattle.links.proofs.links_of.Tie as tie
+
+returns : tie.Need-returns
+unfolding linkSet ones onesIn
+returns c =
+    let test = c .before in
+    rw (sym (test .before .asks-links .ensures) ∙ not-true _ (test .if1 .taken)) (c .no-links .ensures)
+
+returns-2 : tie.Need-returns-2
+unfolding linkSet
+returns-2 c =
+    let test = c .before in
+    rw (sym (test .before .asks-links .ensures) ∙ not-false _ (test .if1 .left), ← c .link-set .ensures)
+
+pub links-of-spec : {M : Type 1} → statement M
+links-of-spec = tie.close (tie.spec (λ c κs. search needs) (λ c κs. search needs) returns (λ c κs. search needs) returns-2)
