@@ -51,20 +51,20 @@ in_model() { (cd model && "$@"); }
 
 # The model's own tests, and its programs are built.
 test_model() {
-    need_cargo && log in_model cargo test --quiet --release --locked && log in_model cargo build --quiet --release --locked
+    need_cargo && log in_model cargo test --quiet --profile gate --locked && log in_model cargo build --quiet --profile gate --locked
 }
 
 # The library and the model give the same for 300,000 records.
 test_compare() {
     need_cargo && library &&
-        log in_model cargo run --quiet --release --locked --features linked --bin compare -- --records 300000 &&
+        log in_model cargo run --quiet --profile gate --locked --features linked --bin compare -- --records 300000 &&
         tail -n 1 "$work/log"
 }
 
 # The run program and the model write the same text for 200 runs.
 test_runs() {
     need_cargo && run_program &&
-        log in_model cargo run --quiet --release --locked --bin runs -- --program ../target/bin/run --runs 200 &&
+        log in_model cargo run --quiet --profile gate --locked --bin runs -- --program ../target/bin/run --runs 200 &&
         tail -n 1 "$work/log"
 }
 
@@ -78,7 +78,7 @@ test_example() {
 
 # The vectors are those that the model writes today.
 test_vectors() {
-    need_cargo && log in_model cargo run --quiet --release --locked --bin vectors -- "$work/vectors.bin" &&
+    need_cargo && log in_model cargo run --quiet --profile gate --locked --bin vectors -- "$work/vectors.bin" &&
         tail -n 1 "$work/log" && log cmp "$work/vectors.bin" crates/vectors/data/vectors.bin
 }
 

@@ -1,8 +1,8 @@
 // What one access row, an access control entry, gives a sender on a resource.
 // The sender is its credential row, or no bytes, and its connection.
+use directory::resource_row;
 use fields::ace;
 use fields::cred;
-use rules::directory::resource_row;
 ghost use mathlib.Core.Path.{_≡_};
 ghost use Rattle.rules.specs.Permission.{subjectFits, resourceFits, inForce, rowFits, gives};
 

@@ -58,6 +58,7 @@ fn link_bit(clock: u32, t: Tables, record: &[u8], n: u8, bit: u64) -> u64
     0
 }
 
+// The sum of the links' bits.
 fn link_set(clock: u32, t: Tables, record: &[u8]) -> u64
     ensures { λ r. ⌜ r ≡ setOf (λ n. permits clock t (ownRecord (now («record» .entry)) n)) links ⌝ }
 {

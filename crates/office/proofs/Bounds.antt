@@ -1,4 +1,4 @@
--- Theorems: no access list has a text longer than 11,693 bytes, so a buffer of that length never gets 18.
+-- Theorems: no access list has a text longer than 12,237 bytes, so a buffer of that length never gets 18.
 -- 32 rows, each with a number of five digits, a UUID, all resources and wildcards, and a permission of two digits.
 use Prim.Native.Nat.{ℕ, zero, suc, _+_, _*_, _-_, _/_, _^_, _<_, _≤_, min}
 use native.Mathlib.Omega.{arith}

@@ -1,5 +1,6 @@
 // The parts of an outcome that are the same for every record: a refusal, no places, no links, the room for a reply, the payload.
 // Every function is total.
+use directory::resource_row;
 use fields::after;
 use fields::record::resource_of;
 use rules::Check;
@@ -7,7 +8,6 @@ use rules::Judgement;
 use rules::Links;
 use rules::Places;
 use rules::Tables;
-use rules::directory::resource_row;
 ghost use mathlib.Core.Path.{_≡_};
 ghost use lib.Dec.{ltb};
 ghost use Rattle.rules.specs.Places.{nowhere};

@@ -1,6 +1,7 @@
 // The effective permission of a record's sender on its resource.
 // The union of what the fitting access rows give, and all five bits for a security resource's owners.
 use access::row_gives;
+use directory::resource_row;
 use fields::cred;
 use fields::held;
 use fields::record::connection_of;
@@ -9,7 +10,6 @@ use rows::part;
 use rules::Permission;
 use rules::Tables;
 use rules::Uuid;
-use rules::directory::resource_row;
 ghost use mathlib.Core.Path.{_≡_};
 ghost use mathlib.Core.Bool.{cond};
 ghost use Prim.Native.Nat.{_*_, _≤_, min};

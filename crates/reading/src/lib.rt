@@ -1,11 +1,11 @@
 // Reading the tables back: the reply to a RETRIEVE of a security resource, its length and its bytes.
 // The resource's own body, its row owner, and its rows in table order.
+use directory::resource_row;
 use fields::held;
 use fields::record::resource_of;
 use fields::record::verb_of;
 use rows::part;
 use rules::Tables;
-use rules::directory::resource_row;
 use text::put;
 use text::put_byte;
 ghost use mathlib.Core.Path.{_≡_};

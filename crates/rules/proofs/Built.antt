@@ -73,7 +73,7 @@ built-same d t (q ∷ qs) (c ∷ cs) b =
       more .1 ∙ ap (λ (s : Tables). final (tablesAfter d) s qs) next,
     )
 
--- demand 3: record by record the others' numbers, permissions, payload bytes, replies and places, and at the end the tables
+-- demand 3: record by record the others' numbers, permissions, payload bytes, replies, places and links, and at the end the tables
 pub built-isolation :
     (d : Defaults) (chosen : Sender → Bool) (t : Tables) (qs : List Request) (cs : List Call)
     → Built d t qs cs

@@ -206,7 +206,7 @@ pub replies-read :
 unfolding definitions owned5 uuid credRow reply
 replies-read = refl
 
--- ---- endpoints (U2): RETRIEVE of each application resource, 8 to 14, over connection 1 by the owner and over connection 0
+-- ---- endpoints (U2): RETRIEVE of each application resource, 8 to 14 and 16, over connection 1 by the owner and over connection 0
 
 -- everybody may read all that a wildcard reaches
 pub broad : Tables
@@ -216,13 +216,13 @@ pub header-of : ℕ → ℕ → ℕ → List ℕ
 header-of c n k = (0x20 + c * 16 + n / 4) ∷ (n % 4 * 64) ∷ 0x00 ∷ k ∷ []
 
 pub applications : List ℕ
-applications = 8 ∷ 9 ∷ 10 ∷ 11 ∷ 12 ∷ 13 ∷ 14 ∷ []
+applications = 8 ∷ 9 ∷ 10 ∷ 11 ∷ 12 ∷ 13 ∷ 14 ∷ 16 ∷ []
 
-pub endpoints-secure : map (λ n. answer broad (header-of 1 n 5)) applications ≡ 0 ∷ 0 ∷ 0 ∷ 0 ∷ 0 ∷ 0 ∷ 16 ∷ []
+pub endpoints-secure : map (λ n. answer broad (header-of 1 n 5)) applications ≡ 0 ∷ 0 ∷ 0 ∷ 0 ∷ 0 ∷ 0 ∷ 16 ∷ 0 ∷ []
 unfolding definitions broad header-of applications owned5 serving aceBody aceRow none connected uuid credRow
 endpoints-secure = refl
 
-pub endpoints-clear : map (λ n. answer broad (header-of 0 n 0)) applications ≡ 0 ∷ 16 ∷ 16 ∷ 16 ∷ 0 ∷ 16 ∷ 0 ∷ []
+pub endpoints-clear : map (λ n. answer broad (header-of 0 n 0)) applications ≡ 0 ∷ 16 ∷ 16 ∷ 16 ∷ 0 ∷ 16 ∷ 0 ∷ 16 ∷ []
 unfolding definitions broad header-of applications owned5 serving aceBody aceRow none connected uuid credRow
 endpoints-clear = refl
 
@@ -400,21 +400,25 @@ pub periods-answered :
 unfolding definitions owned5 aceBody weight uuid credRow
 periods-answered = refl
 
--- ---- the whole yard at once (U9): the contractor has R on 8 from second 10 to second 20, and at all times on 13, 14 and /yard
+-- ---- the whole yard at once (U9): the contractor has R on 8 from second 10 to second 20, and R and U at all times on 13, 14 and /yard
 
 pub polled : Tables
-polled = withRows Creds (serving (seasonRow 1 ∷ aceRow 2 0 2 0 (0 ∷ 0x06 ∷ 0x80 ∷ replicate 5 0) (replicate 16 0x22) ∷ [])) (credRow 5 ∷ haulierRow 7 ∷ [])
+polled = withRows Creds (serving (seasonRow 1 ∷ aceRow 2 0 6 0 (0 ∷ 0x06 ∷ 0x80 ∷ replicate 5 0) (replicate 16 0x22) ∷ [])) (credRow 5 ∷ haulierRow 7 ∷ [])
 
--- RETRIEVE, UPDATE and OBSERVE of /yard by the contractor, and RETRIEVE of 13, in and out of the season: 13 has the secure endpoint, 14 has not
+-- the set that a record is answered
+pub told : ℕ → List ℕ → ℕ
+told clock r = replyTo noDefaults polled (asked clock r 0) .links .set
+
+-- RETRIEVE in and out of the season, UPDATE and OBSERVE of /yard by the contractor, and RETRIEVE of 13: 13 has the secure endpoint, 14 has not
 pub links-told :
-    linkSet 15 polled (0x34 ∷ 0x00 ∷ 0x00 ∷ 0x07 ∷ [])
-    ∷ linkSet 21 polled (0x34 ∷ 0x00 ∷ 0x00 ∷ 0x07 ∷ [])
-    ∷ linkSet 15 polled (0x54 ∷ 0x00 ∷ 0x00 ∷ 0x07 ∷ [])
-    ∷ linkSet 15 polled (0x94 ∷ 0x00 ∷ 0x00 ∷ 0x07 ∷ [])
-    ∷ linkSet 15 polled (0x33 ∷ 0x40 ∷ 0x00 ∷ 0x07 ∷ [])
+    told 15 (0x34 ∷ 0x00 ∷ 0x00 ∷ 0x07 ∷ [])
+    ∷ told 21 (0x34 ∷ 0x00 ∷ 0x00 ∷ 0x07 ∷ [])
+    ∷ told 15 (0x54 ∷ 0x00 ∷ 0x00 ∷ 0x07 ∷ [])
+    ∷ told 15 (0x94 ∷ 0x00 ∷ 0x00 ∷ 0x07 ∷ [])
+    ∷ told 15 (0x33 ∷ 0x40 ∷ 0x00 ∷ 0x07 ∷ [])
     ∷ []
-    ≡ 0x0084000000000000 ∷ 0x0004000000000000 ∷ 0 ∷ 0 ∷ 0 ∷ []
-unfolding definitions permits ownRecord setOf polled seasonRow haulierRow owned5 serving aceBody aceRow weight uuid credRow
+    ≡ 0x0084000000000000 ∷ 0x0004000000000000 ∷ 0x0004000000000000 ∷ 0 ∷ 0 ∷ []
+unfolding definitions permits ownRecord setOf told polled seasonRow haulierRow owned5 serving aceBody aceRow weight uuid credRow
 links-told = refl
 
 -- and /yard itself is answered

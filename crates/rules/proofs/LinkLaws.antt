@@ -47,8 +47,10 @@ module _ (r : List ℕ) (n : ℕ) (h : n < 64) where
 pub record Own (r : List ℕ) (n : ℕ) : Type 0 where
   pub verb-same : verb (ownRecord r n) ≡ verb r
   pub sender-same : sender (ownRecord r n) ≡ sender r
+  pub connection-same : connection (ownRecord r n) ≡ connection r
+  pub credential-same : credential (ownRecord r n) ≡ credential r
   pub resource-is : resource (ownRecord r n) ≡ n
   pub zeros : headerZeros (ownRecord r n) ≡ 0
 
 pub own : (r : List ℕ) (n : ℕ) → 4 ≤ length r → n < 64 → Own r n
-own r n l h = record { verb-same = own-verb r n h; sender-same = own-sender r n h l; resource-is = own-resource r n h; zeros = own-zeros r n h }
+own r n l h = record { verb-same = own-verb r n h; sender-same = own-sender r n h l; connection-same = own-connection r n h; credential-same = own-credential r n h; resource-is = own-resource r n h; zeros = own-zeros r n h }

@@ -1,5 +1,5 @@
 -- Theorems, demand 1: each record has exactly one outcome, permitted or the first of the numbered refusals that applies.
--- A refusal hands back the same tables, permission 0, the empty payload, no reply and no places.
+-- A refusal hands back the same tables, permission 0, the empty payload, no reply, no places and no links.
 use Prim.Native.Nat.{ℕ, zero, suc}
 use native.Mathlib.Omega.{arith}
 use mathlib.Core.Path.{_≡_, refl, sym, ap, _∙_}
@@ -119,7 +119,7 @@ is-refused d t q n f = ap (λ (c : Check). outcomeOf d t (permission (q .clock) 
 
 -- ---- a refusal
 
--- any answer but 0 goes with permission 0, the empty payload, no reply, no places and the same tables
+-- any answer but 0 goes with permission 0, the empty payload, no reply, no places, no links and the same tables
 pub refusal-is : (d : Defaults) (t : Tables) (q : Request) (n : ℕ) → replyTo d t q .answer ≡ suc n → outcome d t q ≡ record { reply = record { answer = suc n; permission = 0; payload = []; contents = []; places = nowhere; links = noLinks }; tables = t }
 unfolding outcome outcomeAt
 refusal-is d t q n = go (verdict (checks t (permission (q .clock) t (q .bytes)) q))

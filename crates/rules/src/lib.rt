@@ -1,7 +1,5 @@
-// The terminal's access rules: the types, the constants and the directory that definitions and code share.
+// The terminal's access rules: the types and the constants that definitions and code share.
 // What the rules say stands in specs/, what follows from them in proofs/.
-pub mod directory;
-
 ghost use mathlib.Core.Path.{_≡_};
 ghost use Rattle.rules.specs.Tables.{empty};
 ghost use Rattle.rules.specs.Checks.{refuseIf};

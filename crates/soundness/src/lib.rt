@@ -45,7 +45,7 @@ fn rows_sound(table: Table, count: usize, bytes: &[u8]) -> bool
     let end = count * long;
     rows::all_zero(bytes, end)
         & rows_storable(table, bytes, count)
-        & rows::distinct(bytes, long, count)
+        & numbers::distinct(bytes, long, count)
 }
 
 fn head_sound(t: Tables) -> bool

@@ -20,7 +20,7 @@ fn good_list(table: Table, list: &[u8]) -> bool
     if 2 < n {
         return false;
     }
-    (list.len() % long == 0) & rows_storable(table, list, n) & rows::distinct(list, long, n)
+    (list.len() % long == 0) & rows_storable(table, list, n) & numbers::distinct(list, long, n)
 }
 
 // The bytes of the rows that the list gives.

@@ -1,4 +1,4 @@
--- `rows::again` meets its contract: a search where the low byte was seen, and none where it was not.
+-- `again` meets its contract: a search where the low byte was seen, and none where it was not.
 -- Assumes nothing.
 use mathlib.Core.Path.{_≡_, sym, ap, _∙_}
 use mathlib.Core.List.{List}
@@ -8,11 +8,11 @@ use lib.ListN.{length, take, drop, length-drop}
 use lib.Seq.{length-take-le}
 use borrow.Author.Needs.{needs}
 use borrow.Author.Tests.{not-true}
 use Rattle.rows.specs.declared.Found.{Found}
 use Rattle.rows.specs.Rows.{rowsOf, placeFrom, some, hasKey}
 use Rattle.rows.proofs.Laws.{take-rest, some-place, isAt}
-use Rattle.rows.proofs.again.Statement.{statement}
-use Rattle.rows.proofs.again.Tie as tie
+use Rattle.numbers.proofs.again.Statement.{statement}
+use Rattle.numbers.proofs.again.Tie as tie
 
 found-is : (rest : List ℕ) (s left : ℕ) (at : Found) → at ≡ placeFrom 0 (hasKey 0 (take 2 rest)) (rowsOf s left (take (length rest - s) (drop s rest)))
     → isAt at ≡ some (hasKey 0 (take 2 rest)) (rowsOf s left (drop s rest))
