@@ -6,59 +6,72 @@ use outcome::no_places;
 use rows::Found;
 use rules::Action;
 use rules::Check;
+use rules::Head;
 use rules::Places;
 use rules::Table;
-use rules::Tables;
 ghost use mathlib.Core.Path.{_≡_};
 ghost use lib.ListN.{length};
 ghost use Rattle.rows.specs.Rows.{placeOf, hasKey};
 ghost use Rattle.rules.specs.Record.{body};
-ghost use Rattle.rules.specs.Tables.{count, rows};
+ghost use Rattle.rules.specs.Tables.{count, rows, tablesOf};
 ghost use Rattle.rules.specs.Places.{gapOf, placesOf};
 ghost use Rattle.rules.specs.Checks.{refuseIf, missing};
 
 // Rows counted.
 // Rules out: the other table's count; the rows that there is room for.
-pub fn count_of(t: Tables, table: Table) -> usize
-    ensures { λ r. ⌜ r ≡ count table t ⌝ }
+pub fn count_of<'a>(h: Head, creds: &'a [u8; 552], aces: &'a [u8; 1152], table: Table) -> usize
+    ensures { λ r. ⌜ r ≡ count table (tablesOf h (now (creds .entry)) (now (aces .entry))) ⌝ }
 {
     match table {
-        Table::Creds => t.ncreds as usize,
-        Table::Aces => t.naces as usize,
+        Table::Creds => h.ncreds as usize,
+        Table::Aces => h.naces as usize,
     }
 }
 
 // Rows held.
-fn held_of(t: Tables, table: Table) -> usize
-    ensures { λ r. ⌜ r ≡ length (rows table t) ⌝ }
+fn held_of<'a>(h: Head, creds: &'a [u8; 552], aces: &'a [u8; 1152], table: Table) -> usize
+    ensures { λ r. ⌜ r ≡ length (rows table (tablesOf h (now (creds .entry)) (now (aces .entry)))) ⌝ }
 {
     match table {
-        Table::Creds => held(t.ncreds, 24),
-        Table::Aces => held(t.naces, 32),
+        Table::Creds => held(h.ncreds, 24),
+        Table::Aces => held(h.naces, 32),
     }
 }
 
 // The place of the first row of the table that has the key's bytes from `at` on.
 // Rules out: a later row; a row of the other table.
-pub fn place(t: Tables, table: Table, at: usize, key: &[u8]) -> Found
-    ensures { λ r. ⌜ r ≡ placeOf (hasKey at (now (key .entry))) (rows table t) ⌝ }
+pub fn place<'a>(
+    h: Head,
+    creds: &'a [u8; 552],
+    aces: &'a [u8; 1152],
+    table: Table,
+    at: usize,
+    key: &[u8],
+) -> Found
+    ensures { λ r. ⌜ r ≡ placeOf (hasKey at (now (key .entry))) (rows table (tablesOf h (now (creds .entry)) (now (aces .entry)))) ⌝ }
 {
     match table {
         Table::Creds => {
-            let count = held(t.ncreds, 24);
-            rows::find(&t.creds, 23, count, at, key)
+            let count = held(h.ncreds, 24);
+            rows::find(creds, 23, count, at, key)
         }
         Table::Aces => {
-            let count = held(t.naces, 32);
-            rows::find(&t.aces, 36, count, at, key)
+            let count = held(h.naces, 32);
+            rows::find(aces, 36, count, at, key)
         }
     }
 }
 
 // Check 13: the rows to delete are not there.
 // Rules out: 13 for an empty table that is emptied; a row of the other table that counts.
-pub fn check_missing(t: Tables, a: Action, record: &[u8]) -> Check
-    ensures { λ c. ⌜ c ≡ refuseIf 13 (missing t (body (now («record» .entry))) a) ⌝ }
+pub fn check_missing<'a>(
+    h: Head,
+    creds: &'a [u8; 552],
+    aces: &'a [u8; 1152],
+    a: Action,
+    record: &[u8],
+) -> Check
+    ensures { λ c. ⌜ c ≡ refuseIf 13 (missing (tablesOf h (now (creds .entry)) (now (aces .entry))) (body (now («record» .entry))) a) ⌝ }
 {
     let Action::Remove(table, at) = a else {
         return Check::Pass;
@@ -67,32 +80,45 @@ pub fn check_missing(t: Tables, a: Action, record: &[u8]) -> Check
     if key.len() == 0 {
         return Check::Pass;
     }
-    let Found::At(_) = place(t, table, at, key) else {
+    let Found::At(_) = place(h, creds, aces, table, at, key) else {
         return Check::Refuse(13);
     };
     Check::Pass
 }
 
 // The places behind the first row that has the key's bytes from `at` on.
-fn gap(t: Tables, table: Table, at: usize, key: &[u8]) -> Places
-    ensures { λ r. ⌜ r ≡ gapOf (hasKey at (now (key .entry))) (rows table t) ⌝ }
+fn gap<'a>(
+    h: Head,
+    creds: &'a [u8; 552],
+    aces: &'a [u8; 1152],
+    table: Table,
+    at: usize,
+    key: &[u8],
+) -> Places
+    ensures { λ r. ⌜ r ≡ gapOf (hasKey at (now (key .entry))) (rows table (tablesOf h (now (creds .entry)) (now (aces .entry)))) ⌝ }
 {
-    let Found::At(first) = place(t, table, at, key) else {
+    let Found::At(first) = place(h, creds, aces, table, at, key) else {
         return no_places();
     };
     Places {
         first: first,
-        many: held_of(t, table) - first,
+        many: held_of(h, creds, aces, table) - first,
     }
 }
 
 // The places to store after the action: from the first deleted row to the last one held; everything else has none.
 // Rules out: places before the first row that goes; places for a row that is stored.
-pub fn places_of(t: Tables, a: Action, record: &[u8]) -> Places
-    ensures { λ r. ⌜ r ≡ placesOf t (body (now («record» .entry))) a ⌝ }
+pub fn places_of<'a>(
+    h: Head,
+    creds: &'a [u8; 552],
+    aces: &'a [u8; 1152],
+    a: Action,
+    record: &[u8],
+) -> Places
+    ensures { λ r. ⌜ r ≡ placesOf (tablesOf h (now (creds .entry)) (now (aces .entry))) (body (now («record» .entry))) a ⌝ }
 {
     let Action::Remove(table, at) = a else {
         return no_places();
     };
-    gap(t, table, at, body_of(record))
+    gap(h, creds, aces, table, at, body_of(record))
 }

@@ -2,11 +2,12 @@
 // 0 RESET, 1 RFOTM, 2 RFPRO, 3 RFNOP, 4 SRESET.
 use rules::Action;
 use rules::Check;
-use rules::Tables;
+use rules::Head;
 ghost use mathlib.Core.Path.{_≡_};
 ghost use mathlib.Core.Bool.{not};
 ghost use Prim.Native.Nat.{_≤_};
 ghost use Rattle.rules.specs.States.{writeAllowed, moveListed, stateAllows};
+ghost use Rattle.rules.specs.Tables.{tablesOf};
 ghost use Rattle.rules.specs.Checks.{refuseIf, verdict, badTarget, stateChecks};
 
 // State by kind of write: doxm, row owners, rows, target.
@@ -79,24 +80,24 @@ fn check_state(state: u8, a: Action) -> Check
     }
 }
 
-fn check_target(t: Tables, a: Action) -> Check
-    ensures { λ c. ⌜ c ≡ refuseIf 12 (badTarget t a) ⌝ }
+fn check_target<'a>(h: Head, creds: &'a [u8; 552], aces: &'a [u8; 1152], a: Action) -> Check
+    ensures { λ c. ⌜ c ≡ refuseIf 12 (badTarget (tablesOf h (now (creds .entry)) (now (aces .entry))) a) ⌝ }
 {
     let Action::SetState(target) = a else {
         return Check::Pass;
     };
-    let owned = t.owned == 1;
-    Check::refuse_if(12, !move_listed(t.state, owned, target))
+    let owned = h.owned == 1;
+    Check::refuse_if(12, !move_listed(h.state, owned, target))
 }
 
 // The first of the checks 11 and 12 that applies to the action.
 // Rules out: a write that the state forbids; a move to the present state.
-pub fn check_states(t: Tables, a: Action) -> Check
-    ensures { λ c. ⌜ c ≡ verdict (stateChecks t a) ⌝ }
+pub fn check_states<'a>(h: Head, creds: &'a [u8; 552], aces: &'a [u8; 1152], a: Action) -> Check
+    ensures { λ c. ⌜ c ≡ verdict (stateChecks (tablesOf h (now (creds .entry)) (now (aces .entry))) a) ⌝ }
 {
-    let c = check_state(t.state, a);
+    let c = check_state(h.state, a);
     let Check::Pass = c else {
         return c;
     };
-    check_target(t, a)
+    check_target(h, creds, aces, a)
 }

@@ -7,19 +7,25 @@ use denote.Ref.{now}
 use Rattle.rules.specs.declared.Check.{Check}
 use Rattle.rules.proofs.CheckLaws.{stop, skip, last, stop-all, skip-all}
 use Rattle.rules.specs.Checks.{verdict, requestChecks, stateChecks, rowChecks, askedChecks}
+use Rattle.rules.specs.declared.Tables.{Tables}
+use Rattle.rules.specs.Tables.{tablesOf}
 use borrow.Author.Needs.{needs}
 use Rattle.asked.proofs.check_asked.Statement.{statement}
 use Rattle.asked.proofs.check_asked.Tie as tie
+
+-- the tables, lent in parts
+abbrev tables : tie.Start → Tables
+tables s = tablesOf (s .args .h) (now (s .args .creds)) (now (s .args .aces))
 
 module _ (s : tie.Start) where
   abbrev requests : List (ℕ × Bool)
   requests = let a = s .args in requestChecks (a .permission) (now (a .«record»)) (a .a)
 
   abbrev ofStates : List (ℕ × Bool)
-  ofStates = stateChecks (s .args .t) (s .args .a)
+  ofStates = stateChecks (tables s) (s .args .a)
 
   abbrev ofRows : List (ℕ × Bool)
-  ofRows = rowChecks (s .args .t) (now (s .args .«record»)) (s .args .a)
+  ofRows = rowChecks (tables s) (now (s .args .«record»)) (s .args .a)
 
   abbrev all : List (ℕ × Bool)
   all = requests ++ (ofStates ++ ofRows)

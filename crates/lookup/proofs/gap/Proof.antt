@@ -6,13 +6,14 @@ use Prim.Native.Nat.{ℕ, _-_, _≤_}
 use native.Mathlib.Omega.{arith}
 use denote.Ref.{now}
 use lib.ListN.{length}
+use Rattle.rules.specs.declared.Tables.{Tables}
 use borrow.Author.Needs.{needs}
 use Rattle.rows.specs.declared.Found.the-variants.{At}
 use Rattle.rows.specs.Rows.{Row, placeFrom, hasKey, rowsBefore}
 use Rattle.rows.proofs.Laws.{some-place, isAt}
 use Rattle.rows.proofs.Gap.{place-before, before-all}
 use Rattle.rules.specs.declared.Places.{Places}
-use Rattle.rules.specs.Tables.{rows}
+use Rattle.rules.specs.Tables.{rows, tablesOf}
 use Rattle.rules.specs.Places.{gapOf}
 use Rattle.lookup.proofs.gap.Statement.{statement}
 use Rattle.lookup.proofs.gap.Tie as tie
@@ -24,10 +25,14 @@ gap-is : (goes : Row → Bool) (ws : List Row) (i n : ℕ) → placeFrom 0 goes 
 unfolding gapOf
 gap-is goes ws i n p e = rw (some-place 0 goes ws ∙ ap isAt p, before-is goes ws i p, e)
 
+-- the tables, lent in parts
+abbrev tables : tie.Start → Tables
+tables s = tablesOf (s .args .h) (now (s .args .creds)) (now (s .args .aces))
+
 abbrev start : tie.After-first → tie.Start
 start c = c .before .before .before .before
 
-found : (c : tie.After-first) → let a = start c .args in placeFrom 0 (hasKey (a .at) (now (a .key))) (rows (a .table) (a .t)) ≡ At (c .first .given .0 .0)
+found : (c : tie.After-first) → let a = start c .args in placeFrom 0 (hasKey (a .at) (now (a .key))) (rows (a .table) (tables (start c))) ≡ At (c .first .given .0 .0)
 found c = sym (c .before .before .place .ensures) ∙ c .first .given .1
 
 returns : tie.Need-returns
@@ -36,8 +41,8 @@ returns c =
     let told = c .before in
     rw (some-place 0 _ _ ∙ ap isAt (sym (told .before .before .place .ensures) ∙ told .enum-told .given .1)) (c .no-places .ensures)
 
-sub-many : tie.Need-sub-t8
-sub-many c = let a = start (c .before .before) .args in omega (arith, c .held-of .ensures, before-is _ _ _ (found (c .before .before)), before-all (hasKey (a .at) (now (a .key))) (rows (a .table) (a .t)))
+sub-many : tie.Need-sub-t10
+sub-many c = let s = start (c .before .before) in omega (arith, c .held-of .ensures, before-is _ _ _ (found (c .before .before)), before-all (hasKey (s .args .at) (now (s .args .key))) (rows (s .args .table) (tables s)))
 
 returns-2 : tie.Need-returns-2
 returns-2 c = gap-is _ _ _ _ (found (c .before .before)) (c .held-of .ensures)

@@ -13,28 +13,28 @@ use Rattle.lookup.proofs.place.Tie as tie
 
 find-requires : tie.Need-find-requires
 find-requires c κs =
-    let told = c .before .before .before in
+    let told = c .before in
     let start = told .before .before .before .before in
-    let l : length (start .args .t1 .creds) ≡ 552 = search needs in
+    let l : length (now (start .args .creds)) ≡ 552 = search needs in
     omega (arith, told .held .ensures)
 
 find-requires-2 : tie.Need-find-requires-2
 find-requires-2 c κs =
-    let told = c .before .before .before in
+    let told = c .before in
     let start = told .before .before .before .before in
-    let l : length (start .args .t1 .aces) ≡ 1152 = search needs in
+    let l : length (now (start .args .aces)) ≡ 1152 = search needs in
     omega (arith, told .held2 .ensures)
 
 returns : tie.Need-returns
 unfolding rowsIn
 returns c =
-    let told = c .before .before .before .before in
+    let told = c .before .before in
     rw (told .before .enum-told .given .1, ← told .held .ensures) (c .find .ensures)
 
 returns-2 : tie.Need-returns-2
 unfolding rowsIn
 returns-2 c =
-    let told = c .before .before .before .before in
+    let told = c .before .before in
     rw (told .before .enum-told2 .given .1, ← told .held2 .ensures) (c .find2 .ensures)
 
 pub place-spec : {M : Type 1} → statement M
