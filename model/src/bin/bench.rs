@@ -1,15 +1,19 @@
-//! Measures the proved library, with the model beside it.
+//! Measures the proved library, with the model beside it, and with the same
+//! decision in C by hand.
 
+use std::collections::BTreeMap;
 use std::ffi::c_void;
 use std::fs;
 use std::hint::black_box;
+use std::process::exit;
 use std::time::Instant;
 
-use model::case::Case as Put;
+use model::case::{shrink, Case as Put};
+use model::defaults::Defaults;
 use model::directory::YARD;
 use model::examples::{access, credential, role, uuid, AUTH};
-use model::generate::{clock, record, session};
-use model::library::{self, Tables as Given};
+use model::generate::{clock, record, session, walk};
+use model::library::{self, Outcome, Tables as Given};
 use model::office::{self, LONGEST_TEXT};
 use model::options::{Options, Program};
 use model::random::Random;
@@ -20,26 +24,33 @@ use model::tables::{Access, Credential, Row, State, Stored, Subject, Tables, STA
 const PROGRAM: Program = Program {
     name: "bench",
     help: "\
-bench [--repetitions N]
+bench [--repetitions N] [--yardstick]
 bench --only CASE --rows ROWS --side SIDE [--calls N]
 
 Measures the time of a decision through the library, and through the model on
 the same tables and records. Each time is the least of several repetitions, in
 which the two take turns. Then come the growth with the rows, the office text of
-the access rows, the stack of one call and the size of the library.
+the access rows, the yardstick, the stack of one call and the size of the
+library.
+
+The yardstick is the decision on an application resource in C by hand,
+bench/yardstick.c. It is compared with the library over random records and
+tables before the two are timed; bench ends with 1 where they differ.
 
 The second form makes one call again and again and measures nothing, for a
 program that counts instructions.
 
-  --repetitions N  so many (default 400)
+  --repetitions N  so many (default 400), and of the yardstick five times as
+                   many
+  --yardstick      the yardstick and the stack alone, as tables in Markdown
   --only CASE      the name of a case, as the first form prints it
-  --rows ROWS      empty, half or full
-  --side SIDE      library or model
+  --rows ROWS      empty, few, half or full
+  --side SIDE      library, model or yardstick
   --calls N        so many calls (default 1000)
   --help           this text
 ",
     valued: &["--repetitions", "--only", "--rows", "--side", "--calls"],
-    flags: &[],
+    flags: &["--yardstick"],
     free: 0,
 };
 
@@ -62,6 +73,8 @@ struct Rows {
 
 impl Rows {
     const KINDS: [Rows; 3] = [Rows::eighths("empty", 0), Rows::eighths("half", 4), Rows::eighths("full", 8)];
+    /// As few as a partner's record can be permitted with.
+    const FEW: Rows = Rows { name: "few", credentials: 1, accesses: 1 };
 
     /// So many eighths of either capacity.
     const fn eighths(name: &'static str, part: usize) -> Rows {
@@ -146,6 +159,16 @@ impl Case {
     fn ask_model(&self) {
         black_box(judge(black_box(&self.put)));
     }
+
+    fn ask_yardstick(&self, reply: &mut Reply) {
+        black_box(yardstick::decide(
+            black_box(&self.given),
+            &self.put.defaults,
+            black_box(self.put.clock),
+            black_box(&self.put.record),
+            black_box(reply),
+        ));
+    }
 }
 
 /// The cases that these rows allow.
@@ -217,7 +240,13 @@ fn cases(rows: Rows) -> Vec<Case> {
 #[derive(Clone, Copy)]
 struct Times {
     library: f64,
-    model: f64,
+    other: f64,
+}
+
+impl Times {
+    fn ratio(self) -> f64 {
+        self.library / self.other
+    }
 }
 
 const LIBRARY_CALLS: u32 = 50;
@@ -234,15 +263,42 @@ fn nanoseconds(calls: u32, mut call: impl FnMut()) -> f64 {
 /// The least of the repetitions, since other programs on the machine only ever add time. Each repetition goes
 /// through all cases, so that a slow while does not fall on one case alone.
 fn measure<C>(cases: &[C], repetitions: u64, library: impl Fn(&C, &mut Reply), model: impl Fn(&C)) -> Vec<Times> {
+    measure_beside(cases, repetitions, library, MODEL_CALLS, |case, _| model(case))
+}
+
+/// The same beside something else, of which a repetition makes so many calls.
+fn measure_beside<C>(
+    cases: &[C],
+    repetitions: u64,
+    library: impl Fn(&C, &mut Reply),
+    calls: u32,
+    other: impl Fn(&C, &mut Reply),
+) -> Vec<Times> {
     let mut reply = EMPTY;
-    let mut least = vec![Times { library: f64::INFINITY, model: f64::INFINITY }; cases.len()];
-    for _ in 0..repetitions {
-        for (case, least) in cases.iter().zip(&mut least) {
-            least.library = least.library.min(nanoseconds(LIBRARY_CALLS, || library(case, &mut reply)));
-            least.model = least.model.min(nanoseconds(MODEL_CALLS, || model(case)));
-        }
+    let mut least = vec![Times { library: f64::INFINITY, other: f64::INFINITY }; cases.len()];
+    for repetition in 0..repetitions {
+        at_level(repetition % LEVELS, &mut || {
+            for (case, least) in cases.iter().zip(&mut least) {
+                least.library = least.library.min(nanoseconds(LIBRARY_CALLS, || library(case, &mut reply)));
+                least.other = least.other.min(nanoseconds(calls, || other(case, &mut reply)));
+            }
+        });
     }
     least
+}
+
+const LEVELS: u64 = 16;
+
+/// Calls so many frames further down: the system lets each run's stack begin elsewhere, and some places are slower.
+#[inline(never)]
+fn at_level(level: u64, call: &mut dyn FnMut()) {
+    let frame = [0u8; 200];
+    black_box(&frame);
+    match level {
+        0 => call(),
+        _ => at_level(level - 1, call),
+    }
+    black_box(&frame);
 }
 
 fn main() {
@@ -256,10 +312,13 @@ fn main() {
         }
     }
     let repetitions = PROGRAM.number(&options, "--repetitions", 400).max(1);
-    decisions(repetitions);
-    mixed(repetitions);
-    growth(repetitions);
-    texts(repetitions);
+    if !options.flag("--yardstick") {
+        decisions(repetitions);
+        mixed(repetitions);
+        growth(repetitions);
+        texts(repetitions);
+    }
+    yardstick(5 * repetitions);
     stack();
     size();
 }
@@ -273,19 +332,23 @@ fn repeat(options: &Options, name: &str) {
             .position(|&one| one == text)
             .unwrap_or_else(|| PROGRAM.stop(format!("{option} is one of {}, not '{text}'", known.join(", "))))
     };
-    let rows = Rows::KINDS[find("--rows", &Rows::KINDS.map(|rows| rows.name))];
-    let side = find("--side", &["library", "model"]);
+    let kinds = [Rows::KINDS[0], Rows::FEW, Rows::KINDS[1], Rows::KINDS[2]];
+    let rows = kinds[find("--rows", &kinds.map(|rows| rows.name))];
+    let side = find("--side", &["library", "model", "yardstick"]);
     let calls = PROGRAM.number(options, "--calls", 1000);
     let cases = cases(rows);
     let Some(case) = cases.iter().find(|case| case.name == name) else {
         PROGRAM.stop(format!("no case '{name}' with {} tables", rows.name));
     };
+    if side == 2 && !BY_HAND.contains(&name) {
+        PROGRAM.stop(format!("the yardstick has no case '{name}'; it has {}", BY_HAND.join(", ")));
+    }
     let mut reply = EMPTY;
     for _ in 0..calls {
-        if side == 0 {
-            case.ask_library(&mut reply);
-        } else {
-            case.ask_model();
+        match side {
+            0 => case.ask_library(&mut reply),
+            1 => case.ask_model(),
+            _ => case.ask_yardstick(&mut reply),
         }
     }
 }
@@ -307,8 +370,8 @@ fn decisions(repetitions: u64) {
             rows.name,
             case.name,
             time.library,
-            time.model,
-            time.library / time.model,
+            time.other,
+            time.ratio(),
             100.0 * (soundness / time.library).min(1.0),
             case.what
         );
@@ -348,8 +411,8 @@ fn mixed(repetitions: u64) {
     println!(
         "\n{count} different records of random sessions: library {:.0} ns, model {:.0} ns, ratio {:.2}",
         time.library / count,
-        time.model / count,
-        time.library / time.model
+        time.other / count,
+        time.ratio()
     );
 }
 
@@ -388,20 +451,160 @@ fn texts(repetitions: u64) {
     for ((rows, stored), time) in cases.iter().zip(&times) {
         let mut text = [0; LONGEST_TEXT];
         let length = library::write_list(&Given::from_bytes(stored), &mut text).length;
-        println!(
-            "{:6}  {:6}  {:6.0} ns  {:7.0} ns  {:5.2}",
-            rows.name,
-            length,
-            time.library,
-            time.model,
-            time.library / time.model
-        );
+        println!("{:6}  {:6}  {:6.0} ns  {:7.0} ns  {:5.2}", rows.name, length, time.library, time.other, time.ratio());
     }
 }
 
 fn ask_text(given: &Given) {
     let mut text = [0; LONGEST_TEXT];
     black_box(library::write_list(black_box(given), black_box(&mut text)));
+}
+
+// ---- The yardstick: the same decision in C by hand.
+
+mod yardstick {
+    use super::{Defaults, Given, Outcome};
+
+    extern "C" {
+        fn yardstick_judge(
+            t: Given,
+            creds: *const u8,
+            creds_length: usize,
+            aces: *const u8,
+            aces_length: usize,
+            clock: u32,
+            record: *const u8,
+            length: usize,
+            reply: *mut u8,
+            room: usize,
+        ) -> Outcome;
+    }
+
+    /// Its answer to a record of a security resource that passes 1 to 7.
+    pub const SECURITY: u8 = 255;
+
+    /// One call, as `model::library::decide` makes it.
+    #[inline]
+    pub fn decide(tables: &Given, defaults: &Defaults, clock: u32, record: &[u8], reply: &mut [u8]) -> Outcome {
+        let Defaults { credentials, accesses } = defaults;
+        // The pointers and lengths are those of living slices.
+        unsafe {
+            yardstick_judge(
+                *tables,
+                credentials.as_ptr(),
+                credentials.len(),
+                accesses.as_ptr(),
+                accesses.len(),
+                clock,
+                record.as_ptr(),
+                record.len(),
+                reply.as_mut_ptr(),
+                reply.len(),
+            )
+        }
+    }
+}
+
+const COMPARED: u64 = 300_000;
+/// The cases in which both are timed.
+const BY_HAND: [&str; 5] = ["serve", "poll", "refuse1", "refuse2", "refuse8"];
+
+/// What the two make of a case: the library first.
+fn both(put: &Put) -> [Outcome; 2] {
+    let given = Given::from_bytes(&put.tables);
+    let (mut one, mut other) = (EMPTY, EMPTY);
+    [
+        library::decide(&given, &put.defaults, put.clock, &put.record, &mut one),
+        yardstick::decide(&given, &put.defaults, put.clock, &put.record, &mut other),
+    ]
+}
+
+/// Whether they are equal. Of a record of a security resource only that it passes 1 to 7.
+fn equal([library, by_hand]: &[Outcome; 2]) -> bool {
+    if by_hand.answer == yardstick::SECURITY {
+        return !(1..=7).contains(&library.answer);
+    }
+    let told = |o: &Outcome| (o.answer, o.permission, o.start, o.length, o.reply, o.first, o.many, o.set, o.size);
+    told(library) == told(by_hand) && library.tables.bytes() == by_hand.tables.bytes()
+}
+
+/// The answer of both. Ends the program where they differ.
+fn agreed(put: &Put) -> u8 {
+    let outcomes = both(put);
+    if equal(&outcomes) {
+        return outcomes[1].answer;
+    }
+    let small = shrink(put.clone(), |put| !equal(&both(put)));
+    eprintln!("bench: bench/yardstick.c differs from the library, on this case made as small as it goes:");
+    eprintln!("{}", small.line());
+    for (side, o) in ["library", "by hand"].iter().zip(both(&small)) {
+        let tables = if o.tables.bytes() == small.tables { "unchanged" } else { "changed" };
+        eprintln!(
+            "  {side}: answer {}, permission {}, payload from {} length {}, set {:016x} size {}, tables {tables}",
+            o.answer, o.permission, o.start, o.length, o.set, o.size
+        );
+    }
+    exit(1);
+}
+
+/// Compares the two over the model's cases, and over the same with an application resource in the header.
+fn agree() {
+    let mut random = Random::new(3);
+    let mut counts: BTreeMap<u8, u64> = BTreeMap::new();
+    walk(1, COMPARED, |_, put| {
+        agreed(put);
+        let mut aimed = put.clone();
+        if let [first, second, ..] = &mut aimed.record[..] {
+            let resource = if random.chance(25) { YARD } else { random.between(8, 14) as u8 };
+            *first = *first & 0xF0 | resource >> 2;
+            *second = *second & 0x3F | resource << 6;
+        }
+        *counts.entry(agreed(&aimed)).or_default() += 1;
+        library::judge(put).tables
+    });
+    let counts: Vec<String> = counts.iter().map(|(answer, count)| format!("{count} answered {answer}")).collect();
+    println!(
+        "the same answers, permissions, payloads, links and tables in {COMPARED} cases of the model, and in these"
+    );
+    println!("with an application resource in the header: {}", counts.join(", "));
+}
+
+/// Times both.
+fn yardstick(repetitions: u64) {
+    println!("\nthe library beside C by hand, bench/yardstick.c\n");
+    agree();
+    let kinds = [Rows::FEW, Rows::KINDS[1], Rows::KINDS[2]];
+    let cases: Vec<(&str, Case)> = kinds
+        .iter()
+        .flat_map(|&rows| cases(rows).into_iter().map(move |case| (rows.name, case)))
+        .filter(|(_, case)| BY_HAND.contains(&case.name))
+        .collect();
+    let times = measure_beside(
+        &cases,
+        repetitions,
+        |(_, case), reply| case.ask_library(reply),
+        LIBRARY_CALLS,
+        |(_, case), reply| case.ask_yardstick(reply),
+    );
+    println!("\n| tables | case | by hand | library | ratio |\n|---|---|---|---|---|");
+    for ((rows, case), time) in cases.iter().zip(&times) {
+        println!(
+            "| {rows} | {}: {} | {:.0} ns | {:.0} ns | {:.2} |",
+            case.name,
+            case.what,
+            time.other,
+            time.library,
+            time.ratio()
+        );
+    }
+    println!("\n| tables | poll / serve by hand | poll / serve, library |\n|---|---|---|");
+    for Rows { name: rows, .. } in kinds {
+        let find = |name| cases.iter().position(|(other, case)| *other == rows && case.name == name);
+        if let (Some(poll), Some(serve)) = (find("poll"), find("serve")) {
+            let (poll, serve) = (times[poll], times[serve]);
+            println!("| {rows} | {:.2} | {:.2} |", poll.other / serve.other, poll.library / serve.library);
+        }
+    }
 }
 
 // ---- The stack: a thread whose stack was painted beforehand.
@@ -468,18 +671,21 @@ fn depth(ask: &dyn Fn(&mut Buffer)) -> usize {
     }
 }
 
-fn stack() {
-    let decide = |case: &Case, buffer: &mut Buffer| {
-        let reply: &mut Reply = buffer.first_chunk_mut().expect("a text is longer than a reply");
-        case.ask_library(reply);
+/// The most that a case takes, and its name.
+fn deepest(cases: &[Case], ask: fn(&Case, &mut Reply)) -> (usize, &'static str) {
+    let ask = |case: &Case, buffer: &mut Buffer| {
+        ask(case, buffer.first_chunk_mut().expect("a text is longer than a reply"));
     };
-    let deepest = Rows::KINDS
-        .iter()
-        .flat_map(|&rows| cases(rows))
-        .map(|case| (depth(&|buffer| decide(&case, buffer)), case.name))
-        .max()
-        .unwrap_or_default();
-    println!("\nstack of a decision, tables and outcome included: at most {} bytes (`{}`)", deepest.0, deepest.1);
+    cases.iter().map(|case| (depth(&|buffer| ask(case, buffer)), case.name)).max().unwrap_or_default()
+}
+
+fn stack() {
+    let mut cases: Vec<Case> = Rows::KINDS.iter().flat_map(|&rows| cases(rows)).collect();
+    let (bytes, name) = deepest(&cases, Case::ask_library);
+    println!("\nstack of a decision, tables and outcome included: at most {bytes} bytes (`{name}`)");
+    cases.retain(|case| BY_HAND.contains(&case.name));
+    let (bytes, name) = deepest(&cases, Case::ask_yardstick);
+    println!("the same by hand: at most {bytes} bytes (`{name}`)");
     let given = Given::from_bytes(&Rows::KINDS[2].serving().bytes());
     let text = depth(&|buffer| {
         black_box(library::write_list(black_box(&given), black_box(&mut buffer[..])));
