@@ -1,7 +1,9 @@
 //! A file of vectors for another program to read.
 //!
 //! Entries follow one another, each behind a tag byte:
-//! 0: tables (1,788 bytes), from now on the current ones;
+//! 0: tables, from now on the current ones: their fields up to the row owners (84
+//!    bytes), the credential rows and the access rows. The rows of either kind are
+//!    without the zeros behind them, and behind their length (16 bits);
 //! 1: the clock (32 bits), directly behind it the record's length (16 bits) and
 //!    the record, the length of the lent buffer (16 bits), then answer,
 //!    permission (a byte each), payload start and payload length (16 bits each;
@@ -9,7 +11,7 @@
 //!    to store and how many (a byte each), the set that the yard answers (64
 //!    bits) and its size (a byte), the reply; the tables afterwards are the
 //!    current ones;
-//! 2: tables (1,788 bytes) that the current ones must equal;
+//! 2: tables in the same form that the current ones must equal;
 //! 3: default lists, of credentials and of accesses, each behind its length (a
 //!    byte), from now on the current ones. Both are empty at first.
 //! Numbers of 16, 32 and 64 bits have their high byte first.
@@ -32,7 +34,7 @@ pub const CHECK: u8 = 2;
 pub const DEFAULTS: u8 = 3;
 
 /// Fewest bytes that leave room for random sessions.
-pub const LEAST: usize = 280_000;
+pub const LEAST: usize = 160_000;
 const RECORDS_BETWEEN_CHECKS: usize = 100;
 
 pub struct Vectors {
@@ -82,7 +84,7 @@ impl Vectors {
     fn set_tables(&mut self, tables: &Stored) {
         if self.current.as_ref() != Some(tables) {
             self.bytes.push(TABLES);
-            self.bytes.extend(tables);
+            self.bytes.extend(short_form(tables));
             self.tables += 1;
             self.current = Some(*tables);
         }
@@ -136,7 +138,7 @@ impl Vectors {
     fn check(&mut self) {
         if self.unchecked > 0 {
             self.bytes.push(CHECK);
-            self.bytes.extend(self.current.expect("tables come first"));
+            self.bytes.extend(short_form(&self.current.expect("tables come first")));
             self.checks += 1;
             self.unchecked = 0;
         }
@@ -348,6 +350,17 @@ impl Vectors {
     }
 }
 
+/// Tables without the zeros behind the rows of either kind.
+fn short_form(tables: &Stored) -> Vec<u8> {
+    let mut bytes = tables[..CREDENTIALS.start].to_vec();
+    for rows in [&tables[CREDENTIALS], &tables[ACCESSES]] {
+        let used = rows.iter().rposition(|&byte| byte != 0).map_or(0, |last| last + 1);
+        bytes.extend((used as u16).to_be_bytes());
+        bytes.extend(&rows[..used]);
+    }
+    bytes
+}
+
 fn rows(random: &mut Random) -> (Vec<Credential>, Vec<Access>) {
     let mut credentials = Vec::new();
     let mut accesses = Vec::new();
@@ -379,10 +392,18 @@ mod tests {
         let number = |pair: &[u8]| pair[0] as usize * 256 + pair[1] as usize;
         while let Some(tag) = take(1) {
             match tag[0] {
-                TABLES => current = Some(take(SIZE).unwrap().try_into().unwrap()),
-                CHECK => {
-                    assert_eq!(take(SIZE).unwrap(), current.unwrap());
-                    checks += 1;
+                tag @ (TABLES | CHECK) => {
+                    let mut tables = [0; SIZE];
+                    tables[..CREDENTIALS.start].copy_from_slice(take(CREDENTIALS.start).unwrap());
+                    for start in [CREDENTIALS.start, ACCESSES.start] {
+                        let length = number(take(2).unwrap());
+                        tables[start..start + length].copy_from_slice(take(length).unwrap());
+                    }
+                    if tag == CHECK {
+                        assert_eq!(Some(tables), current);
+                        checks += 1;
+                    }
+                    current = Some(tables);
                 }
                 RECORD => {
                     let clock = u32::from_be_bytes(take(4).unwrap().try_into().unwrap());

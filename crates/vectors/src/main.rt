@@ -109,12 +109,19 @@ fn byte_or(s: &[u8], i: usize, other: u8) -> u8 {
 fn entry_size(s: &[u8]) -> usize {
     let tag = byte_at(s, 0);
     match tag {
-        0 => 1789,
+        0 => tables_size(s),
         1 => record_size(s),
-        2 => 1789,
+        2 => tables_size(s),
         3 => 3 + byte_at(s, 1) as usize + second_length(s) as usize,
         _ => 0,
     }
+}
+
+// Tag, fields before the rows, length and bytes of the credential rows, length and bytes of the access rows.
+fn tables_size(s: &[u8]) -> usize {
+    let creds = word(after(s, 85)) as usize;
+    let aces = word(after(after(s, 87), creds)) as usize;
+    89 + creds + aces
 }
 
 // Tag, clock, length and bytes of the record, room, answer, permission, payload start and length, length of the reply, first place and how many, the links and their number, the reply.
@@ -180,7 +187,7 @@ fn taken(p: Progress, bytes: &[u8]) -> Progress {
 // Compares the tables with these bytes.
 fn reached(p: Progress, bytes: &[u8]) -> Progress {
     let t = p.tables;
-    if same_tables(t, bytes) {
+    if same_tables(t, tables_of(bytes)) {
         p
     } else {
         differing(p)
@@ -282,15 +289,18 @@ fn same_outcome(
         & rows::same_bytes(payload, part(record, start, length))
 }
 
+// The rows of both kinds stand there without the zeros behind them.
 fn tables_of(bytes: &[u8]) -> Tables {
+    let n = word(after(bytes, 84)) as usize;
+    let behind = after(after(bytes, 86), n);
     let mut devowner = [0u8; 16];
     let mut rowners = [0u8; 64];
     let mut creds = [0u8; 552];
     let mut aces = [0u8; 1152];
     fill(&mut devowner, after(bytes, 4));
     fill(&mut rowners, after(bytes, 20));
-    fill(&mut creds, after(bytes, 84));
-    fill(&mut aces, after(bytes, 636));
+    fill(&mut creds, part(bytes, 86, n));
+    fill(&mut aces, part(behind, 2, word(behind) as usize));
     Tables {
         state: byte_at(bytes, 0),
         owned: byte_at(bytes, 1),
@@ -312,13 +322,13 @@ fn fill(out: &mut [u8], bytes: &[u8]) {
     }
 }
 
-fn same_tables(t: Tables, bytes: &[u8]) -> bool {
-    (t.state == byte_at(bytes, 0))
-        & (t.owned == byte_at(bytes, 1))
-        & (t.ncreds == byte_at(bytes, 2))
-        & (t.naces == byte_at(bytes, 3))
-        & rows::same_bytes(&t.devowner, part(bytes, 4, 16))
-        & rows::same_bytes(&t.rowners, part(bytes, 20, 64))
-        & rows::same_bytes(&t.creds, part(bytes, 84, 552))
-        & rows::same_bytes(&t.aces, part(bytes, 636, 1152))
+fn same_tables(t: Tables, u: Tables) -> bool {
+    (t.state == u.state)
+        & (t.owned == u.owned)
+        & (t.ncreds == u.ncreds)
+        & (t.naces == u.naces)
+        & rows::same_bytes(&t.devowner, &u.devowner)
+        & rows::same_bytes(&t.rowners, &u.rowners)
+        & rows::same_bytes(&t.creds, &u.creds)
+        & rows::same_bytes(&t.aces, &u.aces)
 }
