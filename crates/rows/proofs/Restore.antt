@@ -5,10 +5,11 @@ use mathlib.Core.Bool.{Bool, true, false, cond, not, _&&_, _||_, true≢false, f
 use mathlib.Core.List.{List, [], _∷_, _++_, append-assoc, append-nil}
 use lib.ListN.{take}
 use Rattle.rows.specs.Rows.{Row, same, numberedAs, some, distinctNumbers, stored, storedAll}
+use Rattle.rows.proofs.Laws.{some-append}
 use Rattle.rows.proofs.Kept.{same-sym}
 
 -- a row whose number is not held goes to the end
-store-absent : (new : Row) (rows : List Row) → some (numberedAs new) rows ≡ false → stored new rows ≡ rows ++ (new ∷ [])
+pub store-absent : (new : Row) (rows : List Row) → some (numberedAs new) rows ≡ false → stored new rows ≡ rows ++ (new ∷ [])
 unfolding stored some
 store-absent new [] h = refl
 store-absent new (row ∷ rows) h = go (numberedAs new row) h (store-absent new rows)
@@ -17,15 +18,6 @@ store-absent new (row ∷ rows) h = go (numberedAs new row) h (store-absent new 
         → cond t (new ∷ rows) (row ∷ stored new rows) ≡ row ∷ (rows ++ (new ∷ []))
     go true h ih = absurd (true≢false h)
     go false h ih = ap (λ (l : List Row). row ∷ l) (ih h)
-
-some-append : (p : Row → Bool) (rows : List Row) (new : Row) → some p rows ≡ false → p new ≡ false → some p (rows ++ (new ∷ [])) ≡ false
-unfolding some
-some-append p [] new h e = rw e
-some-append p (row ∷ rows) new h e = go (p row) h (λ h. some-append p rows new h e)
-  where
-    go : (t : Bool) → (t || some p rows) ≡ false → (some p rows ≡ false → some p (rows ++ (new ∷ [])) ≡ false) → (t || some p (rows ++ (new ∷ []))) ≡ false
-    go true h ih = absurd (true≢false h)
-    go false h ih = ih h
 
 -- no number of the new rows is held
 abbrev Unheld : List Row → List Row → Type 0
@@ -40,9 +32,9 @@ unheld-append rows new (n ∷ news) f h = go (numberedAs new n) refl h (unheld-a
     go : (t : Bool) → numberedAs new n ≡ t → (t || some (numberedAs new) news) ≡ false
         → (some (numberedAs new) news ≡ false → Unheld (rows ++ (new ∷ [])) news) → Unheld (rows ++ (new ∷ [])) (n ∷ news)
     go true e h ih = absurd (true≢false h)
-    go false e h ih = (some-append (numberedAs n) rows new (f .0) (same-sym (take 2 new) (take 2 n) ∙ e), ih h)
+    go false e h ih = (some-append (numberedAs n) rows (new ∷ []) ∙ rw (f .0, same-sym (take 2 new) (take 2 n) ∙ e), ih h)
 
-both : (a b : Bool) → (not a && b) ≡ true → (a ≡ false) × (b ≡ true)
+pub both : (a b : Bool) → (not a && b) ≡ true → (a ≡ false) × (b ≡ true)
 both true b h = absurd (false≢true h)
 both false b h = (refl, h)
 
