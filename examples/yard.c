@@ -1,6 +1,7 @@
 /* A weighbridge yard: the owner sets a terminal up and reads it back, the office gets the access list as text and polls
- * the whole yard; a haulier, two foremen, a harvest contractor, a stranger and a broken sender call. Before that the
- * program sees that its structs are laid out as the library's.
+ * the whole yard; a haulier, two foremen, a harvest contractor, a stranger and a broken sender call. Then the owner tests
+ * a list that another firm's program wrote, and loads it. Before all that the program sees that its structs are laid out
+ * as the library's.
  *
  *     rt staticlib terminal
  *     cc -std=c11 -Wall -Wextra -Werror -Iinclude examples/yard.c target/staticlib/libterminal.a -o target/yard
@@ -65,6 +66,9 @@ static const char *const ANSWERS[] = {
     "no endpoint for the connection",
     "no list of tables that are not sound",
     "buffer too short for the list",
+    "no whole rows, or too many",
+    "row not storable, or its number again",
+    "row gives a role or a connection too much",
 };
 
 static const char *const STATES[] = {"RESET", "RFOTM", "RFPRO", "RFNOP", "SRESET"};
@@ -171,9 +175,15 @@ static struct record delete_subject(unsigned sender, const uint8_t uuid[TILLERCL
     return r;
 }
 
+/* Every access row. */
+static struct record delete_aces(unsigned sender)
+{
+    return header(TILLERCLOVER_DELETE, TILLERCLOVER_ACL2, sender);
+}
+
 static struct record delete_ace(unsigned sender, unsigned number)
 {
-    struct record r = header(TILLERCLOVER_DELETE, TILLERCLOVER_ACL2, sender);
+    struct record r = delete_aces(sender);
     add_number(&r, number);
     return r;
 }
@@ -201,17 +211,22 @@ static struct record store_subject_ace(unsigned sender, unsigned number, unsigne
     return store_set_ace(sender, number, kind, permission, TILLERCLOVER_SET_BIT(resource), subject);
 }
 
-/* An access row that gives a UUID one resource from the first second to the last. */
-static struct record store_season_ace(unsigned sender, unsigned number, unsigned permission,
-                                      enum tillerclover_resource resource,
-                                      const uint8_t uuid[TILLERCLOVER_UUID_LENGTH], uint32_t first, uint32_t last)
+/* The same row from the first second to the last. */
+static struct record within(struct record r, uint32_t first, uint32_t last)
 {
-    struct record r = store_subject_ace(sender, number, 0, permission, resource, uuid);
     add_number(&r, first >> 16);
     add_number(&r, first);
     add_number(&r, last >> 16);
     add_number(&r, last);
     return r;
+}
+
+/* An access row that gives a UUID one resource from the first second to the last. */
+static struct record store_season_ace(unsigned sender, unsigned number, unsigned permission,
+                                      enum tillerclover_resource resource,
+                                      const uint8_t uuid[TILLERCLOVER_UUID_LENGTH], uint32_t first, uint32_t last)
+{
+    return within(store_subject_ace(sender, number, 0, permission, resource, uuid), first, last);
 }
 
 static struct record store_ace(unsigned sender, unsigned number, unsigned permission,
@@ -229,6 +244,28 @@ static struct record store_role_ace(unsigned sender, unsigned number, unsigned p
     subject[14] = (uint8_t)(role >> 8);
     subject[15] = (uint8_t)role;
     return store_subject_ace(sender, number, 1, permission, resource, subject);
+}
+
+/* ---- Lists of access rows */
+
+struct list {
+    uint8_t rows[(TILLERCLOVER_ACE_CAPACITY + 1) * TILLERCLOVER_ACE_LENGTH];
+    size_t length;
+};
+
+/* The row that the record stores, by a body with a period. */
+static void add_row(struct list *l, struct record r)
+{
+    memcpy(l->rows + l->length, r.bytes + TILLERCLOVER_HEADER_LENGTH, TILLERCLOVER_ACE_LENGTH);
+    l->length += TILLERCLOVER_ACE_LENGTH;
+}
+
+/* The record that stores the row at a place, counted from 0. */
+static struct record store_row(unsigned sender, const struct list *l, size_t place)
+{
+    struct record r = header(TILLERCLOVER_UPDATE, TILLERCLOVER_ACL2, sender);
+    add(&r, l->rows + place * TILLERCLOVER_ACE_LENGTH, TILLERCLOVER_ACE_LENGTH);
+    return r;
 }
 
 /* ---- What is asked of the library */
@@ -438,6 +475,38 @@ static void lists(void)
     expect(memcmp(buffer, before, sizeof buffer) == 0, "the list has another text");
 }
 
+static void expect_tested(const struct list *l, enum tillerclover_answer answer, size_t row)
+{
+    tillerclover_tested said = tillerclover_test_list(l->rows, l->length);
+    expect(said.answer == answer && said.row == row, "answer or row stands elsewhere in what is said of a list");
+}
+
+/* Lists of 0, 32 and 33 rows, one that lost a byte, and a last row with each fault. */
+static void tested_lists(void)
+{
+    struct list l = {.length = 0};
+    uint8_t anyone[16] = {0};
+    size_t last = (TILLERCLOVER_ACE_CAPACITY - 1) * TILLERCLOVER_ACE_LENGTH;
+    tillerclover_tested none = tillerclover_test_list(NULL, 0);
+    expect(none.answer == TILLERCLOVER_PERMITTED && none.row == 0, "a list of no rows was refused");
+    for (unsigned i = 0; i <= TILLERCLOVER_ACE_CAPACITY; i++) {
+        add_row(&l, store_ace(0, 200 + i, TILLERCLOVER_MAY_ALL, TILLERCLOVER_ACL2, OWNER_UUID));
+    }
+    expect_tested(&l, TILLERCLOVER_TEST_BAD_SIZE, 0);
+    l.length -= TILLERCLOVER_ACE_LENGTH;
+    expect_tested(&l, TILLERCLOVER_PERMITTED, 0);
+    l.length -= 1;
+    expect_tested(&l, TILLERCLOVER_TEST_BAD_SIZE, 0);
+    l.length = last;
+    add_row(&l, store_ace(0, 205, TILLERCLOVER_MAY_RETRIEVE, TILLERCLOVER_WEIGHT, OWNER_UUID));
+    expect_tested(&l, TILLERCLOVER_TEST_NOT_STORABLE, TILLERCLOVER_ACE_CAPACITY);
+    l.length = last;
+    add_row(&l, within(store_subject_ace(0, 1, 2, TILLERCLOVER_MAY_UPDATE, TILLERCLOVER_ACL2, anyone), 9, 9));
+    expect_tested(&l, TILLERCLOVER_TEST_EXCESSIVE, TILLERCLOVER_ACE_CAPACITY);
+    l.rows[0] = l.rows[1] = 0;
+    expect_tested(&l, TILLERCLOVER_TEST_NOT_STORABLE, 1);
+}
+
 /* The clock is read as it is handed in: a row fits from its first second to its last. */
 static void clocks(void)
 {
@@ -549,6 +618,54 @@ static void print_list(tillerclover_tables t)
            l.answer == TILLERCLOVER_PERMITTED ? "listed" : ANSWERS[l.answer], (int)l.length, (const char *)text);
 }
 
+static void print_tested(const char *what, const struct list *l)
+{
+    tillerclover_tested said = tillerclover_test_list(l->rows, l->length);
+    printf("%-44s %2u %s", what, said.answer, said.answer == TILLERCLOVER_PERMITTED ? "accepted" : ANSWERS[said.answer]);
+    if (said.row != 0) {
+        printf(", row %zu", said.row);
+    }
+    printf("\n");
+}
+
+/* A row for the haulier's foremen in the harvest. */
+static struct record foremen_row(unsigned number, enum tillerclover_resource resource)
+{
+    return within(store_role_ace(0, number, TILLERCLOVER_MAY_UPDATE, resource, FOREMAN_ROLE, HAULIER_AUTHORITY), HARVEST_FIRST,
+                  HARVEST_LAST);
+}
+
+/* A list of three rows, with this one in the middle. */
+static struct list list_with(struct record middle)
+{
+    struct list l = {.length = 0};
+    add_row(&l, store_ace(0, 1, TILLERCLOVER_MAY_RETRIEVE, TILLERCLOVER_WEIGHT, OFFICE_UUID));
+    add_row(&l, middle);
+    add_row(&l, store_ace(0, 3, TILLERCLOVER_MAY_UPDATE, TILLERCLOVER_TARE, CONTRACTOR_UUID));
+    return l;
+}
+
+/* Another firm's program writes the access list anew. The owner loads it once it is accepted. */
+static void provision(tillerclover_tables *t)
+{
+    static const char *const ROWS[] = {"loads the list's first row", "its second", "and its third"};
+    struct list l = list_with(foremen_row(1, TILLERCLOVER_LAMP));
+    print_tested("a new list, with number 1 twice", &l);
+    l = list_with(foremen_row(2, TILLERCLOVER_ACL2));
+    print_tested("with the foremen's row on acl2", &l);
+    l = list_with(foremen_row(2, TILLERCLOVER_LAMP));
+    l.length -= 1;
+    print_tested("with a byte lost", &l);
+    l.length += 1;
+    print_tested("and mended", &l);
+    call(t, "the owner moves the terminal to RFPRO", set_state(OWNER, TILLERCLOVER_RFPRO));
+    call(t, "removes all access rows", delete_aces(OWNER));
+    for (size_t i = 0; i < l.length / TILLERCLOVER_ACE_LENGTH; i++) {
+        call(t, ROWS[i], store_row(OWNER, &l, i));
+    }
+    expect(t->naces == 3 && memcmp(t->aces, l.rows, l.length) == 0, "the access rows are not the list's");
+}
+
 /* A build whose clear brings back the service tool's credential, and an access row for it. */
 static void maker(tillerclover_tables t)
 {
@@ -570,6 +687,7 @@ int main(void)
     sets();
     buffers();
     lists();
+    tested_lists();
     clocks();
     no_bytes();
     printf("layout: %zu bytes of tables in an outcome of %zu, as in the library\n", sizeof(tillerclover_tables),
@@ -660,6 +778,7 @@ int main(void)
     call(&t, "the haulier writes the tare", tare);
     tare.bytes[3] = HAULIER_SPARE;
     call(&t, "also with the spare credential", tare);
+    provision(&t);
     maker(t);
     return 0;
 }

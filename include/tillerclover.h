@@ -3,7 +3,7 @@
  * Link libterminal.a, which `rt staticlib terminal` writes to target/staticlib/. It is code for
  * x86-64 with the System V calling convention and needs nothing but memcpy, memmove and memset.
  *
- * What the four functions return, and what a reply or a text holds, depends on their arguments alone. They
+ * What the five functions return, and what a reply or a text holds, depends on their arguments alone. They
  * keep no state between calls, allocate nothing, do no input or output, never fail and always
  * return. So any number of threads may call them at once, each with a buffer of its own. A thread
  * needs 24 KiB of free stack for a call; docs/BENCHMARKS.md has the measured depth.
@@ -107,7 +107,8 @@ enum tillerclover_permission {
 };
 
 /* Answers. 1 to 16 are refusals of a record. The checks are made in this order, and the first that
- * applies is given: 1 to 7, then 16, then 8 to 15. 17 and 18 are tillerclover_access_list's. */
+ * applies is given: 1 to 7, then 16, then 8 to 15. 17 and 18 are tillerclover_access_list's, 19 to 21
+ * tillerclover_test_list's. */
 enum tillerclover_answer {
     TILLERCLOVER_PERMITTED = 0,
     /* the tables are not sound */
@@ -145,7 +146,13 @@ enum tillerclover_answer {
     /* no text: the tables are not sound */
     TILLERCLOVER_LIST_NOT_SOUND = 17,
     /* no text: it is longer than the buffer lent for it */
-    TILLERCLOVER_LIST_NO_ROOM = 18
+    TILLERCLOVER_LIST_NO_ROOM = 18,
+    /* a list of another length than whole rows have, or of more than TILLERCLOVER_ACE_CAPACITY rows */
+    TILLERCLOVER_TEST_BAD_SIZE = 19,
+    /* a row that no record could store, or with the number of an earlier row */
+    TILLERCLOVER_TEST_NOT_STORABLE = 20,
+    /* a row that gives a role or a connection create, update or delete on a security resource */
+    TILLERCLOVER_TEST_EXCESSIVE = 21
 };
 
 /* ---- Structs */
@@ -222,12 +229,21 @@ typedef struct tillerclover_listed {
     size_t length;
 } tillerclover_listed;
 
+/* What is said of a list of access rows. */
+typedef struct tillerclover_tested {
+    /* TILLERCLOVER_PERMITTED where the list is accepted, or one of TILLERCLOVER_TEST_BAD_SIZE,
+     * TILLERCLOVER_TEST_NOT_STORABLE and TILLERCLOVER_TEST_EXCESSIVE */
+    uint8_t answer;
+    /* the first bad row, counted from 1; 0 for a list that is accepted or has a bad size */
+    size_t row;
+} tillerclover_tested;
+
 /* ---- Functions */
 
 /* The build's default rows.
  *
- * Each function but tillerclover_access_list takes them as two lists: `creds`, rows of
- * TILLERCLOVER_CRED_LENGTH bytes one after the other, and `aces`, rows of TILLERCLOVER_ACE_LENGTH
+ * tillerclover_fresh, tillerclover_clear and tillerclover_judge take them as two lists: `creds`, rows
+ * of TILLERCLOVER_CRED_LENGTH bytes one after the other, and `aces`, rows of TILLERCLOVER_ACE_LENGTH
  * bytes, each as the tables hold it, with the length of the list in bytes. A list has at most
  * TILLERCLOVER_DEFAULTS_MAX rows. One with more, with a row that no record could store, with a
  * number twice or with half a row counts as none, by itself and wholly. Hand all calls of a terminal
@@ -283,6 +299,21 @@ tillerclover_outcome tillerclover_judge(tillerclover_tables tables, const uint8_
  */
 tillerclover_listed tillerclover_access_list(tillerclover_tables tables, uint8_t *text, size_t room);
 
+/* Tests a list of access rows before it is loaded: rows of TILLERCLOVER_ACE_LENGTH bytes one after the
+ * other, each as the tables hold it. The size comes first, then row by row TILLERCLOVER_TEST_NOT_STORABLE
+ * and after it TILLERCLOVER_TEST_EXCESSIVE; the first fault is answered. A list without any is accepted, one
+ * of no rows too. No tables and no clock are looked at: a row's period does not matter.
+ *
+ * An accepted list is permitted throughout when its rows are judged one straight after the other, each as
+ * the body of an UPDATE of TILLERCLOVER_ACL2 by a sender whose credential row names the device owner, from
+ * sound tables in TILLERCLOVER_RFPRO without access rows. The access rows are then the list's, in its order.
+ *
+ * rows    points to at least `length` bytes that nothing changes during the call. They are read, never
+ *         written, and no pointer to them is kept. With length 0 the pointer is treated as that of a record
+ *         of length 0.
+ */
+tillerclover_tested tillerclover_test_list(const uint8_t *rows, size_t length);
+
 /* ---- The layout that the library has */
 
 TILLERCLOVER_ASSERT(sizeof(tillerclover_tables) == 1788, "tables have 1,788 bytes");
@@ -311,6 +342,10 @@ TILLERCLOVER_ASSERT(offsetof(tillerclover_outcome, tables) == 64, "tables");
 TILLERCLOVER_ASSERT(sizeof(tillerclover_listed) == 16, "what is said of a list has 16 bytes");
 TILLERCLOVER_ASSERT(offsetof(tillerclover_listed, answer) == 0, "answer");
 TILLERCLOVER_ASSERT(offsetof(tillerclover_listed, length) == 8, "length");
+
+TILLERCLOVER_ASSERT(sizeof(tillerclover_tested) == 16, "what is said of a tested list has 16 bytes");
+TILLERCLOVER_ASSERT(offsetof(tillerclover_tested, answer) == 0, "answer");
+TILLERCLOVER_ASSERT(offsetof(tillerclover_tested, row) == 8, "row");
 
 #ifdef __cplusplus
 }

@@ -180,8 +180,7 @@ impl Case {
     }
 }
 
-/// Default lists a step smaller: none, a row less at either end, a byte less,
-/// a byte cleared.
+/// Lists of rows a step smaller: none, a row less, a byte less, a byte cleared.
 fn smaller_lists(list: &[u8], row: usize) -> Vec<Vec<u8>> {
     let mut lists = Vec::new();
     if list.is_empty() {
@@ -189,8 +188,9 @@ fn smaller_lists(list: &[u8], row: usize) -> Vec<Vec<u8>> {
     }
     lists.push(Vec::new());
     if list.len() > row {
-        lists.push(list[row..].to_vec());
-        lists.push(list[..list.len() - row].to_vec());
+        for place in (0..list.len()).step_by(row) {
+            lists.push([&list[..place], &list[list.len().min(place + row)..]].concat());
+        }
     }
     lists.push(list[..list.len() - 1].to_vec());
     for place in 0..list.len() {
@@ -199,6 +199,17 @@ fn smaller_lists(list: &[u8], row: usize) -> Vec<Vec<u8>> {
         lists.push(cleared);
     }
     lists
+}
+
+/// Makes a list of rows smaller as long as it still differs.
+pub fn shrink_list(mut list: Vec<u8>, row: usize, differs: impl Fn(&[u8]) -> bool) -> Vec<u8> {
+    let size = |list: &[u8]| (list.len(), list.iter().filter(|&&byte| byte != 0).count());
+    loop {
+        match smaller_lists(&list, row).into_iter().find(|smaller| size(smaller) < size(&list) && differs(smaller)) {
+            Some(smaller) => list = smaller,
+            None => return list,
+        }
+    }
 }
 
 /// Makes a case smaller as long as it still differs.

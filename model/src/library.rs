@@ -6,6 +6,7 @@ use std::ops::Range;
 use crate::case::{Case, Seen, BEHIND};
 use crate::defaults::Defaults;
 use crate::office::Listed;
+use crate::provisioning::Tested;
 use crate::tables::{self, Stored};
 
 #[repr(C)]
@@ -41,6 +42,12 @@ pub struct Listing {
     pub length: usize,
 }
 
+#[repr(C)]
+pub struct Verdict {
+    pub answer: u8,
+    pub row: usize,
+}
+
 const _: () = assert!(size_of::<Tables>() == tables::SIZE);
 const _: () = assert!(offset_of!(Outcome, set) == 48 && offset_of!(Outcome, tables) == 64);
 const _: () = assert!(size_of::<Outcome>() == 1856);
@@ -68,6 +75,7 @@ extern "C" {
         room: usize,
     ) -> Outcome;
     fn tillerclover_access_list(t: Tables, text: *mut u8, room: usize) -> Listing;
+    fn tillerclover_test_list(rows: *const u8, length: usize) -> Verdict;
 }
 
 impl Tables {
@@ -174,4 +182,16 @@ pub fn list(case: &Case) -> Listed {
     let mut buffer = Case::pattern(case.room + BEHIND);
     let Listing { answer, length } = write_list(&Tables::from_bytes(&case.tables), &mut buffer[..case.room]);
     Listed { answer, length, buffer }
+}
+
+/// One call for the test of a list, as a C program makes it.
+#[inline]
+pub fn test(list: &[u8]) -> Verdict {
+    unsafe { tillerclover_test_list(list.as_ptr(), list.len()) }
+}
+
+/// The same in the model's terms.
+pub fn tested(list: &[u8]) -> Tested {
+    let Verdict { answer, row } = test(list);
+    Tested { answer, row }
 }

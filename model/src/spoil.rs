@@ -1,8 +1,9 @@
-//! Ways to break things: forbidden rows and bodies, tables that are not sound,
-//! damaged records.
+//! Ways to break things: forbidden rows and bodies, lists that are not accepted,
+//! tables that are not sound, damaged records.
 
 use crate::directory;
 use crate::random::Random;
+use crate::record::{CREATE_BIT, DELETE_BIT, UPDATE_BIT};
 use crate::tables::{
     Access, Credential, Row, Stored, ACCESSES, ACCESS_COUNT, CREDENTIALS, CREDENTIAL_COUNT, DEVICE_OWNER, OWNED, SIZE,
     STATE,
@@ -101,6 +102,65 @@ pub fn unknown_resource(random: &mut Random) -> usize {
             return number;
         }
     }
+}
+
+/// A fault of a list to load, with the answer that it leads to. It says whether
+/// it could be made; a list that was accepted is then accepted no longer.
+pub type LoadFault = (&'static str, u8, fn(&mut Vec<u8>, &mut Random) -> bool);
+
+pub const LOAD_FAULTS: [LoadFault; 6] = [
+    ("bytes that make no row", 19, |list, random| {
+        let bytes = random.between(1, Access::LENGTH - 1);
+        if random.chance(50) && !list.is_empty() {
+            list.truncate(list.len() - bytes);
+        } else {
+            list.extend(random.bytes(bytes));
+        }
+        true
+    }),
+    ("too many rows", 19, |list, random| {
+        let rows = if random.chance(50) { Access::CAPACITY + 1 } else { random.between(Access::CAPACITY + 1, 40) };
+        let more = (rows * Access::LENGTH).saturating_sub(list.len());
+        list.extend(random.bytes(more));
+        more > 0
+    }),
+    ("forbidden row", 20, |list, random| {
+        let (_, fault) = random.pick(&ACCESS_FAULTS);
+        any_row(list, random).map(|row| fault(row, random)).is_some()
+    }),
+    ("unused row", 20, |list, random| any_row(list, random).map(|row| row.fill(0)).is_some()),
+    ("number again", 20, |list, random| {
+        let rows = list.len() / Access::LENGTH;
+        if rows < 2 {
+            return false;
+        }
+        let later = random.between(1, rows - 1);
+        let earlier = random.below(later) * Access::LENGTH;
+        list.copy_within(earlier..earlier + 2, later * Access::LENGTH);
+        true
+    }),
+    ("opened security resource", 21, |list, random| any_row(list, random).map(|row| open(row, random)).is_some()),
+];
+
+fn any_row<'a>(list: &'a mut [u8], random: &mut Random) -> Option<&'a mut [u8]> {
+    let rows = list.len() / Access::LENGTH;
+    (rows > 0).then(|| &mut list[random.below(rows) * Access::LENGTH..][..Access::LENGTH])
+}
+
+/// Lets a role or a connection write to a security resource.
+fn open(row: &mut [u8], random: &mut Random) {
+    row[12..28].fill(0);
+    if random.chance(50) {
+        set_kind(row, 1);
+        row[25] = random.pick(&[0, 1, 7]);
+        row[27] = random.between(1, 255) as u8;
+    } else {
+        set_kind(row, 2);
+        row[27] = random.byte() & 1;
+    }
+    row[2] |= random.pick(&[CREATE_BIT, UPDATE_BIT, DELETE_BIT]) << 1;
+    let security: Vec<u8> = directory::security_resources().map(|resource| resource.number).collect();
+    set_bit(&mut row[4..], random.pick(&security).into());
 }
 
 /// A fault of tables. It says whether it could be made; sound tables are then

@@ -13,7 +13,9 @@
 //!    current ones;
 //! 2: tables in the same form that the current ones must equal;
 //! 3: default lists, of credentials and of accesses, each behind its length (a
-//!    byte), from now on the current ones. Both are empty at first.
+//!    byte), from now on the current ones. Both are empty at first;
+//! 4: a list to load behind its length (16 bits), then what is said of it: answer
+//!    and row (a byte each).
 //! Numbers of 16, 32 and 64 bits have their high byte first.
 
 use crate::case::Case;
@@ -22,16 +24,19 @@ use crate::directory::{DIRECTORY, LINKS, YARD};
 use crate::examples;
 use crate::generate::{self, Style};
 use crate::histogram::Histogram;
+use crate::lists;
+use crate::provisioning::{test, Tested};
 use crate::random::Random;
 use crate::record::{compose, target_body, Verb};
 use crate::rules::{judge, Refusal, LONGEST_REPLY};
-use crate::spoil::{ACCESS_FAULTS, CREDENTIAL_FAULTS, TABLE_FAULTS};
+use crate::spoil::{ACCESS_FAULTS, CREDENTIAL_FAULTS, LOAD_FAULTS, TABLE_FAULTS};
 use crate::tables::{Access, Credential, Period, Row, State, Stored, Subject, Tables, ACCESSES, CREDENTIALS, SIZE};
 
 pub const TABLES: u8 = 0;
 pub const RECORD: u8 = 1;
 pub const CHECK: u8 = 2;
 pub const DEFAULTS: u8 = 3;
+pub const LIST: u8 = 4;
 
 /// Fewest bytes that leave room for random sessions.
 pub const LEAST: usize = 160_000;
@@ -43,6 +48,7 @@ pub struct Vectors {
     pub tables: usize,
     pub checks: usize,
     pub lists: usize,
+    pub tested: usize,
     pub histogram: Histogram,
     current: Option<Stored>,
     defaults: Defaults,
@@ -59,6 +65,7 @@ impl Vectors {
             tables: 0,
             checks: 0,
             lists: 0,
+            tested: 0,
             histogram: Histogram::new(),
             current: None,
             defaults: Defaults::none(),
@@ -77,6 +84,7 @@ impl Vectors {
         vectors.yards();
         vectors.default_lists(&mut random);
         vectors.faults(&mut random);
+        vectors.lists_to_load(&mut Random::part(seed, 7));
         vectors.sessions(&mut random, limit);
         vectors
     }
@@ -310,6 +318,44 @@ impl Vectors {
         self.check();
     }
 
+    fn list_to_load(&mut self, list: &[u8]) {
+        let Tested { answer, row } = test(list);
+        self.bytes.push(LIST);
+        self.bytes.extend((list.len() as u16).to_be_bytes());
+        self.bytes.extend(list);
+        self.bytes.extend([answer, row as u8]);
+        self.tested += 1;
+    }
+
+    /// Lists to load: lengths at the borders, every fault in a short list and in
+    /// a full one, and rows that open each security resource.
+    fn lists_to_load(&mut self, random: &mut Random) {
+        for rows in [0, 1, 2, 31, 32, 33] {
+            self.list_to_load(&lists::good_list(random, rows));
+        }
+        for length in [1, 28, 35, 37, 71] {
+            let list = lists::good_list(random, 2);
+            self.list_to_load(&list[..length]);
+        }
+        for rows in [4, 32] {
+            for (_, _, fault) in LOAD_FAULTS {
+                let mut list = lists::good_list(random, rows);
+                fault(&mut list, random);
+                self.list_to_load(&list);
+            }
+        }
+        for (_, fault) in ACCESS_FAULTS {
+            let mut list = lists::good_list(random, 3);
+            fault(&mut list[Access::LENGTH..2 * Access::LENGTH], random);
+            self.list_to_load(&list);
+        }
+        for resource in DIRECTORY.iter().map(|resource| resource.number) {
+            for (subject, permission) in [(examples::AUTH, 4), (examples::ANON, 9), (examples::role(0, 7), 18)] {
+                self.list_to_load(&examples::access(7, subject, permission, 7, &[resource]).bytes());
+            }
+        }
+    }
+
     /// Random sessions from fresh, sound and full tables in turn.
     fn sessions(&mut self, random: &mut Random, limit: usize) {
         // For new tables, a longest record and reply, and a last check.
@@ -380,10 +426,10 @@ mod tests {
     use super::*;
 
     /// Reads the file as another program would.
-    fn replay(mut bytes: &[u8]) -> (usize, usize) {
+    fn replay(mut bytes: &[u8]) -> (usize, usize, usize) {
         let mut current: Option<Stored> = None;
         let mut defaults = Defaults::none();
-        let (mut records, mut checks) = (0, 0);
+        let (mut records, mut checks, mut tested) = (0, 0, 0);
         let mut take = |count: usize| {
             let (taken, rest) = bytes.split_at_checked(count)?;
             bytes = rest;
@@ -434,10 +480,16 @@ mod tests {
                         *list = take(length.into()).unwrap().to_vec();
                     }
                 }
+                LIST => {
+                    let length = number(take(2).unwrap());
+                    let Tested { answer, row } = test(take(length).unwrap());
+                    assert_eq!(take(2).unwrap(), [answer, row as u8]);
+                    tested += 1;
+                }
                 tag => panic!("tag {tag}"),
             }
         }
-        (records, checks)
+        (records, checks, tested)
     }
 
     #[test]
@@ -445,7 +497,7 @@ mod tests {
         for (seed, limit, often) in [(1, 399_999, 15), (2, LEAST, 1), (3, LEAST, 1)] {
             let vectors = Vectors::build(seed, limit);
             assert!(vectors.bytes.len() <= limit, "{}", vectors.bytes.len());
-            assert_eq!(replay(&vectors.bytes), (vectors.records, vectors.checks));
+            assert_eq!(replay(&vectors.bytes), (vectors.records, vectors.checks, vectors.tested));
             assert_eq!(Vectors::build(seed, limit).bytes, vectors.bytes);
             for (answer, &count) in vectors.histogram.answers.iter().enumerate() {
                 assert!(count >= often, "answer {answer}: {count}");

@@ -3,10 +3,12 @@
 use model::case::{Case, Seen};
 use model::defaults::{Defaults, ListFault};
 use model::directory::{find, set_bit, LINKS, YARD};
-use model::examples::{access, AUTH};
+use model::examples::{access, ANON, AUTH};
 use model::generate::{walk_groups, walk_sessions};
+use model::lists;
 use model::office::{text, Listed};
-use model::record::{Header, Verb, ALL_BITS};
+use model::provisioning::{opens_security, test, Tested};
+use model::record::{Header, Verb, ALL_BITS, CREATE_BIT, DELETE_BIT, UPDATE_BIT};
 use model::rules::{effective_permission, Sender};
 use model::tables::{
     fresh_bytes, read_uuid, Access, Credential, Period, Role, Row, Subject, Tables, Uuid, ACCESSES, ACCESS_COUNT,
@@ -812,4 +814,226 @@ const WRITERS: [(&str, Writer); 43] = [
         })
     }),
     ("puts a space behind each comma", |case, right| replaced(case, right, ",", ", ")),
+];
+
+#[test]
+fn poor_testers_are_found() {
+    let mut found = [0; TESTERS.len()];
+    for list in lists::cases(1) {
+        let right = test(&list);
+        for (count, (_, tester)) in found.iter_mut().zip(TESTERS).filter(|(count, _)| **count < ENOUGH) {
+            *count += usize::from(tester(&list, right) != right);
+        }
+    }
+    for (count, (name, _)) in found.iter().zip(TESTERS) {
+        assert!(*count >= ENOUGH, "a tester that {name}: {count}");
+    }
+}
+
+/// What a program says of a list, given what is right.
+type Tester = fn(&[u8], Tested) -> Tested;
+
+const ACCEPTED: Tested = Tested { answer: 0, row: 0 };
+
+/// The rows of a list as far as they are whole.
+fn whole_rows(list: &[u8]) -> &[u8] {
+    &list[..list.len() / Access::LENGTH * Access::LENGTH]
+}
+
+/// The row that is named, if it could be stored.
+fn named_row(list: &[u8], right: Tested) -> Option<Access> {
+    let place = right.row.checked_sub(1)?;
+    Access::read(&list[place * Access::LENGTH..][..Access::LENGTH])
+}
+
+/// What is right, but for rows named with 21 that a program sees nothing in.
+fn blind_to(list: &[u8], right: Tested, harmless: impl Fn(&Access) -> bool) -> Tested {
+    match named_row(list, right) {
+        // The rest of the list is tested without that row.
+        Some(row) if right.answer == 21 && harmless(&row) => after_the_named_row(list, right),
+        _ => right,
+    }
+}
+
+/// What is said of the rows behind the one that is named, with their places.
+fn after_the_named_row(list: &[u8], right: Tested) -> Tested {
+    match test(&list[right.row * Access::LENGTH..]) {
+        Tested { answer: answer @ (20 | 21), row } => Tested { answer, row: right.row + row },
+        other => other,
+    }
+}
+
+/// What is right, but with 21 for the first row of these kind before it.
+fn sees_more(list: &[u8], right: Tested, harmful: impl Fn(&Access) -> bool) -> Tested {
+    if right.answer == 19 {
+        return right;
+    }
+    let before = if right.answer == 0 { usize::MAX } else { right.row - 1 };
+    let rows = list.chunks_exact(Access::LENGTH).take(before).map(|row| Access::read(row).expect("clean"));
+    match (1..).zip(rows).find(|(_, row)| harmful(row)) {
+        Some((row, _)) => Tested { answer: 21, row },
+        None => right,
+    }
+}
+
+/// Whether the row would open a security resource to a role or a connection.
+fn would_open(row: &Access, subject: Subject, permission: u8, set: u64) -> bool {
+    opens_security(&Access { subject, permission, set, ..row.clone() })
+}
+
+const TESTERS: [(&str, Tester); 40] = [
+    ("accepts all", |_, _| ACCEPTED),
+    ("accepts none", |_, right| if right.answer == 0 { Tested { answer: 19, row: 0 } } else { right }),
+    ("accepts no empty list", |list, right| if list.is_empty() { Tested { answer: 19, row: 0 } } else { right }),
+    ("never says 19", |list, right| match right.answer {
+        19 => test(&whole_rows(list)[..whole_rows(list).len().min(32 * Access::LENGTH)]),
+        _ => right,
+    }),
+    ("looks at whole rows only", |list, _| test(whole_rows(list))),
+    ("takes a row of a byte less", |list, right| match list.len() % Access::LENGTH {
+        35 => test(whole_rows(list)),
+        _ => right,
+    }),
+    ("takes 33 rows", |list, right| match list.len() / Access::LENGTH {
+        33 => test(&list[Access::LENGTH..]),
+        _ => right,
+    }),
+    ("takes 31 rows at most", |list, right| match list.len() / Access::LENGTH {
+        32 => Tested { answer: 19, row: 0 },
+        _ => right,
+    }),
+    ("looks at 32 rows of a longer list", |list, right| match list.len() / Access::LENGTH {
+        33.. => test(&list[..32 * Access::LENGTH]),
+        _ => right,
+    }),
+    ("looks at the rows before the length", |list, right| {
+        let rows = whole_rows(list);
+        match right.answer {
+            19 if rows.len() <= 32 * Access::LENGTH && test(rows).answer != 0 => test(rows),
+            _ => right,
+        }
+    }),
+    ("names the row behind the last with 19", |list, right| match right.answer {
+        19 => Tested { answer: 19, row: list.len() / Access::LENGTH + 1 },
+        _ => right,
+    }),
+    ("names rows from 0", |_, right| Tested { row: right.row.saturating_sub(1), ..right }),
+    ("names no row", |_, right| Tested { row: 0, ..right }),
+    ("names the number of the row", |list, right| match named_row(list, right) {
+        Some(row) => Tested { row: row.number.into(), ..right },
+        None => right,
+    }),
+    ("names the byte where the row begins", |_, right| Tested {
+        row: right.row.saturating_sub(1) * Access::LENGTH,
+        ..right
+    }),
+    ("names the second bad row", |list, right| match after_the_named_row(list, right) {
+        other @ Tested { answer: 20 | 21, .. } if right.row > 0 => other,
+        _ => right,
+    }),
+    ("names the row that has the number already", |list, right| {
+        let rows: Vec<&[u8]> = list.chunks(Access::LENGTH).collect();
+        match named_row(list, right) {
+            Some(_) if right.answer == 20 => {
+                let number = &rows[right.row - 1][..2];
+                let earlier = rows.iter().position(|row| &row[..2] == number).expect("an earlier one");
+                Tested { row: earlier + 1, ..right }
+            }
+            _ => right,
+        }
+    }),
+    ("looks at the first row only", |_, right| if right.row > 1 { ACCEPTED } else { right }),
+    ("leaves the last row out", |list, right| {
+        if right.row > 0 && right.row == list.len() / Access::LENGTH {
+            ACCEPTED
+        } else {
+            right
+        }
+    }),
+    ("says 21 for 20", |_, right| if right.answer == 20 { Tested { answer: 21, ..right } } else { right }),
+    ("says 10 for 20", |_, right| if right.answer == 20 { Tested { answer: 10, ..right } } else { right }),
+    ("does not look for an earlier number", |list, right| match named_row(list, right) {
+        Some(_) if right.answer == 20 => after_the_named_row(list, right),
+        _ => right,
+    }),
+    ("looks for the number in the row before alone", |list, right| match named_row(list, right) {
+        Some(row) if right.answer == 20 => {
+            let before = Access::read(&list[(right.row - 2) * Access::LENGTH..][..Access::LENGTH]).expect("clean");
+            if before.number == row.number {
+                right
+            } else {
+                after_the_named_row(list, right)
+            }
+        }
+        _ => right,
+    }),
+    ("compares the low byte of numbers", |list, right| match right.answer {
+        19 => right,
+        _ => {
+            let rows: Vec<&[u8]> = list.chunks(Access::LENGTH).collect();
+            let bad = |&place: &usize| rows[..place].iter().any(|earlier| earlier[1] == rows[place][1]);
+            match (0..rows.len()).find(bad).map(|place| place + 1) {
+                Some(row) if right.answer == 0 || row < right.row => Tested { answer: 20, row },
+                _ => right,
+            }
+        }
+    }),
+    ("says 21 before 20", |list, right| {
+        let Some(row) = named_row(list, right) else {
+            return right;
+        };
+        if opens_security(&row) {
+            Tested { answer: 21, ..right }
+        } else {
+            right
+        }
+    }),
+    ("says 20 for any row before 21 for any", |list, right| match right.answer {
+        21 => {
+            let harmless: Vec<u8> = list
+                .chunks(Access::LENGTH)
+                .flat_map(|row| match Access::read(row) {
+                    Some(row) => Access { permission: 0, ..row }.bytes(),
+                    None => row.to_vec(),
+                })
+                .collect();
+            match test(&harmless) {
+                other @ Tested { answer: 20, .. } => other,
+                _ => right,
+            }
+        }
+        _ => right,
+    }),
+    ("never says 21", |list, right| blind_to(list, right, |_| true)),
+    ("does not mind roles", |list, right| blind_to(list, right, |row| matches!(row.subject, Subject::Role(_)))),
+    ("does not mind connections", |list, right| {
+        blind_to(list, right, |row| matches!(row.subject, Subject::Connection(_)))
+    }),
+    ("does not mind auth-crypt", |list, right| blind_to(list, right, |row| row.subject == AUTH)),
+    ("does not mind anon-clear", |list, right| blind_to(list, right, |row| row.subject == ANON)),
+    ("does not mind create", |list, right| {
+        blind_to(list, right, |row| !would_open(row, row.subject, row.permission & !CREATE_BIT, row.set))
+    }),
+    ("does not mind update", |list, right| {
+        blind_to(list, right, |row| !would_open(row, row.subject, row.permission & !UPDATE_BIT, row.set))
+    }),
+    ("does not mind delete", |list, right| {
+        blind_to(list, right, |row| !would_open(row, row.subject, row.permission & !DELETE_BIT, row.set))
+    }),
+    ("minds acl2 alone", |list, right| {
+        blind_to(list, right, |row| !would_open(row, row.subject, row.permission, row.set & set_bit(ACL2)))
+    }),
+    ("does not mind a season", |list, right| blind_to(list, right, |row| row.period != Period::ALWAYS)),
+    ("minds a UUID", |list, right| sees_more(list, right, |row| would_open(row, AUTH, row.permission, row.set))),
+    ("minds retrieve and notify", |list, right| {
+        sees_more(list, right, |row| row.permission != 0 && would_open(row, row.subject, ALL_BITS, row.set))
+    }),
+    ("minds application resources", |list, right| {
+        sees_more(list, right, |row| row.set != 0 && would_open(row, row.subject, row.permission, set_bit(ACL2)))
+    }),
+    ("has wildcards reach security resources", |list, right| {
+        sees_more(list, right, |row| {
+            row.wildcards != Default::default() && would_open(row, row.subject, row.permission, set_bit(ACL2))
+        })
+    }),
 ];

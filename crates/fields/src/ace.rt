@@ -6,6 +6,7 @@ use crate::bits::field;
 use rows::part;
 ghost use mathlib.Core.Path.{_≡_};
 ghost use Rattle.rules.specs.Bits.{bits};
+ghost use Rattle.rules.specs.Directory.{someSecurity};
 ghost use Rattle.rules.specs.Bodies.{aceKind, acePermission, acePlus, aceMinus, aceStar, inSet, setKnown, aceSubject, aceAuthority, aceRole, aceConnection, aceFirst, aceLast};
 
 // 0 UUID, 1 role, 2 connection
@@ -99,6 +100,13 @@ pub fn connection_zeros(row: &[u8]) -> u16
     ensures { λ n. ⌜ n ≡ bits (now (row .entry)) 216 7 ⌝ }
 {
     field(row, 216, 7)
+}
+
+// Whether a security resource is in the set: they are its first four numbers.
+pub fn on_security(row: &[u8]) -> bool
+    ensures { λ b. ⌜ b ≡ someSecurity (inSet (now (row .entry))) ⌝ }
+{
+    field(row, 32, 4) != 0
 }
 
 // Whether each number in the set of resources is known: the numbers between and after the known ones are not in it.

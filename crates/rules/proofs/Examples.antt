@@ -32,7 +32,7 @@ use Rattle.rules.proofs.Bools.{and-left, and-right}
 use Rattle.rules.proofs.Isolated.{isolation}
 
 -- `unfolding definitions` opens all that its own line names
-definitions : Unit {0}
+unfoldable pub definitions : Unit {0}
 unfolding ones onesIn rowsBefore gapOf rowsOf joined packed allZero same hasKey numberedAs placeFrom firstRow some every without distinctNumbers stored unionOf withRow bit bits has resourceOf word sender payloadOf nil isNil ownerBody stateBody credStorable credRowOf setKnown subjectStorable aceStorable everySecond aceRowOf rowsIn rowsSound headSound sound empty goodList defaultRows fresh rowOwner subjectFits resourceFits inForce rowFits gives names isOwner byOwner byNoOwner effectiveOf permission ownBody rowBytes contents reads replyOf tooShort ifAllowed updateDoxm updatePstat storeRow updateRows updateAction deleteNumber deleteAces deleteCreds deleteAction readAction securityAction action writeAllowed moveListed moveAllowed badLength noVerb zeroBitSet mismatch unknownResource noCredential noEndpoint notPermitted offered notOffered verdict entered asksLinks linkSet outcomeAt outcome
 definitions = tt
 
@@ -44,7 +44,7 @@ abbrev answer : Tables → List ℕ → ℕ
 answer t r = replyTo noDefaults t (lent r) .answer
 
 -- sixteen bytes 11
-pub uuid : List ℕ
+unfoldable pub uuid : List ℕ
 uuid = replicate 16 0x11
 
 -- a body of 21 bytes, as in the paper
@@ -52,7 +52,7 @@ pub credBody : ℕ → List ℕ
 credBody n = 0 ∷ n ∷ (uuid ++ (0 ∷ 0 ∷ 4 ∷ []))
 
 -- the row that it stores
-pub credRow : ℕ → Row
+unfoldable pub credRow : ℕ → Row
 credRow n = 0 ∷ n ∷ (uuid ++ (0 ∷ 0 ∷ 0 ∷ 0 ∷ 4 ∷ []))
 
 -- n rows, numbered from n down to 1
@@ -65,7 +65,7 @@ overfull : Tables
 overfull = record { state = 1; owned = 0; ncreds = 25; naces = 0; devowner = nil; rowners = replicate 64 0; creds = packed 552 (credRows 24); aces = replicate 1152 0 }
 
 -- state 2, the owner in row 5
-pub owned5 : Tables
+unfoldable pub owned5 : Tables
 owned5 = withState (withOwner (withRows Creds (fresh noDefaults) (credRow 5 ∷ [])) 1 uuid) 2
 
 -- 24 credential rows
@@ -125,22 +125,22 @@ worked = refl
 -- ---- readings to guard against
 
 -- a body of 28 bytes: number, kind, permission, wildcards, set bytes, subject
-pub aceBody : ℕ → ℕ → ℕ → ℕ → List ℕ → List ℕ → List ℕ
+unfoldable pub aceBody : ℕ → ℕ → ℕ → ℕ → List ℕ → List ℕ → List ℕ
 aceBody n kind permission wild set subject = 0 ∷ n ∷ (kind * 64 + permission * 2 + wild / 4) ∷ (wild % 4 * 64) ∷ (set ++ subject)
 
 -- the row that it stores
-pub aceRow : ℕ → ℕ → ℕ → ℕ → List ℕ → List ℕ → Row
+unfoldable pub aceRow : ℕ → ℕ → ℕ → ℕ → List ℕ → List ℕ → Row
 aceRow n kind permission wild set subject = aceBody n kind permission wild set subject ++ everySecond
 
 -- the set of resource 8 alone, and the empty set
-pub weight : List ℕ
+unfoldable pub weight : List ℕ
 weight = 0 ∷ 0x80 ∷ replicate 6 0
 
 pub none : List ℕ
 none = replicate 8 0
 
 -- connection 0 or 1 as a subject
-pub connected : ℕ → List ℕ
+unfoldable pub connected : ℕ → List ℕ
 connected c = replicate 15 0 ++ (c ∷ [])
 
 -- state 3, the owner in row 5, and these access rows

@@ -30,13 +30,13 @@ use Rattle.rules.proofs.TableLaws.{table-is, few-rows}
 
 -- ---- a row that a body could store has a number
 
-number-zero : (w : Row) → take 2 w ≡ 0 ∷ 0 ∷ [] → rowNumber w ≡ 0
+pub number-zero : (w : Row) → take 2 w ≡ 0 ∷ 0 ∷ [] → rowNumber w ≡ 0
 number-zero w e =
     let a : getD w 0 0 ≡ 0 = sym (getD-take 2 w 0 0 (omega arith)) ∙ ap (λ (l : List ℕ). getD l 0 0) e in
     let b : getD w 1 0 ≡ 0 = sym (getD-take 2 w 1 0 (omega arith)) ∙ ap (λ (l : List ℕ). getD l 1 0) e in
     bits-word w 0 (omega arith) (omega arith) ∙ omega arith
 
-has-number : (k : Table) (w : Row) → storable k w ≡ true → not (eqb (rowNumber w) 0) ≡ true
+pub has-number : (k : Table) (w : Row) → storable k w ≡ true → not (eqb (rowNumber w) 0) ≡ true
 unfolding credStorable aceStorable
 has-number Creds w h = search (and-left, and-right)
 has-number Aces w h = search (and-left, and-right)

@@ -3,8 +3,8 @@
 use Prim.Native.Nat.{ℕ, zero, suc, _<_, _≤_, _/_, _%_, _^_}
 use native.Mathlib.Nat.{zero-div}
 use native.Mathlib.Omega.{arith}
-use mathlib.Core.Path.{_≡_, refl, ap, _∙_, sym}
-use mathlib.Core.Bool.{Bool, true, false, not, _&&_, _||_, cond, and-false}
+use mathlib.Core.Path.{_≡_, refl, ap, ap₂, _∙_, sym}
+use mathlib.Core.Bool.{Bool, true, false, not, _&&_, _||_, cond, and-false, or-false}
 use mathlib.Core.List.{List, [], _∷_}
 use lib.Dec.{eqb}
 use lib.Bits.{bitOr, or-shr, or-mod}
@@ -15,7 +15,7 @@ use Rattle.rules.specs.declared.Tables.{Tables}
 use Rattle.rules.specs.declared.Table.the-variants.{Creds, Aces}
 use Rattle.rules.specs.Directory.{isSecurity, someBelow, someSecurity, directory}
 use Rattle.rules.specs.Record.{Sender}
-use Rattle.rules.specs.Bodies.{acePermission}
+use Rattle.rules.specs.Bodies.{acePermission, inSet}
 use Rattle.rules.specs.Tables.{rows}
 use Rattle.rules.specs.Permission.{C, U, D, has, credentialIn, connectionOf, subjectFits, resourceFits, inForce, rowFits, gives, isOwner, byOwner, byNoOwner, effectiveOf, effective}
 use Rattle.rules.specs.Isolation.{Harmless, alters, namesOwner, rowAlters, mayAlter}
@@ -68,6 +68,24 @@ below-lacks (suc m) n q l h =
 pub security-lacks : (p : ℕ → Bool) (n : ℕ) → isSecurity n ≡ true → someSecurity p ≡ false → p n ≡ false
 unfolding someSecurity
 security-lacks p n h l = and-false-right (isSecurity n) (p n) (below-lacks (length directory) n (λ m. isSecurity m && p m) (omega (arith, security-number n h)) l) h
+
+-- tests that agree at each security resource
+below-same : (p q : ℕ → Bool) → ((n : ℕ) → isSecurity n ≡ true → p n ≡ q n) → (m : ℕ) → someBelow m (λ n. isSecurity n && p n) ≡ someBelow m (λ n. isSecurity n && q n)
+below-same p q f zero = refl
+below-same p q f (suc m) = ap₂ (λ (a b : Bool). a || b) (here (isSecurity m) (f m)) (below-same p q f m)
+  where
+    here : (b : Bool) → (b ≡ true → p m ≡ q m) → (b && p m) ≡ (b && q m)
+    here true e = e refl
+    here false e = refl
+
+pub security-same : (p q : ℕ → Bool) → ((n : ℕ) → isSecurity n ≡ true → p n ≡ q n) → someSecurity p ≡ someSecurity q
+unfolding someSecurity
+security-same p q f = below-same p q f (length directory)
+
+-- no wildcard reaches a security resource
+pub fits-by-set : (a : Row) (n : ℕ) → isSecurity n ≡ true → resourceFits n a ≡ inSet a n
+unfolding resourceFits
+fits-by-set a n h = rw h (simp (and-false, or-false))
 
 -- ---- a chosen sender alters no security resource
 and-weaken : (f y z g h : Bool) → (f && (y && z)) ≡ false → (y ≡ false → g ≡ false) → (z ≡ false → h ≡ false) → (f && g && h) ≡ false

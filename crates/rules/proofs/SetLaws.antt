@@ -8,7 +8,7 @@ use mathlib.Core.Bool.{Bool, true, false, not, _&&_, _||_}
 use lib.Dec.{eqb}
 use Rattle.rows.specs.Rows.{Row}
 use Rattle.rules.specs.Bits.{bit, bits}
-use Rattle.rules.specs.Directory.{resourceOf, known}
+use Rattle.rules.specs.Directory.{resourceOf, known, someBelow, someSecurity}
 use Rattle.rules.specs.Bodies.{inSet, setKnown}
 use Rattle.rules.proofs.Bools.{and-left, and-right}
 use Rattle.rules.proofs.BitLaws.{bit-small}
@@ -90,3 +90,22 @@ set-ranges r =
     ∙ ap (λ (b : Bool). b && eqb (bits r 47 1) 0)
     (known-part r 8 7 refl ∙ unknown-part r 4 4 refl ∙ and-comm (eqb (bits r 36 4) 0) (setKnown r 4)
     ∙ ap (λ (b : Bool). b && eqb (bits r 36 4) 0) (known-part r 0 4 refl ∙ none r)))))
+
+-- ---- security resources in the set
+
+or-not : (a b : Bool) → (a || not b) ≡ not (not a && b)
+or-not true b = refl
+or-not false b = refl
+
+-- one of the first w numbers is in the set where their field is not 0
+some-first : (r : Row) (w : ℕ) → someBelow w (λ n. inSet r n) ≡ not (eqb (bits r 32 w) 0)
+unfolding bits
+some-first r zero = refl
+some-first r (suc w) =
+    rw (some-first r w, zero-more (bits r 32 w) (bit r (32 + w)) (bit-small r (32 + w)))
+    (or-not (inSet r w) (eqb (bits r 32 w) 0))
+
+-- the security resources are the first four
+pub set-security : (r : Row) → someSecurity (λ n. inSet r n) ≡ not (eqb (bits r 32 4) 0)
+unfolding someSecurity resourceOf
+set-security r = some-first r 4

@@ -1,6 +1,7 @@
 // The C interface: one call each of the library, declared in include/tillerclover.h.
 // Tables pass by value, a record and a buffer as a pointer and a length each; the payload goes out as a start and a length within the record.
 use listing::Listed;
+use lists::Tested;
 use rules::Tables;
 ghost use mathlib.Core.Path.{_≡_};
 ghost use Rattle.rules.specs.Defaults.{defaults, fresh, cleared};
@@ -10,6 +11,7 @@ ghost use Rattle.rules.specs.Reading.{filled};
 ghost use Rattle.rules.specs.Checks.{numberOf};
 ghost use Rattle.rules.specs.Outcome.{outcome, replyTo};
 ghost use Rattle.office.specs.Office.{officeVerdict, officeReply};
+ghost use Rattle.lists.specs.Lists.{listTested};
 ghost use Rattle.terminal.specs.Interface.{exported, startOf};
 
 // What becomes of a record. Without a payload both its start and its length are 0; `reply` is the length written to the lent buffer;
@@ -96,4 +98,13 @@ pub extern "C" fn tillerclover_access_list(t: Tables, text: &mut [u8]) -> Listed
     ensures buffer { λ _. ⌜ now (text .exit) ≡ filled (now (text .entry)) (officeReply t (length (now (text .entry)))) ⌝ }
 {
     listing::access_list(t, text)
+}
+
+// Tests a list of access rows that the provisioning program writes.
+// Rules out: a list of 33 rows accepted; another row named than the first bad one.
+#[no_mangle]
+pub extern "C" fn tillerclover_test_list(rows: &[u8]) -> Tested
+    ensures { λ r. ⌜ r ≡ listTested (now (rows .entry)) ⌝ }
+{
+    provisioning::test_list(rows)
 }

@@ -1,5 +1,5 @@
 // Judges the records of vectors.bin, which the second model wrote, and compares what comes of each.
-// The file's form stands in model/src/vectors.rs: tables to take, records with their outcome, tables that must be reached, default lists.
+// The file's form stands in model/src/vectors.rs: tables to take, records with their outcome, tables that must be reached, default lists, lists to load.
 use fields::after;
 use fields::double_word;
 use fields::word;
@@ -18,6 +18,7 @@ struct Progress {
     lists: usize,
     entry: u64,
     records: u64,
+    tested: u64,
     differences: u64,
 }
 
@@ -43,6 +44,8 @@ fn print_result(p: Progress) {
     io::write_all(1, b"vectors: ");
     io::print_decimal(1, p.records);
     io::write_all(1, b" records, ");
+    io::print_decimal(1, p.tested);
+    io::write_all(1, b" lists, ");
     io::print_decimal(1, p.differences);
     io::write_all(1, b" differences\n");
 }
@@ -55,6 +58,7 @@ fn walk(bytes: &[u8]) -> Progress {
         lists: usize::MAX,
         entry: 0,
         records: 0,
+        tested: 0,
         differences: 0,
     };
     let mut rest = bytes;
@@ -113,6 +117,7 @@ fn entry_size(s: &[u8]) -> usize {
         1 => record_size(s),
         2 => tables_size(s),
         3 => 3 + byte_at(s, 1) as usize + second_length(s) as usize,
+        4 => list_size(s),
         _ => 0,
     }
 }
@@ -129,6 +134,11 @@ fn record_size(s: &[u8]) -> usize {
     let length = word(after(s, 5)) as usize;
     let reply = word(after(after(s, 15), length)) as usize;
     28 + length + reply
+}
+
+// Tag, length and bytes of a list to load, answer, row.
+fn list_size(s: &[u8]) -> usize {
+    5 + word(after(s, 1)) as usize
 }
 
 // Of an entry with default lists: the length of the second, the first, and the second.
@@ -172,7 +182,8 @@ fn entry_done(p: Progress, s: &[u8], lists: &[u8]) -> Progress {
         0 => taken(p, after(s, 1)),
         1 => judged(p, after(s, 1), lists),
         2 => reached(p, after(s, 1)),
-        _ => listed(p),
+        3 => listed(p),
+        _ => tested(p, after(s, 1)),
     }
 }
 
@@ -191,6 +202,20 @@ fn reached(p: Progress, bytes: &[u8]) -> Progress {
         p
     } else {
         differing(p)
+    }
+}
+
+// Tests the list behind its length, and compares what is said of it with what follows.
+fn tested(p: Progress, s: &[u8]) -> Progress {
+    let length = word(s) as usize;
+    let expected = after(after(s, 2), length);
+    let found = provisioning::test_list(part(s, 2, length));
+    let mut next = p;
+    next.tested = more(p.tested);
+    if (found.answer == byte_at(expected, 0)) & (found.row == byte_at(expected, 1) as usize) {
+        next
+    } else {
+        differing(next)
     }
 }
 

@@ -9,13 +9,14 @@ use std::process::exit;
 use std::time::Instant;
 
 use model::case::{shrink, Case as Put};
-use model::defaults::Defaults;
+use model::defaults::{join, Defaults};
 use model::directory::YARD;
 use model::examples::{access, credential, role, uuid, AUTH};
 use model::generate::{clock, record, session, walk};
 use model::library::{self, Outcome, Tables as Given};
 use model::office::{self, LONGEST_TEXT};
 use model::options::{Options, Program};
+use model::provisioning::test;
 use model::random::Random;
 use model::record::{compose, Verb, RETRIEVE_BIT, UPDATE_BIT};
 use model::rules::{judge, LONGEST_REPLY};
@@ -30,8 +31,8 @@ bench --only CASE --rows ROWS --side SIDE [--calls N]
 Measures the time of a decision through the library, and through the model on
 the same tables and records. Each time is the least of several repetitions, in
 which the two take turns. Then come the growth with the rows, the office text of
-the access rows, the yardstick, the stack of one call and the size of the
-library.
+the access rows, the test of lists to load, the yardstick, the stack of one call
+and the size of the library.
 
 The yardstick is the decision on an application resource in C by hand,
 bench/yardstick.c. It is compared with the library over random records and
@@ -317,6 +318,7 @@ fn main() {
         mixed(repetitions);
         growth(repetitions);
         texts(repetitions);
+        lists(repetitions);
     }
     yardstick(5 * repetitions);
     stack();
@@ -458,6 +460,43 @@ fn texts(repetitions: u64) {
 fn ask_text(given: &Given) {
     let mut text = [0; LONGEST_TEXT];
     black_box(library::write_list(black_box(given), black_box(&mut text)));
+}
+
+/// A list to load that is accepted: rows whose numbers have one high byte, or one low byte.
+fn list(rows: u16, step: u16) -> Vec<u8> {
+    let rows: Vec<Access> = (1..=rows).map(|place| Access { number: place * step, ..row(place) }).collect();
+    join(&rows)
+}
+
+/// The test of lists to load.
+fn lists(repetitions: u64) {
+    println!("\ntime of the test of a list to load, accepted\n");
+    println!("rows  numbers           library      model  ratio  for each row more");
+    let kinds = [(1, "one high byte"), (0x0100, "one low byte")];
+    let counts = [0, 8, 16, 24, Access::CAPACITY as u16];
+    let cases: Vec<(u16, &str, Vec<u8>)> =
+        kinds.iter().flat_map(|&(step, name)| counts.map(|rows| (rows, name, list(rows, step)))).collect();
+    for (_, _, list) in &cases {
+        let (expected, found) = (test(list), library::tested(list));
+        if expected.answer != 0 || expected != found {
+            PROGRAM.stop(format!("a list is to be accepted: {expected:?} by the model, {found:?} by the library"));
+        }
+    }
+    let library = |(_, _, list): &(u16, &str, Vec<u8>), _: &mut Reply| {
+        black_box(library::test(black_box(list)));
+    };
+    let model = |(_, _, list): &(u16, &str, Vec<u8>)| {
+        black_box(test(black_box(list)));
+    };
+    let times = measure(&cases, repetitions, library, model);
+    for (place, ((rows, name, _), time)) in cases.iter().zip(&times).enumerate() {
+        let more = if *rows == 0 {
+            String::new()
+        } else {
+            format!("{:.1} ns", (time.library - times[place - 1].library) / 8.0)
+        };
+        println!("{rows:4}  {name:14}  {:6.0} ns  {:6.0} ns  {:5.2}  {more}", time.library, time.other, time.ratio());
+    }
 }
 
 // ---- The yardstick: the same decision in C by hand.
@@ -691,6 +730,11 @@ fn stack() {
         black_box(library::write_list(black_box(&given), black_box(&mut buffer[..])));
     });
     println!("stack of an office text of full tables, tables included: {text} bytes");
+    let full = list(Access::CAPACITY as u16, 1);
+    let tested = depth(&|_| {
+        black_box(library::test(black_box(&full)));
+    });
+    println!("stack of the test of a full list: {tested} bytes");
 }
 
 fn size() {

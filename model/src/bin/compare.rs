@@ -1,21 +1,25 @@
-//! Compares the proved library with the model, record by record.
+//! Compares the proved library with the model, record by record and list by list.
 
 use model::case::{field, first_change, shrink, Case, Seen};
 use model::generate::{any_bytes, defaults, walk};
+use model::hex;
 use model::histogram::Histogram;
 use model::library;
+use model::lists;
 use model::office::Listed;
 use model::options::Program;
+use model::provisioning::{test, Tested};
 use model::random::Random;
 use model::rules::judge;
 use model::tables::SIZE;
-use model::texts::{self, Counts, Picks};
+use model::texts::{self, Picks};
 
 const PROGRAM: Program = Program {
     name: "compare",
     help: "\
 compare [--records N] [--seed S] [--trace]
 compare --replay TABLES:CLOCK:RECORD:ROOM:CREDENTIALS:ACCESSES
+compare --replay-list LIST
 
 Judges the same records on the same tables at the same clock by the library and
 by the model, and compares answer, permission, payload, length of the reply,
@@ -23,7 +27,7 @@ every byte of the lent buffer (and some behind it), the places to store after a
 delete, the set of the yard and its size, and every byte of the tables; fresh
 tables and the clear button too. Default lists, good and bad, are drawn with the
 cases. The office text of many of the tables, and of some for it alone, is
-compared in the same way.
+compared in the same way, and so is what both say of lists to load.
 
   --records N   so many records (default 300000)
   --seed S      another choice of records (default 1)
@@ -32,11 +36,14 @@ compared in the same way.
                 office text of its tables; CLOCK and ROOM, the length of the
                 buffer for either, are decimal numbers, all else hexadecimal
                 digits
+  --replay-list LIST
+                test this one list, rows in hexadecimal digits, and show what
+                both say of it
   --help        this text
 
 Ends with 0 when all are equal, with 1 when one is not.
 ",
-    valued: &["--records", "--seed", "--replay"],
+    valued: &["--records", "--seed", "--replay", "--replay-list"],
     flags: &["--trace"],
     free: 0,
 };
@@ -47,15 +54,25 @@ const CLEARED: usize = 5000;
 
 fn main() {
     let options = PROGRAM.options();
-    if let Some(line) = options.text("--replay") {
+    for replay in ["--replay", "--replay-list"] {
         for name in ["--records", "--seed"] {
-            if options.text(name).is_some() {
-                PROGRAM.stop(format!("{name} has no meaning with --replay"));
+            if options.text(replay).is_some() && options.text(name).is_some() {
+                PROGRAM.stop(format!("{name} has no meaning with {replay}"));
             }
         }
+    }
+    if let Some(line) = options.text("--replay") {
         let case = Case::from_line(line).unwrap_or_else(|fault| PROGRAM.stop(fault));
         let differences = replay(&case);
         println!("compare: 1 records, {differences} differences");
+        finish(differences);
+    }
+    if let Some(line) = options.text("--replay-list") {
+        let list = hex::read(line).unwrap_or_else(|fault| PROGRAM.stop(fault));
+        show_list(&list);
+        let (expected, found) = said(&list);
+        let differences = u64::from(expected != found);
+        println!("compare: 1 lists, {differences} differences");
         finish(differences);
     }
     let records = PROGRAM.number(&options, "--records", 300_000);
@@ -70,7 +87,7 @@ fn finish(differences: u64) -> ! {
 }
 
 fn compare(records: u64, seed: u64, trace: bool) -> u64 {
-    let mut differences = 0;
+    let mut differences = Differences::default();
     let (mut fresh_shown, mut clear_shown) = (false, false);
     let (mut begun, mut cleared) = (0u64, 0u64);
     // Fresh tables and the clear button, with the default lists of a case.
@@ -94,19 +111,20 @@ fn compare(records: u64, seed: u64, trace: bool) -> u64 {
         }
         differences
     };
-    differences += check_clear(&Case::new(&[0; SIZE], &[]));
+    let mut elsewhere = check_clear(&Case::new(&[0; SIZE], &[]));
     let mut random = Random::part(seed, 3);
     for _ in 0..CLEARED {
         let tables = any_bytes(&mut random);
-        differences += check_clear(&Case { defaults: defaults(&mut random), ..Case::new(&tables, &[]) });
+        elsewhere += check_clear(&Case { defaults: defaults(&mut random), ..Case::new(&tables, &[]) });
     }
 
-    let mut texts = Texts::new(trace);
+    let mut lists = Lists { trace, ..Lists::default() };
+    lists::cases(seed).for_each(|list| lists.compare(&list));
+    let mut texts = Texts { trace, ..Texts::default() };
     texts::cases().for_each(|case| texts.compare(&case));
     let mut picks = Picks::new(seed);
 
     let mut histogram = Histogram::new();
-    let mut shown: Vec<(u8, u8)> = Vec::new();
     let mut judged = 0;
     walk(seed, records, |_, case| {
         if trace {
@@ -116,20 +134,16 @@ fn compare(records: u64, seed: u64, trace: bool) -> u64 {
         histogram.add(case, &outcome);
         let expected = Seen::new(outcome, case.room);
         let found = library::judge(case);
-        if !expected.same(&found) {
-            differences += 1;
-            let pair = (expected.answer, found.answer);
-            if shown.len() < SHOWN && !shown.contains(&pair) {
-                shown.push(pair);
-                let small = shrink(case.clone(), |case| differs_so(case, pair));
-                println!("a difference, made as small as it goes:");
-                show_case(&small);
-                show_command(&small);
-            }
+        let pair = (expected.answer, found.answer);
+        if !expected.same(&found) && differences.add(pair) {
+            let small = shrink(case.clone(), |case| differs_so(case, pair));
+            println!("a difference, made as small as it goes:");
+            show_case(&small);
+            show_command("--replay", &small.line());
         }
         judged += 1;
         if judged % RECORDS_BETWEEN_CLEARS == 0 {
-            differences += check_clear(case);
+            elsewhere += check_clear(case);
         }
         if let Some(case) = picks.pick(&expected.tables) {
             texts.compare(&case);
@@ -139,42 +153,96 @@ fn compare(records: u64, seed: u64, trace: bool) -> u64 {
     print!("{histogram}");
     println!("fresh tables: {begun}, tables cleared: {cleared}");
     println!("{}", texts.counts);
-    differences + texts.differences
+    println!("{}", lists.counts);
+    elsewhere + differences.count + texts.differences.count + lists.differences.count
 }
 
-/// The office texts compared so far.
-struct Texts {
-    trace: bool,
-    counts: Counts,
-    differences: u64,
+/// Differences of one kind, and the pairs of answers of which one was shown.
+#[derive(Default)]
+struct Differences {
+    count: u64,
     shown: Vec<(u8, u8)>,
 }
 
-impl Texts {
-    fn new(trace: bool) -> Texts {
-        Texts { trace, counts: Counts::default(), differences: 0, shown: Vec::new() }
+impl Differences {
+    /// Counts one, and says whether it is to be shown.
+    fn add(&mut self, pair: (u8, u8)) -> bool {
+        self.count += 1;
+        let shows = self.shown.len() < SHOWN && !self.shown.contains(&pair);
+        if shows {
+            self.shown.push(pair);
+        }
+        shows
     }
+}
 
+/// The office texts compared so far.
+#[derive(Default)]
+struct Texts {
+    trace: bool,
+    counts: texts::Counts,
+    differences: Differences,
+}
+
+impl Texts {
     fn compare(&mut self, case: &Case) {
         if self.trace {
             println!("{}", case.line());
         }
         let (expected, found) = listed(case);
         self.counts.add(case, &expected);
-        if expected == found {
-            return;
-        }
-        self.differences += 1;
         let pair = (expected.answer, found.answer);
-        if self.shown.len() < SHOWN && !self.shown.contains(&pair) {
-            self.shown.push(pair);
+        if expected != found && self.differences.add(pair) {
             let small = texts::shrink(case.clone(), |case| text_differs_so(case, pair));
             println!("a difference in the office text, made as small as it goes:");
             println!("{}", small.line());
             show_text(&small);
-            show_command(&small);
+            show_command("--replay", &small.line());
         }
     }
+}
+
+/// The lists compared so far.
+#[derive(Default)]
+struct Lists {
+    trace: bool,
+    counts: lists::Counts,
+    differences: Differences,
+}
+
+impl Lists {
+    fn compare(&mut self, list: &[u8]) {
+        if self.trace {
+            println!("list {}", hex::write(list));
+        }
+        let (expected, found) = said(list);
+        self.counts.add(expected);
+        let pair = (expected.answer, found.answer);
+        if expected != found && self.differences.add(pair) {
+            let small = lists::shrink(list.to_vec(), |list| list_differs_so(list, pair));
+            println!("a difference in the test of a list, made as small as it goes:");
+            show_list(&small);
+            show_command("--replay-list", &hex::write(&small));
+        }
+    }
+}
+
+/// What both say of a list.
+fn said(list: &[u8]) -> (Tested, Tested) {
+    (test(list), library::tested(list))
+}
+
+/// Whether what they say differs with just these two answers.
+fn list_differs_so(list: &[u8], pair: (u8, u8)) -> bool {
+    let (expected, found) = said(list);
+    (expected.answer, found.answer) == pair && expected != found
+}
+
+fn show_list(list: &[u8]) {
+    let (expected, found) = said(list);
+    println!("{}", hex::write(list));
+    println!("  by the model:   answer {}, row {}", expected.answer, expected.row);
+    println!("  by the library: answer {}, row {}", found.answer, found.row);
 }
 
 /// Where fresh tables differ.
@@ -191,7 +259,7 @@ fn show_small(case: &Case, what: &str, differs: fn(&Case) -> Option<usize>) {
     let case = Case { clock: 0, record: Vec::new(), room: 0, ..case.clone() };
     let small = shrink(case, |case| differs(case).is_some());
     println!("{what} {}", differs(&small).map_or("no difference".into(), field));
-    show_command(&small);
+    show_command("--replay", &small.line());
 }
 
 fn outcomes(case: &Case) -> (Seen, Seen) {
@@ -236,9 +304,9 @@ fn show_text(case: &Case) {
     }
 }
 
-fn show_command(case: &Case) {
+fn show_command(option: &str, line: &str) {
     let program = std::env::args().next().unwrap_or("compare".into());
-    println!("  to replay: {program} --replay {}", case.line());
+    println!("  to replay: {program} {option} {line}");
 }
 
 /// One case, with fresh tables, the clear button and the office text beside it.

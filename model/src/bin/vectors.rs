@@ -38,11 +38,12 @@ fn main() {
     }
     print!("{}", vectors.histogram);
     println!(
-        "vectors: {} records, {} tables, {} checks, {} pairs of default lists, {} bytes",
+        "vectors: {} records, {} tables, {} checks, {} pairs of default lists, {} lists to load, {} bytes",
         vectors.records,
         vectors.tables,
         vectors.checks,
         vectors.lists,
+        vectors.tested,
         vectors.bytes.len()
     );
 }
