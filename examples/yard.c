@@ -1,6 +1,6 @@
 /* A weighbridge yard: the owner sets a terminal up and reads it back, the office gets the access list as text and polls
- * the whole yard; a haulier, two foremen, a harvest contractor, a stranger and a broken sender call. Then the owner tests
- * a list that another firm's program wrote, and loads it. Before all that the program sees that its structs are laid out
+ * the whole yard; a haulier, two foremen, a harvest contractor, a stranger and a broken sender call, and a foreman stands
+ * in for another on one day. Then the owner tests a list that another firm's program wrote, and loads it. Before all that the program sees that its structs are laid out
  * as the library's.
  *
  *     rt staticlib terminal
@@ -25,7 +25,7 @@ enum {
 };
 
 /* Two hauliers both call their foremen role 7; the authority tells them apart. */
-enum { NO_ROLE = 0, FOREMAN_ROLE = 7, WORKS = 0, HAULIER_AUTHORITY = 2, OTHER_AUTHORITY = 3 };
+enum { NO_ROLE = 0, FOREMAN_ROLE = 7, FIRST_AID_ROLE = 9, GATE_ROLE = 12, WORKS = 0, HAULIER_AUTHORITY = 2, OTHER_AUTHORITY = 3 };
 
 /* The harvest, in seconds of the terminal's clock: 1 July to the end of 30 September 2026. */
 static const uint32_t HARVEST_FIRST = 1782864000, HARVEST_LAST = 1790812799;
@@ -69,6 +69,7 @@ static const char *const ANSWERS[] = {
     "no whole rows, or too many",
     "row not storable, or its number again",
     "row gives a role or a connection too much",
+    "no place for another role",
 };
 
 static const char *const STATES[] = {"RESET", "RFOTM", "RFPRO", "RFNOP", "SRESET"};
@@ -165,6 +166,22 @@ static struct record store_short_cred(unsigned sender, unsigned number, const ui
     r.bytes[type - 2] = r.bytes[type];
     r.length -= 2;
     return r;
+}
+
+/* A role that the sender asserts, up to the last second and with it. */
+static struct record assert_role(unsigned sender, unsigned role, unsigned authority, uint32_t last)
+{
+    struct record r = header(TILLERCLOVER_UPDATE, TILLERCLOVER_ROLES, sender);
+    add_number(&r, authority);
+    add_number(&r, role);
+    add_number(&r, last >> 16);
+    add_number(&r, last);
+    return r;
+}
+
+static struct record read_roles(unsigned sender)
+{
+    return header(TILLERCLOVER_RETRIEVE, TILLERCLOVER_ROLES, sender);
 }
 
 /* Every credential row with this subject. */
@@ -356,7 +373,7 @@ static void each_field(void)
         /* Both bodies store the row. */
         t = after(t, i % 2 ? store_short_cred(0, 100 + i, OWNER_UUID) : r);
         expected.ncreds++;
-        memcpy(expected.creds + i * TILLERCLOVER_CRED_LENGTH, r.bytes + TILLERCLOVER_HEADER_LENGTH, TILLERCLOVER_CRED_LENGTH);
+        memcpy(expected.creds + i * TILLERCLOVER_CRED_ROW_LENGTH, r.bytes + TILLERCLOVER_HEADER_LENGTH, TILLERCLOVER_CRED_LENGTH);
         expect(same(&t, &expected), "creds or ncreds stands elsewhere");
     }
     for (unsigned i = 0; i < TILLERCLOVER_ACE_CAPACITY; i++) {
@@ -385,7 +402,8 @@ static void each_field(void)
     expect(same(&o.tables, &expected), "tables stands elsewhere in the outcome");
     o = judge(t, header(TILLERCLOVER_RETRIEVE, TILLERCLOVER_CRED, 100));
     expect(o.answer == TILLERCLOVER_PERMITTED && o.start == 0 && o.length == 0, "answer, start or length stands elsewhere");
-    expect(o.reply == TILLERCLOVER_UUID_LENGTH + sizeof t.creds && o.first == 0 && o.many == 0, "reply stands elsewhere");
+    expect(o.reply == TILLERCLOVER_UUID_LENGTH + TILLERCLOVER_CRED_CAPACITY * TILLERCLOVER_CRED_LENGTH && o.first == 0 && o.many == 0,
+           "reply stands elsewhere");
     expect(same(&o.tables, &expected), "tables stands elsewhere behind a reply");
     o = judge(t, store_ace(100, 1, 0, TILLERCLOVER_LAMP, OWNER_UUID));
     expect(o.answer == TILLERCLOVER_WRONG_STATE && o.permission == 0 && o.start == 0 && o.length == 0 && o.reply == 0 &&
@@ -528,6 +546,39 @@ static void clocks(void)
     now = 0;
 }
 
+/* Asserted roles stand behind the body of the sender's own row, in order of arrival, and are read as they were sent. */
+static void roles(void)
+{
+    enum { FIRST = TILLERCLOVER_CRED_ROW_LENGTH + TILLERCLOVER_CRED_LENGTH };
+    tillerclover_tables t = tillerclover_fresh(NONE, 0, NONE, 0), expected;
+    struct record one = assert_role(HAULIER, FOREMAN_ROLE, HAULIER_AUTHORITY, 0x01020304);
+    struct record two = assert_role(HAULIER, FOREMAN_ROLE, OTHER_AUTHORITY, UINT32_MAX);
+    struct record three = assert_role(HAULIER, GATE_ROLE, WORKS, UINT32_MAX);
+    t = after(t, store_cred(0, OWNER, OWNER_UUID));
+    t = after(t, store_cred(0, HAULIER, HAULIER_UUID));
+    t = after(t, set_owner(0, OWNER_UUID));
+    t = after(t, set_state(OWNER, TILLERCLOVER_RFPRO));
+    expect(judge(t, one).answer == TILLERCLOVER_WRONG_STATE, "a role was asserted in RFPRO");
+    expected = t = after(t, set_state(OWNER, TILLERCLOVER_RFNOP));
+    now = 0x01020304;
+    t = after(after(t, one), two);
+    memcpy(expected.creds + FIRST, one.bytes + TILLERCLOVER_HEADER_LENGTH, TILLERCLOVER_ROLE_LENGTH);
+    memcpy(expected.creds + FIRST + TILLERCLOVER_ROLE_LENGTH, two.bytes + TILLERCLOVER_HEADER_LENGTH, TILLERCLOVER_ROLE_LENGTH);
+    expect(same(&t, &expected), "asserted roles stand elsewhere");
+    expect(judge(t, three).answer == TILLERCLOVER_ROLES_FULL, "a third role found a place");
+    tillerclover_outcome o = judge(t, read_roles(HAULIER));
+    expect(o.permission == (TILLERCLOVER_MAY_RETRIEVE | TILLERCLOVER_MAY_UPDATE), "a partner has another permission on roles");
+    expect(o.reply == TILLERCLOVER_ROLE_CAPACITY * TILLERCLOVER_ROLE_LENGTH && memcmp(reply, t.creds + FIRST, o.reply) == 0,
+           "the reply of roles has other bytes");
+    expect(judge(t, read_roles(OWNER)).reply == 0, "another partner has these roles");
+    now++;
+    t = after(t, three);
+    memcpy(expected.creds + FIRST, two.bytes + TILLERCLOVER_HEADER_LENGTH, TILLERCLOVER_ROLE_LENGTH);
+    memcpy(expected.creds + FIRST + TILLERCLOVER_ROLE_LENGTH, three.bytes + TILLERCLOVER_HEADER_LENGTH, TILLERCLOVER_ROLE_LENGTH);
+    expect(same(&t, &expected), "a role that is over kept its place");
+    now = 0;
+}
+
 /* A record of no bytes and a buffer of none, with pointers and without. */
 static void no_bytes(void)
 {
@@ -609,6 +660,16 @@ static void print_creds(size_t length)
     }
 }
 
+/* The roles of a reply of roles. */
+static void print_roles(size_t length)
+{
+    for (size_t at = 0; at < length; at += TILLERCLOVER_ROLE_LENGTH) {
+        const uint8_t *role = reply + at;
+        printf("    role %u of authority %u up to second %lu\n", role[2] << 8 | role[3], role[0] << 8 | role[1],
+               (unsigned long)role[4] << 24 | (unsigned long)role[5] << 16 | (unsigned long)role[6] << 8 | role[7]);
+    }
+}
+
 /* The access list for the office. */
 static void print_list(tillerclover_tables t)
 {
@@ -626,6 +687,30 @@ static void print_tested(const char *what, const struct list *l)
         printf(", row %zu", said.row);
     }
     printf("\n");
+}
+
+/* One foreman is ill, and the other haulier's asserts the role for the day, from the morning to the end of the shift. */
+static void foremans_day(tillerclover_tables *t)
+{
+    const uint32_t evening = now + 8 * 3600;
+    struct record lamp = header(TILLERCLOVER_UPDATE, TILLERCLOVER_LAMP, OTHER_FOREMAN);
+    add(&lamp, "green", 5);
+    call(t, "in the morning it tries again", lamp);
+    call(t, "asserts the foremen's role until evening", assert_role(OTHER_FOREMAN, FOREMAN_ROLE, HAULIER_AUTHORITY, evening));
+    call(t, "and sets the lamp", lamp);
+    call(t, "and first aid until noon", assert_role(OTHER_FOREMAN, FIRST_AID_ROLE, WORKS, evening - 5 * 3600));
+    call(t, "and the gate's, a third", assert_role(OTHER_FOREMAN, GATE_ROLE, WORKS, evening));
+    print_roles(call(t, "reads its roles", read_roles(OTHER_FOREMAN)));
+    now = evening - 5 * 3600 + 1;
+    call(t, "after noon, the gate's", assert_role(OTHER_FOREMAN, GATE_ROLE, WORKS, evening));
+    call(t, "and an hour more as a foreman", assert_role(OTHER_FOREMAN, FOREMAN_ROLE, HAULIER_AUTHORITY, evening + 3600));
+    print_roles(call(t, "reads its roles", read_roles(OTHER_FOREMAN)));
+    call(t, "a stranger asserts one", assert_role(0, FOREMAN_ROLE, HAULIER_AUTHORITY, evening));
+    now = evening + 3600;
+    call(t, "in its last second the foreman", lamp);
+    now++;
+    call(t, "a second later", lamp);
+    print_roles(call(t, "and has no role left", read_roles(OTHER_FOREMAN)));
 }
 
 /* A row for the haulier's foremen in the harvest. */
@@ -689,6 +774,7 @@ int main(void)
     lists();
     tested_lists();
     clocks();
+    roles();
     no_bytes();
     printf("layout: %zu bytes of tables in an outcome of %zu, as in the library\n", sizeof(tillerclover_tables),
            sizeof(tillerclover_outcome));
@@ -732,6 +818,7 @@ int main(void)
     call(&t, "the haulier's foreman sets the lamp", lamp);
     lamp.bytes[3] = OTHER_FOREMAN;
     call(&t, "the other haulier's foreman tries to", lamp);
+    foremans_day(&t);
 
     call(&t, "the office polls the yard", header(TILLERCLOVER_RETRIEVE, TILLERCLOVER_YARD, OFFICE));
     struct record night = header(TILLERCLOVER_UPDATE, TILLERCLOVER_YARD, OFFICE);

@@ -33,9 +33,14 @@ enum {
     TILLERCLOVER_HEADER_LENGTH = 4,
     /* a longer record is refused with TILLERCLOVER_BAD_LENGTH */
     TILLERCLOVER_RECORD_MAX = 256,
-    /* a row, and the body that stores it; a body of 21 bytes, without the authority, also stores a row */
+    /* the body that stores a credential row; one of 21 bytes, without the authority, also stores a row */
     TILLERCLOVER_CRED_LENGTH = 23,
-    /* likewise; a body of 28 bytes, without the period, also stores a row */
+    /* the body that asserts a role, and its place in the credential row; a row has two */
+    TILLERCLOVER_ROLE_LENGTH = 8,
+    TILLERCLOVER_ROLE_CAPACITY = 2,
+    /* a credential row: its body and the places of asserted roles */
+    TILLERCLOVER_CRED_ROW_LENGTH = 39,
+    /* an access row, and the body that stores it; one of 28 bytes, without the period, also stores a row */
     TILLERCLOVER_ACE_LENGTH = 36,
     /* rows */
     TILLERCLOVER_CRED_CAPACITY = 24,
@@ -47,7 +52,7 @@ enum {
     /* the longest reply: a row owner and all access rows */
     TILLERCLOVER_REPLY_MAX = 1168,
     /* the longest text of tillerclover_access_list */
-    TILLERCLOVER_TEXT_MAX = 12237
+    TILLERCLOVER_TEXT_MAX = 13069
 };
 
 /* ---- Numbers in tables and records */
@@ -82,6 +87,8 @@ enum tillerclover_resource {
     TILLERCLOVER_PSTAT = 1,
     TILLERCLOVER_CRED = 2,
     TILLERCLOVER_ACL2 = 3,
+    /* the roles that a partner asserts; it has no row owner */
+    TILLERCLOVER_ROLES = 4,
     TILLERCLOVER_WEIGHT = 8,
     TILLERCLOVER_TARE = 9,
     TILLERCLOVER_ZERO = 10,
@@ -106,9 +113,9 @@ enum tillerclover_permission {
     TILLERCLOVER_MAY_ALL = 31
 };
 
-/* Answers. 1 to 16 are refusals of a record. The checks are made in this order, and the first that
- * applies is given: 1 to 7, then 16, then 8 to 15. 17 and 18 are tillerclover_access_list's, 19 to 21
- * tillerclover_test_list's. */
+/* Answers. 1 to 16 and 22 are refusals of a record. The checks are made in this order, and the first
+ * that applies is given: 1 to 7, then 16, then 8 to 14, then 22, then 15. 17 and 18 are
+ * tillerclover_access_list's, 19 to 21 tillerclover_test_list's. */
 enum tillerclover_answer {
     TILLERCLOVER_PERMITTED = 0,
     /* the tables are not sound */
@@ -130,7 +137,7 @@ enum tillerclover_answer {
     TILLERCLOVER_NOT_OFFERED = 9,
     /* the body of a security record has another length, or a forbidden value */
     TILLERCLOVER_MALFORMED = 10,
-    /* not in this device state */
+    /* not in this device state; a role is asserted in RFNOP only, and over AUTH_CRYPT only */
     TILLERCLOVER_WRONG_STATE = 11,
     /* the target state is not on the list of moves */
     TILLERCLOVER_BAD_TARGET = 12,
@@ -152,14 +159,16 @@ enum tillerclover_answer {
     /* a row that no record could store, or with the number of an earlier row */
     TILLERCLOVER_TEST_NOT_STORABLE = 20,
     /* a row that gives a role or a connection create, update or delete on a security resource */
-    TILLERCLOVER_TEST_EXCESSIVE = 21
+    TILLERCLOVER_TEST_EXCESSIVE = 21,
+    /* a role is asserted, and the sender's row holds two others in force */
+    TILLERCLOVER_ROLES_FULL = 22
 };
 
 /* ---- Structs */
 
 /* What a record is judged on.
  *
- * Every field is a byte or an array of bytes and there is no padding, so the 1,788 bytes may be
+ * Every field is a byte or an array of bytes and there is no padding, so the 2,172 bytes may be
  * kept in a file or in flash as they are. Any content is allowed: tables that are not sound, as
  * from worn memory, get TILLERCLOVER_NOT_SOUND for every record, and tillerclover_clear takes them.
  */
@@ -176,14 +185,21 @@ typedef struct tillerclover_tables {
     /* the row owners of doxm, pstat, cred and acl2, each a UUID or nil */
     uint8_t rowners[TILLERCLOVER_ROW_OWNERS * TILLERCLOVER_UUID_LENGTH];
     /* Rows in order of arrival, zeros behind the last. A credential row: number (16 bits), subject (128),
-     * role (16), the role's authority (16), type (6), two zero bits. A body without the authority stores
-     * authority 0, the works' own. Role 0 is none and has authority 0. */
-    uint8_t creds[TILLERCLOVER_CRED_CAPACITY * TILLERCLOVER_CRED_LENGTH];
+     * role (16), the role's authority (16), type (6), two zero bits, and two places for asserted roles. A
+     * body without the authority stores authority 0, the works' own. Role 0 is none and has authority 0.
+     *
+     * A place: authority (16), role (16), last second (32), or zeros. The partner asserts a role by an
+     * UPDATE of TILLERCLOVER_ROLES with these eight bytes, and has it from then on as if it were stored, up
+     * to its last second and with it. An assertion first takes those of the row away whose last second is
+     * before the clock; an equal role, of the same authority, gets the new last second in its place, any
+     * other stands behind. A row that is stored or deleted anew has lost its asserted roles, and fresh
+     * tables hold none. */
+    uint8_t creds[TILLERCLOVER_CRED_CAPACITY * TILLERCLOVER_CRED_ROW_LENGTH];
     /* An access row: number (16 bits), subject kind (2), permission (5), wildcards (3), six zero bits, set
      * of resources (64), subject (128), first second (32), last second (32). Of a role subject the last 32
-     * bits are authority and role, and it fits a credential with both. The row fits only while first <=
-     * clock <= last. A body without the two seconds stores 0 and 4,294,967,295. First is not later than
-     * last. */
+     * bits are authority and role, and it fits a credential row that has both, stored or asserted. The row
+     * fits only while first <= clock <= last. A body without the two seconds stores 0 and 4,294,967,295.
+     * First is not later than last. */
     uint8_t aces[TILLERCLOVER_ACE_CAPACITY * TILLERCLOVER_ACE_LENGTH];
 } tillerclover_tables;
 
@@ -242,10 +258,10 @@ typedef struct tillerclover_tested {
 
 /* The build's default rows.
  *
- * tillerclover_fresh, tillerclover_clear and tillerclover_judge take them as two lists: `creds`, rows
- * of TILLERCLOVER_CRED_LENGTH bytes one after the other, and `aces`, rows of TILLERCLOVER_ACE_LENGTH
- * bytes, each as the tables hold it, with the length of the list in bytes. A list has at most
- * TILLERCLOVER_DEFAULTS_MAX rows. One with more, with a row that no record could store, with a
+ * tillerclover_fresh, tillerclover_clear and tillerclover_judge take them as two lists: `creds`, of
+ * TILLERCLOVER_CRED_LENGTH bytes for a row, one after the other, and `aces`, of TILLERCLOVER_ACE_LENGTH
+ * bytes, each the longest body that stores the row, with the length of the list in bytes. A list has at
+ * most TILLERCLOVER_DEFAULTS_MAX rows. One with more, with a row that no record could store, with a
  * number twice or with half a row counts as none, by itself and wholly. Hand all calls of a terminal
  * the same lists: they belong to its build. A list of length 0 is none; its pointer is treated as
  * that of a record of length 0.
@@ -276,8 +292,10 @@ tillerclover_tables tillerclover_clear(tillerclover_tables tables, const uint8_t
  *         of a record of length 0.
  *
  * A permitted RETRIEVE of a security resource is replied to: doxm with its body of 17 bytes, pstat
- * with its byte, the present state as target; then for all four the row owner, a UUID; then for cred
- * and acl2 all rows in table order, each as the tables hold it.
+ * with its byte, the present state as target; then for these two, cred and acl2 the row owner, a UUID;
+ * then for cred and acl2 all rows in table order, each as the longest body that stores it, so without
+ * asserted roles. The reply of roles is the sender's own that are in force, in order of arrival,
+ * TILLERCLOVER_ROLE_LENGTH bytes each; over ANON_CLEAR it is empty.
  *
  * The tables that were handed in are not changed; the outcome holds those that hold from now on.
  * Who sent the record is believed: the session layer vouches for the connection bit and the
@@ -316,7 +334,7 @@ tillerclover_tested tillerclover_test_list(const uint8_t *rows, size_t length);
 
 /* ---- The layout that the library has */
 
-TILLERCLOVER_ASSERT(sizeof(tillerclover_tables) == 1788, "tables have 1,788 bytes");
+TILLERCLOVER_ASSERT(sizeof(tillerclover_tables) == 2172, "tables have 2,172 bytes");
 TILLERCLOVER_ASSERT(offsetof(tillerclover_tables, state) == 0, "state");
 TILLERCLOVER_ASSERT(offsetof(tillerclover_tables, owned) == 1, "owned");
 TILLERCLOVER_ASSERT(offsetof(tillerclover_tables, ncreds) == 2, "ncreds");
@@ -324,10 +342,10 @@ TILLERCLOVER_ASSERT(offsetof(tillerclover_tables, naces) == 3, "naces");
 TILLERCLOVER_ASSERT(offsetof(tillerclover_tables, devowner) == 4, "devowner");
 TILLERCLOVER_ASSERT(offsetof(tillerclover_tables, rowners) == 20, "rowners");
 TILLERCLOVER_ASSERT(offsetof(tillerclover_tables, creds) == 84, "creds");
-TILLERCLOVER_ASSERT(offsetof(tillerclover_tables, aces) == 636, "aces");
+TILLERCLOVER_ASSERT(offsetof(tillerclover_tables, aces) == 1020, "aces");
 
 TILLERCLOVER_ASSERT(sizeof(size_t) == 8, "the library is for 64 bits");
-TILLERCLOVER_ASSERT(sizeof(tillerclover_outcome) == 1856, "an outcome has 1,856 bytes");
+TILLERCLOVER_ASSERT(sizeof(tillerclover_outcome) == 2240, "an outcome has 2,240 bytes");
 TILLERCLOVER_ASSERT(offsetof(tillerclover_outcome, answer) == 0, "answer");
 TILLERCLOVER_ASSERT(offsetof(tillerclover_outcome, permission) == 1, "permission");
 TILLERCLOVER_ASSERT(offsetof(tillerclover_outcome, start) == 8, "start");

@@ -6,8 +6,8 @@ use crate::defaults::Defaults;
 use crate::hex;
 use crate::rules::{judge, Outcome, LONGEST_REPLY};
 use crate::tables::{
-    fresh_bytes, Access, Credential, Row, Stored, ACCESSES, ACCESS_COUNT, CREDENTIALS, CREDENTIAL_COUNT, DEVICE_OWNER,
-    OWNED, ROW_OWNERS, SIZE, STATE,
+    fresh_bytes, Access, Asserted, Credential, Row, Stored, ACCESSES, ACCESS_COUNT, CREDENTIALS, CREDENTIAL_COUNT,
+    DEVICE_OWNER, OWNED, ROW_OWNERS, SIZE, STATE,
 };
 
 /// Tables and a record that is judged on them.
@@ -118,6 +118,9 @@ impl Case {
         for place in 0..Access::CAPACITY {
             cases.push(self.without_row::<Access>(place, ACCESS_COUNT, ACCESSES.start));
         }
+        for place in 0..Credential::CAPACITY {
+            cases.extend(self.with_fewer_roles(place));
+        }
         let mut unowned = self.clone();
         unowned.tables[OWNED] = 0;
         unowned.tables[DEVICE_OWNER].fill(0);
@@ -154,27 +157,44 @@ impl Case {
         cases
     }
 
-    /// With the clock and all ends of periods so many seconds earlier, save the
-    /// first and the last second of all.
+    /// With the clock, all ends of periods and the last seconds of asserted roles
+    /// so many seconds earlier, save the first and the last second of all.
     fn with_ends_earlier(&self, seconds: u32) -> Case {
         let mut case = Case { clock: self.clock - seconds, ..self.clone() };
-        for row in case.tables[ACCESSES].chunks_exact_mut(Access::LENGTH) {
-            for end in row[Access::SHORT_BODY..].chunks_exact_mut(4) {
-                let second = u32::from_be_bytes(end.try_into().expect("four bytes"));
-                if second != u32::MAX {
-                    end.copy_from_slice(&second.saturating_sub(seconds).to_be_bytes());
-                }
+        let earlier = |end: &mut [u8]| {
+            let second = u32::from_be_bytes((&*end).try_into().expect("four bytes"));
+            if second != u32::MAX {
+                end.copy_from_slice(&second.saturating_sub(seconds).to_be_bytes());
             }
+        };
+        for row in case.tables[ACCESSES].chunks_exact_mut(Access::STORED) {
+            row[Access::SHORT_BODY..].chunks_exact_mut(4).for_each(earlier);
+        }
+        for row in case.tables[CREDENTIALS].chunks_exact_mut(Credential::STORED) {
+            row[Credential::LENGTH..].chunks_exact_mut(Asserted::LENGTH).for_each(|place| earlier(&mut place[4..]));
         }
         case
     }
 
+    /// Without both asserted roles of a row, without the first, and without the
+    /// second.
+    fn with_fewer_roles(&self, row: usize) -> [Case; 3] {
+        let start = CREDENTIALS.start + row * Credential::STORED + Credential::LENGTH;
+        let (second, end) = (start + Asserted::LENGTH, start + 2 * Asserted::LENGTH);
+        let mut cases = [self.clone(), self.clone(), self.clone()];
+        cases[0].tables[start..end].fill(0);
+        cases[1].tables.copy_within(second..end, start);
+        cases[1].tables[second..end].fill(0);
+        cases[2].tables[second..end].fill(0);
+        cases
+    }
+
     fn without_row<R: Row>(&self, row: usize, count: usize, start: usize) -> Case {
         let mut case = self.clone();
-        let end = start + R::CAPACITY * R::LENGTH;
-        let gap = start + row * R::LENGTH;
-        case.tables.copy_within(gap + R::LENGTH..end, gap);
-        case.tables[end - R::LENGTH..end].fill(0);
+        let end = start + R::CAPACITY * R::STORED;
+        let gap = start + row * R::STORED;
+        case.tables.copy_within(gap + R::STORED..end, gap);
+        case.tables[end - R::STORED..end].fill(0);
         case.tables[count] = case.tables[count].saturating_sub(1);
         case
     }
@@ -326,9 +346,14 @@ pub fn field(place: usize) -> String {
         _ if DEVICE_OWNER.contains(&place) => "device owner".into(),
         _ if ROW_OWNERS.contains(&place) => format!("row owner {}", (place - ROW_OWNERS.start) / 16),
         _ if CREDENTIALS.contains(&place) => {
-            format!("credential place {}", (place - CREDENTIALS.start) / Credential::LENGTH)
+            let (row, byte) =
+                ((place - CREDENTIALS.start) / Credential::STORED, (place - CREDENTIALS.start) % Credential::STORED);
+            match byte.checked_sub(Credential::LENGTH) {
+                None => format!("credential place {row}"),
+                Some(byte) => format!("asserted role {} of credential place {row}", byte / Asserted::LENGTH),
+            }
         }
-        _ => format!("access place {}", (place - ACCESSES.start) / Access::LENGTH),
+        _ => format!("access place {}", (place - ACCESSES.start) / Access::STORED),
     };
     format!("byte {place} ({name})")
 }
@@ -338,6 +363,7 @@ mod tests {
     use super::*;
     use crate::generate::{self, Style};
     use crate::random::Random;
+    use crate::tables::Tables;
 
     #[test]
     fn lines_read_and_write_alike() {
@@ -356,7 +382,7 @@ mod tests {
             assert!(Case::from_line(&case.line().replace(":4294967295:", ":4294967296:")).is_err());
         }
         assert!(Case::from_line("00:0:00:0").is_err());
-        assert!(Case::from_line("00:0:00:0::").unwrap_err().contains("1788"));
+        assert!(Case::from_line("00:0:00:0::").unwrap_err().contains("2172"));
         assert!(Case::from_line("0g:0:00:0::").is_err());
     }
 
@@ -475,11 +501,42 @@ mod tests {
     }
 
     #[test]
+    fn asserted_roles_shrink_to_one() {
+        // A program in which they last a second longer.
+        let wrong = |case: &Case| match Tables::read(&case.tables) {
+            Ok(mut tables) => {
+                for shown in tables.credentials.iter_mut().flat_map(|row| &mut row.asserted) {
+                    shown.last = shown.last.saturating_add(1);
+                }
+                Case { tables: tables.bytes(), ..case.clone() }.expected()
+            }
+            Err(_) => case.expected(),
+        };
+        let differs = |case: &Case| wrong(case).permission > case.expected().permission;
+        let mut random = Random::new(11);
+        let found = loop {
+            let tables = generate::any_sound(&mut random).bytes();
+            let clock = generate::clock(&mut random, &tables);
+            let record = generate::record(&mut random, Style::Purposeful, &tables, clock.saturating_sub(1));
+            let case = Case { clock, ..Case::new(&tables, &record) };
+            if clock > 900 && case.tables[CREDENTIAL_COUNT] > 5 && differs(&case) {
+                break case;
+            }
+        };
+        let small = shrink(found, differs);
+        let tables = Tables::read(&small.tables).expect("sound");
+        assert_eq!((small.clock, tables.credentials.len(), tables.accesses.len()), (1, 1, 1));
+        assert_eq!(tables.credentials[0].asserted.len(), 1);
+    }
+
+    #[test]
     fn fields_are_named() {
         assert_eq!(field(0), "byte 0 (state)");
         assert_eq!(field(83), "byte 83 (row owner 3)");
-        assert_eq!(field(635), "byte 635 (credential place 23)");
-        assert_eq!(field(636), "byte 636 (access place 0)");
-        assert_eq!(field(1787), "byte 1787 (access place 31)");
+        assert_eq!(field(84 + 22), "byte 106 (credential place 0)");
+        assert_eq!(field(84 + 23), "byte 107 (asserted role 0 of credential place 0)");
+        assert_eq!(field(1019), "byte 1019 (asserted role 1 of credential place 23)");
+        assert_eq!(field(1020), "byte 1020 (access place 0)");
+        assert_eq!(field(2171), "byte 2171 (access place 31)");
     }
 }

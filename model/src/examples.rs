@@ -7,7 +7,7 @@ use crate::record::{compose, device_owner_body, target_body, Verb};
 use crate::rules::LONGEST_REPLY;
 use crate::tables::{fresh_bytes, CREDENTIAL_COUNT};
 use crate::tables::{
-    Access, Connection, Credential, Period, Role, Row, State, Stored, Subject, Tables, Uuid, Wildcards,
+    Access, Asserted, Connection, Credential, Period, Role, Row, State, Stored, Subject, Tables, Uuid, Wildcards,
 };
 
 /// A record, the tables before it, and what is to come of it.
@@ -35,7 +35,11 @@ pub fn uuid(byte: u8) -> Uuid {
 }
 
 pub fn credential(number: u16, subject: Uuid) -> Credential {
-    Credential { number, subject, role: None, kind: 4 }
+    Credential { number, subject, role: None, kind: 4, asserted: Vec::new() }
+}
+
+pub fn asserted(authority: u16, number: u16, last: u32) -> Asserted {
+    Asserted { role: Role { authority, number }, last }
 }
 
 /// A row that holds for every second.
@@ -74,7 +78,9 @@ pub fn refusals() -> Vec<Example> {
     let full =
         Tables { credentials: (1..=24).map(|number| credential(number, uuid(0x22))).collect(), ..Tables::fresh() };
     let eleven = "11".repeat(16);
-    let rows: [(Stored, String); 16] = [
+    let mut shown = owned(State::Rfnop);
+    shown.credentials[0].asserted = vec![asserted(0, 7, u32::MAX), asserted(2, 7, 0)];
+    let rows: [(Stored, String); 17] = [
         (claims_25, "22 00 00 00".into()),
         (fresh, "40 80 00".into()),
         (fresh, "A2 00 00 00".into()),
@@ -91,8 +97,10 @@ pub fn refusals() -> Vec<Example> {
         (full.bytes(), format!("40 80 00 00 00 19 {eleven} 00 00 04")),
         (full.bytes(), "20 80 00 00".into()),
         (fresh, "22 40 00 00".into()),
+        (shown.bytes(), "51 00 00 05 0003 0007 00000009".into()),
     ];
-    (1..)
+    (1..=16)
+        .chain([22])
         .zip(rows)
         .map(|(answer, (tables, record))| Example {
             name: "refusal",
@@ -130,11 +138,14 @@ pub fn wrong_readings() -> Vec<Example> {
                 add("no wildcard on security", &wild, compose(Verb::Retrieve, resource, sender, &[]), 8, 0);
             }
         }
+        add("no wildcard on the roles", &wild, compose(Verb::Retrieve, 4, 0, &[]), 8, 0);
+        add("no wildcard on the roles", &wild, compose(Verb::Retrieve, 4, 6, &[]), 0, 6);
+        add("no wildcard on the roles", &wild, compose(Verb::Delete, 4, 6, &[]), 8, 0);
     }
 
     for state in State::ALL {
         let ownerless = owned(state);
-        for resource in 0..4 {
+        for resource in 0..=4 {
             add("nil fits nobody", &ownerless, compose(Verb::Retrieve, resource, 0, &[]), 8, 0);
         }
     }
@@ -251,6 +262,80 @@ pub fn decided() -> Vec<Example> {
     );
     examples.extend(seasons());
     examples.extend(yards());
+    examples.extend(roles_shown());
+    examples
+}
+
+/// Foremen who show a role on the day.
+fn roles_shown() -> Vec<Example> {
+    let mut examples = Vec::new();
+    let mut add = |name, tables: &Tables, clock, record, answer, permission| {
+        let room = LONGEST_REPLY;
+        examples.push(Example { name, tables: tables.bytes(), clock, record, room, answer, permission, set: 0 });
+    };
+    const MAX: u32 = u32::MAX;
+    let read = |sender| compose(Verb::Retrieve, 8, sender, &[]);
+    let show = |sender, body: &str| compose(Verb::Update, 4, sender, &hex::literal(body));
+
+    let with_foreman = |state, shown: &[Asserted]| {
+        let mut tables = with_access(state, vec![access(1, role(2, 7), 2, 0, &[8]), access(2, role(2, 8), 4, 0, &[8])]);
+        tables.credentials.push(Credential { asserted: shown.to_vec(), ..credential(6, uuid(0x66)) });
+        tables
+    };
+    let none = with_foreman(State::Rfnop, &[]);
+    add("no role is shown", &none, 0, read(6), 8, 0);
+    let one = with_foreman(State::Rfnop, &[asserted(2, 7, 1000)]);
+    for (clock, answer, permission) in [(0, 0, 2), (999, 0, 2), (1000, 0, 2), (1001, 8, 0), (MAX, 8, 0)] {
+        add("a role up to its last second", &one, clock, read(6), answer, permission);
+    }
+    add("another's role", &one, 0, read(5), 8, 0);
+    let two = with_foreman(State::Rfnop, &[asserted(2, 8, 1000), asserted(2, 7, 2000)]);
+    for (clock, answer, permission) in [(1000, 0, 6), (1001, 0, 2), (2000, 0, 2), (2001, 8, 0)] {
+        add("two roles unite", &two, clock, read(6), answer, permission);
+    }
+    let near = with_foreman(State::Rfnop, &[asserted(0, 7, MAX), asserted(7, 2, MAX)]);
+    add("a role of another authority", &near, 0, read(6), 8, 0);
+
+    add("a partner shows a role", &none, 0, show(6, "0002 0007 000003e8"), 0, 6);
+    add("the owner shows a role", &none, 0, show(5, "0002 0007 000003e8"), 0, 31);
+    add("nobody shows a role", &none, 0, show(0, "0002 0007 000003e8"), 8, 0);
+    add("a role that is over is shown", &none, 1001, show(6, "0002 0007 000003e8"), 0, 6);
+    for state in [State::Rfotm, State::Rfpro, State::Sreset] {
+        add("roles are shown in RFNOP only", &with_foreman(state, &[]), 0, show(6, "0002 0007 000003e8"), 11, 0);
+    }
+    let unowned = Tables { device_owner: None, ..with_foreman(State::Rfotm, &[]) };
+    add("nobody shows a role to nobody's terminal", &unowned, 0, show(0, "0002 0007 000003e8"), 11, 0);
+    add("nor does a partner", &unowned, 0, show(6, "0002 0007 000003e8"), 11, 0);
+    let open = Tables { accesses: vec![access(1, ANON, 6, 0, &[4])], ..none.clone() };
+    add("a row lets nobody show a role", &open, 0, show(0, "0002 0007 000003e8"), 11, 0);
+    add("a row lets nobody read roles", &open, 0, compose(Verb::Retrieve, 4, 0, &[]), 0, 6);
+    add("another source of permission", &open, 0, compose(Verb::Retrieve, 4, 6, &[]), 0, 6);
+    let more = Tables { accesses: vec![access(1, AUTH, 25, 0, &[4])], ..none.clone() };
+    add("another source of permission", &more, 0, compose(Verb::Retrieve, 4, 6, &[]), 0, 31);
+    add("CREATE is not offered", &more, 0, compose(Verb::Create, 4, 6, &[]), 9, 0);
+    add("DELETE is not offered", &more, 0, compose(Verb::Delete, 4, 6, &[]), 9, 0);
+    add("DELETE is not permitted", &none, 0, compose(Verb::Delete, 4, 6, &[]), 8, 0);
+    add("DELETE by the owner", &none, 0, compose(Verb::Delete, 4, 5, &[]), 9, 0);
+    for body in ["", "0002 0007 0003e8", "0002 0007 000003e800", "0002 0000 000003e8", &"11".repeat(16)] {
+        add("no role in the body", &none, 0, show(6, body), 10, 0);
+        add("no role in the body, before the state", &with_foreman(State::Rfpro, &[]), 0, show(6, body), 10, 0);
+    }
+
+    let full = with_foreman(State::Rfnop, &[asserted(2, 7, 1000), asserted(2, 8, 2000)]);
+    add("a third role", &full, 1000, show(6, "0003 0007 ffffffff"), 22, 0);
+    add("a third role, once one is over", &full, 1001, show(6, "0003 0007 ffffffff"), 0, 6);
+    add("a third role, once both are over", &full, 2001, show(6, "0003 0007 ffffffff"), 0, 6);
+    add("an equal role", &full, 1000, show(6, "0002 0008 00000000"), 0, 6);
+    add("another's places", &full, 1000, show(5, "0003 0007 ffffffff"), 0, 31);
+
+    for state in State::ALL {
+        let read = with_foreman(state, &[asserted(2, 7, 9)]);
+        add("roles are read in every state", &read, 0, compose(Verb::Retrieve, 4, 6, &[]), 0, 6);
+        add("roles are observed in every state", &read, 0, compose(Verb::Observe, 4, 6, &[]), 0, 6);
+        add("no body to a read", &read, 0, compose(Verb::Retrieve, 4, 6, &[0]), 10, 0);
+        add("nobody reads roles", &read, 0, compose(Verb::Retrieve, 4, 0, &[]), 8, 0);
+    }
+    add("anybody reads nobody's terminal", &unowned, 0, compose(Verb::Retrieve, 4, 0, &[]), 0, 31);
     examples
 }
 
@@ -394,7 +479,7 @@ mod tests {
     #[test]
     fn every_refusal() {
         let examples = refusals();
-        assert_eq!(examples.len(), 16);
+        assert_eq!(examples.len(), 17);
         check(examples);
     }
 

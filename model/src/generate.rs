@@ -2,7 +2,7 @@
 
 use crate::case::Case;
 use crate::defaults::{join, Defaults, MOST};
-use crate::directory::{self, DIRECTORY, LINKS, YARD};
+use crate::directory::{self, DIRECTORY, LINKS, ROLES, YARD};
 use crate::examples;
 use crate::random::Random;
 use crate::record::{compose, device_owner_body, target_body, Header, Verb, HEADER, LONGEST};
@@ -11,8 +11,8 @@ use crate::run::LONGEST_RUN;
 use crate::spoil;
 use crate::systematic;
 use crate::tables::{
-    fresh_bytes, uuid_bytes, Access, Connection, Credential, Period, Role, Row, State, Stored, Subject, Tables, Uuid,
-    Wildcards, SIZE,
+    fresh_bytes, uuid_bytes, Access, Asserted, Connection, Credential, Period, Role, Row, State, Stored, Subject,
+    Tables, Uuid, Wildcards, SIZE,
 };
 
 // Values from small pools, so that they meet again, and near misses of them.
@@ -27,7 +27,7 @@ const SUBJECTS: [u128; 8] = [
     0x8000_0000_0000_0000_0000_0000_0000_0000,
     0x0000_0000_0000_0000_0001_0000_0000_0000,
 ];
-const ROLES: [u16; 6] = [1, 7, 0x0700, 0x0100, 0x8000, 0xFFFF];
+const ROLE_NUMBERS: [u16; 6] = [1, 7, 0x0700, 0x0100, 0x8000, 0xFFFF];
 const AUTHORITIES: [u16; 6] = [1, 0x0100, 7, 0x0700, 0x8000, 0xFFFF];
 const SECONDS: [u32; 12] = [
     0,
@@ -63,8 +63,8 @@ fn maybe_uuid(random: &mut Random) -> Option<Uuid> {
 fn role(random: &mut Random) -> Role {
     let number = match random.below(20) {
         0 => random.between(1, 0xFFFF) as u16,
-        1..=12 => random.pick(&ROLES[..2]),
-        _ => random.pick(&ROLES),
+        1..=12 => random.pick(&ROLE_NUMBERS[..2]),
+        _ => random.pick(&ROLE_NUMBERS),
     };
     let authority = match random.below(20) {
         0 => random.between(0, 0xFFFF) as u16,
@@ -101,13 +101,22 @@ fn period(random: &mut Random) -> Period {
     Period { first, last }
 }
 
-/// A clock, mostly at or beside an end of a period that a row has.
+/// A clock, mostly at or beside the last second of a role that is shown, or an
+/// end of a period that a row has.
 pub fn clock(random: &mut Random, present: &Stored) -> u32 {
-    let rows = match Tables::read(present) {
-        Ok(tables) => tables.accesses,
-        Err(_) => Vec::new(),
-    };
-    let short: Vec<Period> = rows.iter().map(|row| row.period).filter(|&period| period != Period::ALWAYS).collect();
+    let tables = Tables::read(present).unwrap_or_else(|_| Tables::fresh());
+    let shown: Vec<Asserted> = tables.credentials.iter().flat_map(|row| &row.asserted).copied().collect();
+    if !shown.is_empty() && random.chance(40) {
+        let Asserted { last, .. } = random.pick(&shown);
+        return match random.below(6) {
+            0 | 1 => last,
+            2 | 3 => last.saturating_add(1),
+            4 => last.saturating_sub(1),
+            _ => last ^ 1 << random.below(32),
+        };
+    }
+    let periods = tables.accesses.iter().map(|row| row.period);
+    let short: Vec<Period> = periods.filter(|&period| period != Period::ALWAYS).collect();
     let kind = random.below(20);
     if short.is_empty() || kind < 5 {
         return match random.below(6) {
@@ -154,12 +163,25 @@ pub fn credential(random: &mut Random, held: &[u16]) -> Credential {
         subject: uuid(random),
         role: random.chance(50).then(|| role(random)),
         kind: random.pick(&[0, 1, 2, 4, 8, 16, 32]),
+        asserted: asserted(random),
     }
+}
+
+/// The roles that a partner has shown, mostly none.
+fn asserted(random: &mut Random) -> Vec<Asserted> {
+    let mut shown: Vec<Asserted> = Vec::new();
+    while shown.len() < Asserted::CAPACITY && random.chance(50) {
+        let role = role(random);
+        if shown.iter().all(|held| held.role != role) {
+            shown.push(Asserted { role, last: if random.chance(35) { u32::MAX } else { second(random) } });
+        }
+    }
+    shown
 }
 
 /// Makes the role of an access row one that a partner has, or one beside it.
 fn meet(random: &mut Random, row: &mut Access, partners: &[Credential]) {
-    let held: Vec<Role> = partners.iter().filter_map(|partner| partner.role).collect();
+    let held: Vec<Role> = partners.iter().flat_map(|partner| partner.roles(0)).collect();
     let Subject::Role(role) = &mut row.subject else {
         return;
     };
@@ -524,16 +546,17 @@ pub fn room(random: &mut Random, case: &Case) -> usize {
     }
 }
 
-/// A record without its sender.
+/// A record without its sender, or with one who should send it.
 struct Wish {
     verb: Verb,
     resource: u8,
     body: Vec<u8>,
+    sender: Option<u16>,
 }
 
 impl Wish {
     fn new(verb: Verb, resource: u8, body: Vec<u8>) -> Wish {
-        Wish { verb, resource, body }
+        Wish { verb, resource, body, sender: None }
     }
 
     /// The senders with an endpoint and the permission for it.
@@ -549,13 +572,14 @@ impl Wish {
         anon.into_iter().chain(partners.map(Row::number)).collect()
     }
 
-    /// From a permitted sender in so many of a hundred cases, if there is one.
+    /// From the right or a permitted sender in so many of a hundred cases, if
+    /// there is one.
     fn sent(&self, random: &mut Random, tables: &Tables, clock: u32, percent: usize) -> Vec<u8> {
         let permitted = self.permitted(tables, clock);
-        let sender = if !permitted.is_empty() && random.chance(percent) {
-            random.pick(&permitted)
-        } else {
-            any_sender(random, tables)
+        let sender = match self.sender {
+            Some(sender) if random.chance(percent) => sender,
+            None if !permitted.is_empty() && random.chance(percent) => random.pick(&permitted),
+            _ => any_sender(random, tables),
         };
         compose(self.verb, self.resource, sender, &self.body)
     }
@@ -657,8 +681,52 @@ fn set_device_owner(owner: Option<Uuid>) -> Wish {
     Wish::new(Verb::Update, 0, device_owner_body(owner))
 }
 
-fn read_security(random: &mut Random) -> Wish {
-    Wish::new(random.weighted(&[(4, Verb::Retrieve), (1, Verb::Observe)]), random.below(4) as u8, Vec::new())
+fn read_security(random: &mut Random, tables: &Tables) -> Wish {
+    let verb = random.weighted(&[(4, Verb::Retrieve), (1, Verb::Observe)]);
+    let resource = random.weighted(&[(6, 0), (6, 1), (6, 2), (6, 3), (10, ROLES)]);
+    // The roles, mostly by somebody who has some.
+    let sender = (resource == ROLES && random.chance(80)).then(|| foreman(random, tables)).flatten();
+    Wish { sender: sender.map(Row::number), ..Wish::new(verb, resource, Vec::new()) }
+}
+
+/// A partner, mostly one who has shown a role.
+fn foreman<'a>(random: &mut Random, tables: &'a Tables) -> Option<&'a Credential> {
+    let foremen: Vec<&Credential> = tables.credentials.iter().filter(|row| !row.asserted.is_empty()).collect();
+    let partners = &tables.credentials;
+    match (foremen.is_empty(), partners.is_empty()) {
+        (false, _) if random.chance(75) => Some(random.pick(&foremen)),
+        (_, false) => Some(&partners[random.below(partners.len())]),
+        (_, true) => None,
+    }
+}
+
+/// A partner shows a role: often one that an access row is for, or one that it
+/// has shown before.
+fn show_role(random: &mut Random, tables: &Tables, clock: u32) -> Wish {
+    let wanted = |row: &Access| match row.subject {
+        Subject::Role(role) => Some(role),
+        _ => None,
+    };
+    let wanted: Vec<Role> = tables.accesses.iter().filter_map(wanted).collect();
+    let partner = foreman(random, tables);
+    let shown: Vec<Role> = partner.iter().flat_map(|row| &row.asserted).map(|shown| shown.role).collect();
+    let role = match random.below(10) {
+        0..=2 if !shown.is_empty() => random.pick(&shown),
+        3..=6 if !wanted.is_empty() => random.pick(&wanted),
+        _ => role(random),
+    };
+    let last = match random.below(10) {
+        0 => clock,
+        1 => clock.saturating_sub(1),
+        2 | 3 => clock.saturating_add(random.below(3) as u32),
+        4..=8 => u32::MAX,
+        _ => second(random),
+    };
+    let mut body = Asserted { role, last }.bytes();
+    if random.chance(4) {
+        body[2..4].fill(0);
+    }
+    Wish { sender: partner.map(Row::number), ..Wish::new(Verb::Update, ROLES, body) }
 }
 
 fn application(random: &mut Random) -> Wish {
@@ -691,16 +759,18 @@ fn purposeful(random: &mut Random, tables: &Tables, clock: u32) -> Wish {
         GiveUp,
         Read,
         Use,
+        ShowRole,
         Target(u8),
     }
     use Step::*;
     // Now and then out of place.
     if random.chance(4) {
-        return match random.below(5) {
+        return match random.below(6) {
             0 => store_credential(random, tables),
             1 => store_access(random, tables),
             2 => delete_row(random, tables, 30),
             3 => delete_subject(random, tables, 20),
+            4 => show_role(random, tables, clock),
             _ => target(random.between(1, 4) as u8),
         };
     }
@@ -739,7 +809,7 @@ fn purposeful(random: &mut Random, tables: &Tables, clock: u32) -> Wish {
             (3, Target(4)),
             (1, Target(0)),
         ],
-        State::Rfnop => &[(85, Use), (12, Read), (4, Target(2)), (2, Target(4)), (1, Target(0))],
+        State::Rfnop => &[(65, Use), (28, ShowRole), (15, Read), (4, Target(2)), (2, Target(4)), (1, Target(0))],
         State::Sreset => &[
             (15, RowOwner),
             (12, Claim),
@@ -765,7 +835,7 @@ fn purposeful(random: &mut Random, tables: &Tables, clock: u32) -> Wish {
         }
         Claim => set_device_owner(Some(held_subject(random, tables))),
         GiveUp => set_device_owner(None),
-        Read => read_security(random),
+        Read => read_security(random, tables),
         Use => {
             let mut wish = application(random);
             for _ in 0..12 {
@@ -775,6 +845,7 @@ fn purposeful(random: &mut Random, tables: &Tables, clock: u32) -> Wish {
             }
             wish
         }
+        ShowRole => show_role(random, tables, clock),
         Target(state) => target(state),
     }
 }
@@ -794,13 +865,15 @@ fn mixed(random: &mut Random, tables: &Tables, clock: u32) -> Vec<u8> {
         (8, 9),
         (3, 10),
         (8, 11),
+        (if tables.state == State::Rfnop { 25 } else { 5 }, 12),
     ]) {
         0 => application(random),
-        1 => read_security(random),
+        1 => read_security(random, tables),
         2 => store_credential(random, tables),
         3 => store_access(random, tables),
         4 => delete_row(random, tables, 60),
         11 => delete_subject(random, tables, 40),
+        12 => show_role(random, tables, clock),
         5 => delete_all(random),
         6 => {
             let owner = maybe_uuid(random);
@@ -812,9 +885,9 @@ fn mixed(random: &mut Random, tables: &Tables, clock: u32) -> Vec<u8> {
         }
         8 => target(if random.chance(10) { 0 } else { random.between(1, 4) as u8 }),
         9 => {
-            let length = random.pick(&[0, 1, 2, 16, 17, 21, 23, 28, 36]);
+            let length = random.pick(&[0, 1, 2, 8, 16, 17, 21, 23, 28, 36]);
             let body = if random.chance(50) { vec![0; length] } else { random.bytes(length) };
-            Wish::new(random.pick(&Verb::ALL), random.below(4) as u8, body)
+            Wish::new(random.pick(&Verb::ALL), random.below(5) as u8, body)
         }
         _ => {
             let resource = spoil::unknown_resource(random) as u8;
@@ -989,8 +1062,8 @@ fn append(input: &mut Vec<u8>, clock: u32, record: &[u8]) {
 #[cfg(test)]
 mod tests {
     use super::*;
-    use crate::histogram::{Clocks, Histogram, Places, Replies, Resets, Sets, Subjects};
-    use crate::rules::LAST_ANSWER;
+    use crate::histogram::{Clocks, Histogram, Places, Replies, Resets, Roles, Sets, Subjects};
+    use crate::rules::ANSWERS;
     use crate::run;
 
     #[test]
@@ -1007,9 +1080,9 @@ mod tests {
             random.add(case, &outcome);
             outcome.tables
         });
-        for answer in 0..=LAST_ANSWER as usize {
+        for answer in ANSWERS.map(usize::from) {
             assert!(systematic.answers[answer] >= 50, "systematic {answer}: {systematic}");
-            assert!(random.answers[answer] >= 200, "random {answer}: {random}");
+            assert!(random.answers[answer] >= 150, "random {answer}: {random}");
         }
         for histogram in [systematic, random] {
             let Replies { exact, to_spare, one_too_short, no_buffer, otherwise_too_short } = histogram.replies;
@@ -1030,6 +1103,10 @@ mod tests {
             assert!(unasked >= 100, "{histogram}");
             // No partner reaches all seven: one of them has no secure endpoint.
             assert!(sizes[..7].iter().all(|&count| count >= 5) && sizes[7] == 0, "{histogram}");
+            let Roles { added, prolonged, removed, past, opening, replied } = histogram.roles;
+            for count in [added, prolonged, removed, past, opening].into_iter().chain(replied) {
+                assert!(count >= 50, "{histogram}");
+            }
         }
     }
 

@@ -1,16 +1,16 @@
 //! How often each answer came, what was permitted, how the replies fitted, how
 //! many rows the deletes by subject found, which places deletes report, which
-//! default rows resets gave, how the clocks stood to the periods of rows, and how
-//! many links the yard answered.
+//! default rows resets gave, how the clocks stood to the periods of rows, how
+//! many links the yard answered, and what became of the roles that were shown.
 
 use std::fmt;
 
 use crate::case::Case;
 use crate::defaults::Defaults;
-use crate::directory::{self, Security, DIRECTORY, YARD};
+use crate::directory::{self, Security, DIRECTORY, ROLES, YARD};
 use crate::record::{Header, Verb, HEADER};
-use crate::rules::{fits, judge, Outcome, Refusal, Sender, LAST_ANSWER, LONGEST_REPLY};
-use crate::tables::{Period, Tables, CREDENTIAL_COUNT};
+use crate::rules::{effective_permission, fits, judge, Outcome, Refusal, Sender, ANSWERS, LAST_ANSWER, LONGEST_REPLY};
+use crate::tables::{Asserted, Credential, Period, Tables, CREDENTIAL_COUNT};
 
 #[derive(Clone, Default)]
 pub struct Histogram {
@@ -23,6 +23,57 @@ pub struct Histogram {
     pub resets: Resets,
     pub clocks: Clocks,
     pub sets: Sets,
+    pub roles: Roles,
+}
+
+/// Roles that partners show.
+#[derive(Clone, Default)]
+pub struct Roles {
+    /// Permitted UPDATEs that add a role.
+    pub added: u64,
+    /// Permitted UPDATEs that give an equal role a new last second.
+    pub prolonged: u64,
+    /// Permitted UPDATEs that remove a role that has run out.
+    pub removed: u64,
+    /// Permitted UPDATEs with a last second before the clock.
+    pub past: u64,
+    /// Records whose permission is larger for a role that is shown.
+    pub opening: u64,
+    /// Replies to partners, by the roles in force.
+    pub replied: [u64; 3],
+}
+
+impl Roles {
+    /// For a record that gets as far as its permission.
+    fn add(&mut self, case: &Case, outcome: &Outcome, tables: &Tables) {
+        let header = Header::read(&case.record);
+        let (Some(row), Some(resource)) = (tables.credential(header.credential), directory::find(header.resource))
+        else {
+            return;
+        };
+        let permission = |row| effective_permission(tables, Sender::Partner(row), resource, case.clock);
+        let bare = Credential { asserted: Vec::new(), ..row.clone() };
+        self.opening += u64::from(!row.asserted.is_empty() && permission(row) != permission(&bare));
+        if outcome.answer != 0 || header.resource != ROLES {
+            return;
+        }
+        match Verb::from_number(header.verb) {
+            Some(Verb::Retrieve) => self.replied[outcome.reply.len() / Asserted::LENGTH] += 1,
+            Some(Verb::Update) => {
+                let Some(shown) = Asserted::from_body(&case.record[HEADER..]) else {
+                    return;
+                };
+                let (held, over): (Vec<&Asserted>, Vec<&Asserted>) =
+                    row.asserted.iter().partition(|held| held.in_force(case.clock));
+                let count =
+                    if held.iter().any(|held| held.role == shown.role) { &mut self.prolonged } else { &mut self.added };
+                *count += 1;
+                self.removed += u64::from(!over.is_empty());
+                self.past += u64::from(!shown.in_force(case.clock));
+            }
+            _ => {}
+        }
+    }
 }
 
 /// Permitted records to the yard.
@@ -51,10 +102,8 @@ pub struct Clocks {
 }
 
 impl Clocks {
-    fn add(&mut self, case: &Case) {
-        let Ok(tables) = Tables::read(&case.tables) else {
-            return;
-        };
+    /// For a record that gets as far as its permission.
+    fn add(&mut self, case: &Case, tables: &Tables) {
         let header = Header::read(&case.record);
         let Some(resource) = directory::find(header.resource) else {
             return;
@@ -64,7 +113,7 @@ impl Clocks {
             None => Sender::Unauthenticated,
         };
         let clock = case.clock;
-        for row in tables.accesses.iter().filter(|row| fits(row, sender, resource)) {
+        for row in tables.accesses.iter().filter(|row| fits(row, sender, resource, clock)) {
             let Period { first, last } = row.period;
             let count = match clock {
                 _ if row.period == Period::ALWAYS => continue,
@@ -131,7 +180,9 @@ impl Histogram {
         let record = &case.record;
         self.answers[outcome.answer as usize] += 1;
         if !matches!(outcome.answer, 1..=7 | 16) {
-            self.clocks.add(case);
+            let tables = Tables::read(&case.tables).expect("sound after check 1");
+            self.clocks.add(case, &tables);
+            self.roles.add(case, outcome, &tables);
         }
         if outcome.answer == Refusal::BufferTooShort as u8 {
             let fits = judge(&Case { room: LONGEST_REPLY, ..case.clone() }).reply.len();
@@ -205,7 +256,8 @@ impl fmt::Display for Histogram {
     fn fmt(&self, out: &mut fmt::Formatter) -> fmt::Result {
         let total = self.total().max(1);
         writeln!(out, "answer    records  share")?;
-        for (answer, count) in self.answers.iter().enumerate() {
+        for answer in ANSWERS {
+            let count = self.answers[answer as usize];
             let tenths = count * 1000 / total;
             writeln!(out, "{answer:>6} {count:>10} {:>4}.{} %", tenths / 10, tenths % 10)?;
         }
@@ -248,6 +300,14 @@ impl fmt::Display for Histogram {
         for count in sizes {
             write!(out, " {count}")?;
         }
-        writeln!(out, "; {unasked} not asked for")
+        writeln!(out, "; {unasked} not asked for")?;
+        let Roles { added, prolonged, removed, past, opening, replied } = self.roles;
+        let [none, one, two] = replied;
+        writeln!(
+            out,
+            "roles shown: {added} more, {prolonged} with a new last second, {past} already over, {removed} times others \
+             removed,\n{:13}{opening} records reach further by one; replies with none {none}, one {one}, two {two}",
+            ""
+        )
     }
 }

@@ -18,7 +18,7 @@ pub struct Tables {
     naces: u8,
     devowner: [u8; 16],
     rowners: [u8; 64],
-    creds: [u8; 552],
+    creds: [u8; 936],
     aces: [u8; 1152],
 }
 
@@ -50,7 +50,7 @@ pub struct Verdict {
 
 const _: () = assert!(size_of::<Tables>() == tables::SIZE);
 const _: () = assert!(offset_of!(Outcome, set) == 48 && offset_of!(Outcome, tables) == 64);
-const _: () = assert!(size_of::<Outcome>() == 1856);
+const _: () = assert!(size_of::<Outcome>() == 2240);
 
 #[link(name = "terminal", kind = "static")]
 extern "C" {

@@ -5,8 +5,8 @@ use crate::directory;
 use crate::random::Random;
 use crate::record::{CREATE_BIT, DELETE_BIT, UPDATE_BIT};
 use crate::tables::{
-    Access, Credential, Row, Stored, ACCESSES, ACCESS_COUNT, CREDENTIALS, CREDENTIAL_COUNT, DEVICE_OWNER, OWNED, SIZE,
-    STATE,
+    Access, Asserted, Credential, Row, Stored, ACCESSES, ACCESS_COUNT, CREDENTIALS, CREDENTIAL_COUNT, DEVICE_OWNER,
+    OWNED, SIZE, STATE,
 };
 
 /// A fault of a row: afterwards the row is forbidden, whatever it was.
@@ -84,6 +84,36 @@ pub const AUTHORITY_BESIDE_ROLE_0: RowFault = ("authority beside role 0", |row, 
     row[18..22].fill(0);
     row[20 + random.below(2)] = random.between(1, 255) as u8;
 });
+
+/// Faults of the two places of asserted roles that a credential row has.
+pub const PLACE_FAULTS: [RowFault; 5] = [
+    ("second place before the first", |places, random| {
+        places.fill(0);
+        places[8 + random.below(8)] = random.between(1, 255) as u8;
+        places[8 + 3] |= 1;
+    }),
+    ("byte beside no role, first", |places, random| {
+        places.fill(0);
+        places[random.pick(&[0, 1, 4, 5, 6, 7])] = random.between(1, 255) as u8;
+        if random.chance(50) {
+            places[8 + 3] = 7;
+        }
+    }),
+    ("byte beside no role, second", |places, random| {
+        places[3] |= 1;
+        places[8..].fill(0);
+        places[8 + random.pick(&[0, 1, 4, 5, 6, 7])] = random.between(1, 255) as u8;
+    }),
+    ("equal roles", |places, _| {
+        places[3] |= 1;
+        places.copy_within(..8, 8);
+    }),
+    ("equal roles with other last seconds", |places, random| {
+        places[3] |= 1;
+        places.copy_within(..8, 8);
+        places[8 + 4 + random.below(4)] ^= 1 << random.below(8);
+    }),
+];
 
 fn set_kind(row: &mut [u8], kind: u8) {
     row[2] = row[2] & 0x3F | kind << 6;
@@ -167,7 +197,7 @@ fn open(row: &mut [u8], random: &mut Random) {
 /// sound no longer.
 pub type TableFault = (&'static str, fn(&mut Stored, &mut Random) -> bool);
 
-pub const TABLE_FAULTS: [TableFault; 20] = [
+pub const TABLE_FAULTS: [TableFault; 21] = [
     ("state 0", |stored, _| {
         stored[STATE] = 0;
         true
@@ -232,6 +262,10 @@ pub const TABLE_FAULTS: [TableFault; 20] = [
     ("first later than last", |stored, random| {
         spoil_row::<Access>(stored, random, FIRST_LATER_THAN_LAST, ACCESS_COUNT, ACCESSES.start)
     }),
+    ("forbidden asserted roles", |stored, random| {
+        let fault = random.pick(&PLACE_FAULTS);
+        spoil_places(stored, random, fault)
+    }),
 ];
 
 fn over(capacity: usize, random: &mut Random) -> u8 {
@@ -263,7 +297,7 @@ fn byte_behind<R: Row>(stored: &mut Stored, random: &mut Random, count: usize, s
     if used >= R::CAPACITY {
         return false;
     }
-    let place = random.between(start + used * R::LENGTH, start + R::CAPACITY * R::LENGTH - 1);
+    let place = random.between(start + used * R::STORED, start + R::CAPACITY * R::STORED - 1);
     stored[place] = random.between(1, 255) as u8;
     true
 }
@@ -275,8 +309,8 @@ fn number_twice<R: Row>(stored: &mut Stored, random: &mut Random, count: usize, 
     }
     let first = random.below(used);
     let second = (first + random.between(1, used - 1)) % used;
-    let number = start + first * R::LENGTH;
-    stored.copy_within(number..number + 2, start + second * R::LENGTH);
+    let number = start + first * R::STORED;
+    stored.copy_within(number..number + 2, start + second * R::STORED);
     true
 }
 
@@ -285,8 +319,19 @@ fn spoil_row<R: Row>(stored: &mut Stored, random: &mut Random, fault: RowFault, 
     if !(1..=R::CAPACITY).contains(&used) {
         return false;
     }
-    let place = start + random.below(used) * R::LENGTH;
+    let place = start + random.below(used) * R::STORED;
     (fault.1)(&mut stored[place..place + R::LENGTH], random);
+    true
+}
+
+/// Makes the places of a row forbidden.
+fn spoil_places(stored: &mut Stored, random: &mut Random, fault: RowFault) -> bool {
+    let used = stored[CREDENTIAL_COUNT] as usize;
+    if !(1..=Credential::CAPACITY).contains(&used) {
+        return false;
+    }
+    let place = CREDENTIALS.start + random.below(used) * Credential::STORED;
+    (fault.1)(&mut stored[place + Credential::LENGTH..place + Credential::STORED], random);
     true
 }
 
@@ -320,6 +365,7 @@ pub fn spoil_body(body: &mut Vec<u8>, random: &mut Random) {
     match body.len() {
         1 => body[0] = if random.chance(50) { random.byte() | 0xA0 } else { body[0] | 1 << random.below(5) },
         2 | 16 => body.fill(0),
+        Asserted::LENGTH => body[2..4].fill(0),
         17 => match random.below(3) {
             0 => body[0] ^= 0x80,
             1 => body[0] |= 1 << random.below(7),
@@ -390,6 +436,11 @@ mod tests {
                 let mut body = generate::credential(&mut random, &[]).short_body();
                 fault(&mut body, &mut random);
                 assert_eq!(Credential::from_body(&body), None, "{name}, no authority");
+            }
+            for (name, fault) in PLACE_FAULTS {
+                let mut row = generate::credential(&mut random, &[]).stored();
+                fault(&mut row[Credential::LENGTH..], &mut random);
+                assert_eq!(Credential::from_stored(&row), None, "{name}");
             }
             for (name, fault) in ACCESS_FAULTS {
                 let mut row = generate::access(&mut random, &[]).bytes();

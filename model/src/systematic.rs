@@ -2,15 +2,15 @@
 //! tables.
 
 use crate::defaults::Defaults;
-use crate::directory::{self, DIRECTORY, LINKS, YARD};
-use crate::examples::{self, access, owned, role, uuid, ANON, AUTH};
+use crate::directory::{self, DIRECTORY, LINKS, ROLES, YARD};
+use crate::examples::{self, access, asserted, credential, owned, role, uuid, ANON, AUTH};
 use crate::generate;
 use crate::random::Random;
 use crate::record::{compose, device_owner_body, target_body, Header, Verb};
-use crate::spoil::{ACCESS_FAULTS, CREDENTIAL_FAULTS, TABLE_FAULTS};
+use crate::spoil::{ACCESS_FAULTS, CREDENTIAL_FAULTS, PLACE_FAULTS, TABLE_FAULTS};
 use crate::tables::{
-    fresh_bytes, uuid_bytes, Access, Connection, Credential, Period, Role, Row, State, Stored, Subject, Tables, Uuid,
-    ACCESSES, ACCESS_COUNT, CREDENTIALS, CREDENTIAL_COUNT, OWNED, SIZE, STATE,
+    fresh_bytes, uuid_bytes, Access, Asserted, Connection, Credential, Period, Role, Row, State, Stored, Subject,
+    Tables, Uuid, ACCESSES, ACCESS_COUNT, CREDENTIALS, CREDENTIAL_COUNT, OWNED, SIZE, STATE,
 };
 
 pub struct Group {
@@ -55,6 +55,9 @@ pub fn groups(seed: u64) -> Vec<Group> {
     roles(&mut groups);
     periods(&mut groups);
     yards(&mut groups);
+    asserted_bodies(&mut groups);
+    asserted_places(&mut groups);
+    asserted_fits(&mut groups);
     near_misses(&mut groups);
     places(&mut groups, &mut random);
     replies(&mut groups, &mut random);
@@ -71,8 +74,8 @@ fn stages() -> Vec<Tables> {
     let mut stages = vec![Tables::fresh()];
     for state in State::ALL {
         let mut tables = owned(state);
-        tables.credentials.push(Credential { number: HAULIER, subject: uuid(0x22), role: None, kind: 0 });
-        tables.credentials.push(Credential { number: FOREMAN, subject: uuid(0x33), role: Some(ROLE), kind: 32 });
+        tables.credentials.push(Credential { kind: 0, ..credential(HAULIER, uuid(0x22)) });
+        tables.credentials.push(Credential { role: Some(ROLE), kind: 32, ..credential(FOREMAN, uuid(0x33)) });
         tables.row_owners[2] = Some(uuid(0x22));
         tables.accesses.push(access(1, AUTH, 31, 5, &[]));
         tables.accesses.push(access(2, Subject::Role(ROLE), 6, 0, &[0, 1, 2, 3]));
@@ -190,7 +193,7 @@ fn body_lengths(groups: &mut Vec<Group>) {
     for tables in stages() {
         let sender = if tables.owned() { OWNER } else { 0 };
         let mut records = Vec::new();
-        for resource in 0..4 {
+        for resource in 0..=4 {
             for verb in Verb::ALL {
                 for length in 0..=38 {
                     for byte in [0x00, 0x11, 0x80] {
@@ -224,11 +227,11 @@ fn credential_bodies(groups: &mut Vec<Group>) {
         let sender = if tables.owned() { OWNER } else { 0 };
         let mut records = Vec::new();
         let role = Role { authority: 0, number: 7 };
-        let plain = Credential { number: 6, subject: uuid(0x44), role: Some(role), kind: 0 };
+        let plain = Credential { role: Some(role), kind: 0, ..credential(6, uuid(0x44)) };
         // One bit of the subject: turned over it is nil. One of the role: turned
         // over it is none, with an authority and without.
         let one = 1u128.try_into().unwrap();
-        let slight = Credential { number: 1, subject: one, role: None, kind: 1 };
+        let slight = Credential { kind: 1, ..credential(1, one) };
         let other = Credential { role: Some(Role { authority: 0x0801, number: 4 }), ..slight.clone() };
         for row in [&plain, &slight, &other] {
             for body in [row.bytes(), row.short_body()] {
@@ -324,7 +327,7 @@ fn owner_bodies(groups: &mut Vec<Group>) {
                     }
                 }
                 records.push(device);
-                for resource in 0..4 {
+                for resource in 0..=4 {
                     records.push(compose(Verb::Update, resource, sender, &uuid_bytes(owner)));
                 }
             }
@@ -388,7 +391,7 @@ fn owners(groups: &mut Vec<Group>) {
                 tables.device_owner = Some(uuid(0x22));
             }
             let mut records = Vec::new();
-            for resource in (0..4).chain([8, 14]) {
+            for resource in (0..=4).chain([8, 14]) {
                 for verb in Verb::ALL {
                     for sender in [0, OWNER, HAULIER, FOREMAN] {
                         records.push(compose(verb, resource, sender, &[]));
@@ -408,7 +411,7 @@ fn roles(groups: &mut Vec<Group>) {
     }
     let mut tables = owned(State::Rfnop);
     for (number, &role) in (0x0600..).zip(&pool) {
-        tables.credentials.push(Credential { role: Some(role), ..examples::credential(number, uuid(0x66)) });
+        tables.credentials.push(Credential { role: Some(role), ..credential(number, uuid(0x66)) });
     }
     let partners: Vec<u16> = tables.credentials.iter().map(Row::number).collect();
     for &wanted in &pool {
@@ -538,6 +541,118 @@ fn yards(groups: &mut Vec<Group>) {
     }
 }
 
+/// Roles that are shown: by each sender in each state, and every bit of a body
+/// turned over.
+fn asserted_bodies(groups: &mut Vec<Group>) {
+    let bodies = [asserted(0, 7, 0), asserted(0x0203, 0x0107, u32::MAX), asserted(0xFFFF, 1, 0x0102_0304)];
+    for tables in stages().iter().chain(&open_stages()) {
+        let mut records = Vec::new();
+        for sender in [0, OWNER, HAULIER, FOREMAN, MISSING] {
+            for shown in bodies {
+                records.push(compose(Verb::Update, ROLES, sender, &shown.bytes()));
+            }
+            for body in [&[0; 8][..], &[0, 9, 0, 0, 0, 0, 0, 9], &[0, 0, 0, 9, 0, 0, 0], &[1; 16]] {
+                records.push(compose(Verb::Update, ROLES, sender, body));
+            }
+            for verb in Verb::ALL {
+                records.push(compose(verb, ROLES, sender, &[]));
+            }
+        }
+        groups.push(Group::new("roles shown", tables, records));
+    }
+    let mut records = Vec::new();
+    for shown in bodies.into_iter().chain([asserted(0, 1, 0), asserted(0, 0x8000, 1)]) {
+        records.extend(flips(&compose(Verb::Update, ROLES, HAULIER, &shown.bytes()), 4));
+    }
+    groups.push(Group::new("roles shown", &stages()[3], records));
+}
+
+/// Each role that a partner shows beside each that it has shown, all in force,
+/// just so and over; what it may read and use then.
+fn asserted_places(groups: &mut Vec<Group>) {
+    const NOW: u32 = 0x0001_0000;
+    let around = [NOW - 1, NOW, NOW + 1];
+    let first = around.map(|last| asserted(2, 7, last));
+    let second = around.map(|last| asserted(2, 8, last));
+    let mut held: Vec<Vec<Asserted>> = vec![Vec::new()];
+    held.extend(first.map(|shown| vec![shown]));
+    held.extend(first.iter().flat_map(|&one| second.map(|other| vec![one, other])));
+    let mut records = Vec::new();
+    for (authority, number) in [(2, 7), (2, 8), (2, 9), (3, 7), (7, 2), (8, 2), (0, 7)] {
+        for last in around.into_iter().chain([0, u32::MAX]) {
+            records.push(compose(Verb::Update, ROLES, HAULIER, &asserted(authority, number, last).bytes()));
+        }
+        records.push(compose(Verb::Update, ROLES, OWNER, &asserted(authority, number, NOW).bytes()));
+    }
+    for resource in [2, ROLES, 8, YARD] {
+        records.push(compose(Verb::Retrieve, resource, HAULIER, &[]));
+        records.push(compose(Verb::Observe, resource, HAULIER, &[]));
+        records.push(compose(Verb::Retrieve, resource, FOREMAN, &[]));
+        records.push(compose(Verb::Retrieve, resource, OWNER, &[]));
+    }
+    for shown in &held {
+        for others in [Vec::new(), vec![asserted(2, 7, NOW)], vec![asserted(2, 9, NOW), asserted(2, 7, NOW - 1)]] {
+            let mut tables = stages().swap_remove(3);
+            tables.credentials[1].asserted = shown.clone();
+            tables.credentials[2].asserted = others.clone();
+            tables.credentials[0].asserted = others;
+            tables.accesses = vec![
+                access(1, role(2, 7), 2, 0, &[2, 8]),
+                access(2, role(2, 8), 18, 0, &[8, YARD]),
+                access(3, role(2, 9), 2, 1, &[]),
+            ];
+            groups.push(Group { clock: Some(NOW), ..Group::new("roles shown", &tables, records.clone()) });
+            // Read with buffers that just fit and just don't.
+            let reads = [HAULIER, FOREMAN, OWNER, 0].map(|sender| compose(Verb::Retrieve, ROLES, sender, &[]));
+            for (room, clock) in [0, 7, 8, 9, 15, 16, 17].into_iter().flat_map(|room| around.map(|clock| (room, clock)))
+            {
+                let read = Group::new("roles shown", &tables, reads.to_vec());
+                groups.push(Group { clock: Some(clock), room: Some(room), ..read });
+            }
+        }
+    }
+}
+
+/// Each role that a partner has shown against each that a row may be for; last
+/// seconds a bit off the clock.
+fn asserted_fits(groups: &mut Vec<Group>) {
+    let mut pool = Vec::new();
+    for authority in [0, 1, 7, 0x0100, 0x0700, 0x8000, 0xFFFF] {
+        pool.extend([1, 7, 0x0100].map(|number| Role { authority, number }));
+    }
+    let mut tables = owned(State::Rfnop);
+    for (number, &role) in (0x0600..).zip(&pool) {
+        let shown = Asserted { role, last: 1000 };
+        // In the second place of every other row.
+        let asserted = if number % 2 == 0 { vec![shown] } else { vec![asserted(9, 9, 2000), shown] };
+        tables.credentials.push(Credential { asserted, ..credential(number, uuid(0x66)) });
+    }
+    let partners: Vec<u16> = tables.credentials.iter().map(Row::number).collect();
+    for &wanted in &pool {
+        tables.accesses = vec![access(1, Subject::Role(wanted), 18, 0, &[2, 8])];
+        let records: Vec<Vec<u8>> = partners
+            .iter()
+            .map(|&partner| compose(Verb::Retrieve, if partner % 3 == 0 { 2 } else { 8 }, partner, &[]))
+            .collect();
+        for clock in [999, 1000, 1001] {
+            groups.push(Group { clock: Some(clock), ..Group::new("roles shown", &tables, records.clone()) });
+        }
+    }
+    for last in [0x0102_0304, 0, u32::MAX] {
+        let mut tables = stages().swap_remove(3);
+        tables.credentials[1].asserted = vec![asserted(2, 7, last)];
+        tables.accesses = vec![access(1, role(2, 7), 2, 0, &[8])];
+        let records = vec![
+            compose(Verb::Retrieve, 8, HAULIER, &[]),
+            compose(Verb::Retrieve, ROLES, HAULIER, &[]),
+            compose(Verb::Update, ROLES, HAULIER, &asserted(2, 8, last).bytes()),
+        ];
+        for clock in (0..32).map(|bit| last ^ 1 << bit).chain([last]) {
+            groups.push(Group { clock: Some(clock), ..Group::new("roles shown", &tables, records.clone()) });
+        }
+    }
+}
+
 /// Values that differ from the fitting one in a single bit, at each place.
 fn near_misses(groups: &mut Vec<Group>) {
     let mut add = |tables: &Tables, records| {
@@ -563,7 +678,8 @@ fn near_misses(groups: &mut Vec<Group>) {
         for near in [role(ROLE.authority, ROLE.number ^ 1 << bit), role(ROLE.authority ^ 1 << bit, ROLE.number)] {
             let mut other = by_role.clone();
             other.accesses[0].subject = near;
-            add(&other, vec![compose(Verb::Retrieve, 2, FOREMAN, &[])]);
+            other.credentials[1].asserted = vec![Asserted { role: ROLE, last: u32::MAX }];
+            add(&other, vec![compose(Verb::Retrieve, 2, FOREMAN, &[]), compose(Verb::Retrieve, 2, HAULIER, &[])]);
         }
     }
     // Senders, rows to delete and rows to replace, each a bit off.
@@ -574,7 +690,7 @@ fn near_misses(groups: &mut Vec<Group>) {
             records.push(compose(Verb::Retrieve, 2, number ^ 1 << bit, &[]));
             let near = number ^ 1 << bit;
             records.push(compose(Verb::Delete, 2, OWNER, &near.to_be_bytes()));
-            records.push(compose(Verb::Update, 2, OWNER, &examples::credential(near.max(1), uuid(0x77)).bytes()));
+            records.push(compose(Verb::Update, 2, OWNER, &credential(near.max(1), uuid(0x77)).bytes()));
         }
         let near = 0x0505u16 ^ 1 << bit;
         records.push(compose(Verb::Delete, 3, OWNER, &near.to_be_bytes()));
@@ -636,7 +752,7 @@ fn replies(groups: &mut Vec<Group>, random: &mut Random) {
     let mut add = |tables: &Tables, senders: &[u16], rooms: &[usize]| {
         let mut records = Vec::new();
         for &sender in senders {
-            for resource in 0..4 {
+            for resource in 0..=4 {
                 records.push(compose(Verb::Retrieve, resource, sender, &[]));
                 records.push(compose(Verb::Observe, resource, sender, &[]));
                 records.push(compose(Verb::Retrieve, resource, sender, &[0]));
@@ -706,7 +822,7 @@ fn subjects(groups: &mut Vec<Group>, random: &mut Random) {
     let hauliers = |pattern: &[bool]| {
         let rows = (0x0120..).zip(pattern).map(|(number, &theirs)| {
             let subject = if theirs { uuid(0x22) } else { uuid(0x23) };
-            Credential { role: Some(ROLE), ..examples::credential(number, subject) }
+            Credential { role: Some(ROLE), ..credential(number, subject) }
         });
         rows.collect::<Vec<Credential>>()
     };
@@ -752,7 +868,7 @@ fn subjects(groups: &mut Vec<Group>, random: &mut Random) {
         for bit in 0..128 {
             records.push(compose(Verb::Delete, 2, sender, &(1u128 << bit).to_be_bytes()));
         }
-        for resource in 0..4 {
+        for resource in 0..=4 {
             for sender in [0, OWNER, HAULIER, FOREMAN, MISSING] {
                 for length in [15, 16, 17] {
                     records.push(compose(Verb::Delete, resource, sender, &vec![0x22; length]));
@@ -883,7 +999,7 @@ fn soundness(groups: &mut Vec<Group>, random: &mut Random) {
         tables.credentials.clear();
         tables.accesses.clear();
         for number in 1..=count {
-            tables.credentials.push(examples::credential(number, uuid(0x11)));
+            tables.credentials.push(credential(number, uuid(0x11)));
             tables.accesses.push(access(number, ANON, 2, 1, &[2]));
         }
         tables
@@ -915,15 +1031,23 @@ fn soundness(groups: &mut Vec<Group>, random: &mut Random) {
     for (_, fault) in CREDENTIAL_FAULTS {
         for row in [0, 11, 23] {
             let mut stored = full.bytes();
-            let place = CREDENTIALS.start + row * Credential::LENGTH;
+            let place = CREDENTIALS.start + row * Credential::STORED;
             fault(&mut stored[place..place + Credential::LENGTH], random);
+            add(stored, one_probe());
+        }
+    }
+    for (_, fault) in PLACE_FAULTS {
+        for row in [0, 11, 23] {
+            let mut stored = full.bytes();
+            let place = CREDENTIALS.start + row * Credential::STORED;
+            fault(&mut stored[place + Credential::LENGTH..place + Credential::STORED], random);
             add(stored, one_probe());
         }
     }
     for (_, fault) in ACCESS_FAULTS {
         for row in [0, 16, 31] {
             let mut stored = full.bytes();
-            let place = ACCESSES.start + row * Access::LENGTH;
+            let place = ACCESSES.start + row * Access::STORED;
             fault(&mut stored[place..place + Access::LENGTH], random);
             add(stored, one_probe());
         }
@@ -932,20 +1056,22 @@ fn soundness(groups: &mut Vec<Group>, random: &mut Random) {
     // Every bit of a small row turned over: most stay sound.
     let mut small = rows(0);
     let one = Role { authority: 0, number: 1 };
-    small.credentials.push(Credential { number: OWNER, subject: uuid(0x11), role: Some(one), kind: 0 });
-    small.credentials.push(Credential { number: HAULIER, subject: uuid(0x22), role: None, kind: 0 });
+    // The two roles are a bit apart.
+    let shown = vec![asserted(0, 1, 0), asserted(0, 3, 0)];
+    small.credentials.push(Credential { role: Some(one), kind: 0, asserted: shown, ..credential(OWNER, uuid(0x11)) });
+    small.credentials.push(Credential { kind: 0, ..credential(HAULIER, uuid(0x22)) });
     small.accesses.push(access(1, Subject::Role(one), 2, 0, &[2]));
     small.accesses.push(access(2, AUTH, 2, 0, &[2]));
     let period = Period { first: 0x0101_0101, last: 0x0101_0101 };
     small.accesses.push(Access { period, ..access(3, ANON, 2, 0, &[2]) });
-    for place in 0..CREDENTIALS.start + 2 * Credential::LENGTH {
+    for place in 0..CREDENTIALS.start + 2 * Credential::STORED {
         for bit in 0..8 {
             let mut stored = small.bytes();
             stored[place] ^= 1 << bit;
             add(stored, one_probe());
         }
     }
-    for place in ACCESSES.start..ACCESSES.start + 3 * Access::LENGTH {
+    for place in ACCESSES.start..ACCESSES.start + 3 * Access::STORED {
         for bit in 0..8 {
             let mut stored = small.bytes();
             stored[place] ^= 1 << bit;

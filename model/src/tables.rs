@@ -1,4 +1,4 @@
-//! The tables, read from and written to their 1,788 bytes.
+//! The tables, read from and written to their 2,172 bytes.
 
 use std::num::NonZeroU128;
 use std::ops::Range;
@@ -9,15 +9,15 @@ use crate::directory::{self, Security};
 /// The bytes of the tables.
 pub type Stored = [u8; SIZE];
 
-pub const SIZE: usize = 1788;
+pub const SIZE: usize = 2172;
 pub const STATE: usize = 0;
 pub const OWNED: usize = 1;
 pub const CREDENTIAL_COUNT: usize = 2;
 pub const ACCESS_COUNT: usize = 3;
 pub const DEVICE_OWNER: Range<usize> = 4..20;
 pub const ROW_OWNERS: Range<usize> = 20..84;
-pub const CREDENTIALS: Range<usize> = 84..636;
-pub const ACCESSES: Range<usize> = 636..1788;
+pub const CREDENTIALS: Range<usize> = 84..1020;
+pub const ACCESSES: Range<usize> = 1020..2172;
 
 /// A UUID other than nil; nil is `None`.
 pub type Uuid = NonZeroU128;
@@ -46,23 +46,37 @@ pub enum Connection {
 
 /// A row of either table.
 pub trait Row: Sized {
-    /// Of a row in the tables, in a reply and in a default list, and of the body
-    /// that has all its fields.
+    /// Of the body that has all its fields, and of a row in a reply and in a
+    /// list.
     const LENGTH: usize;
+    /// Of a row in the tables.
+    const STORED: usize;
     const CAPACITY: usize;
 
     /// The row that a body stores; None for another length or a forbidden value.
     fn from_body(body: &[u8]) -> Option<Self>;
+    /// The body that has all its fields.
     fn bytes(&self) -> Vec<u8>;
     fn number(&self) -> u16;
 
-    /// None for another length than a row's or a forbidden value.
+    /// None for another length than that of a body with all its fields, or a
+    /// forbidden value.
     fn read(row: &[u8]) -> Option<Self> {
         if row.len() == Self::LENGTH {
             Self::from_body(row)
         } else {
             None
         }
+    }
+
+    /// A row of the tables; None for a forbidden value.
+    fn from_stored(row: &[u8]) -> Option<Self> {
+        Self::read(row)
+    }
+
+    /// The row as the tables hold it.
+    fn stored(&self) -> Vec<u8> {
+        self.bytes()
     }
 }
 
@@ -81,6 +95,40 @@ impl Role {
     }
 }
 
+/// A role that a partner has shown for a while.
+#[derive(Clone, Copy, Debug, PartialEq, Eq)]
+pub struct Asserted {
+    pub role: Role,
+    pub last: u32,
+}
+
+impl Asserted {
+    /// Of a body, of a place in a row of the tables, and in a reply.
+    pub const LENGTH: usize = 8;
+    /// So many a row holds.
+    pub const CAPACITY: usize = 2;
+
+    /// None for another length or role 0.
+    pub fn from_body(body: &[u8]) -> Option<Asserted> {
+        if body.len() != Self::LENGTH {
+            return None;
+        }
+        let mut fields = Fields::new(body);
+        let role = Role::new(fields.take(16) as u16, fields.take(16) as u16)?;
+        Some(Asserted { role, last: fields.take(32) as u32 })
+    }
+
+    pub fn bytes(&self) -> Vec<u8> {
+        let Asserted { role: Role { authority, number }, last } = *self;
+        Packer::new().put(authority.into(), 16).put(number.into(), 16).put(last.into(), 32).bytes()
+    }
+
+    /// Up to its last second, that one included.
+    pub fn in_force(&self, clock: u32) -> bool {
+        clock <= self.last
+    }
+}
+
 #[derive(Clone, Debug, PartialEq, Eq)]
 pub struct Credential {
     pub number: u16,
@@ -88,9 +136,17 @@ pub struct Credential {
     pub role: Option<Role>,
     /// Kept, and asked by no rule.
     pub kind: u8,
+    /// In order of arrival. No body has them.
+    pub asserted: Vec<Asserted>,
 }
 
 impl Credential {
+    /// The roles that it has now: the stored one, and those shown for a while.
+    pub fn roles(&self, clock: u32) -> impl Iterator<Item = Role> + '_ {
+        let shown = self.asserted.iter().filter(move |shown| shown.in_force(clock)).map(|shown| shown.role);
+        self.role.into_iter().chain(shown)
+    }
+
     /// The length of a body without an authority, which means authority 0.
     pub const SHORT_BODY: usize = 21;
 
@@ -104,6 +160,7 @@ impl Credential {
 
 impl Row for Credential {
     const LENGTH: usize = 23;
+    const STORED: usize = Self::LENGTH + Asserted::CAPACITY * Asserted::LENGTH;
     const CAPACITY: usize = 24;
 
     fn from_body(body: &[u8]) -> Option<Credential> {
@@ -126,7 +183,7 @@ impl Row for Credential {
         if role.is_none() && authority != 0 {
             return None;
         }
-        Some(Credential { number, subject, role, kind })
+        Some(Credential { number, subject, role, kind, asserted: Vec::new() })
     }
 
     fn bytes(&self) -> Vec<u8> {
@@ -142,6 +199,30 @@ impl Row for Credential {
 
     fn number(&self) -> u16 {
         self.number
+    }
+
+    /// A body, and behind it the places of asserted roles: the first is used
+    /// before the second, and one that is not used is zero.
+    fn from_stored(row: &[u8]) -> Option<Credential> {
+        let (body, places) = row.split_at(Self::LENGTH);
+        let mut credential = Self::read(body)?;
+        let held = places.chunks_exact(Asserted::LENGTH).take_while(|place| place.iter().any(|&byte| byte != 0));
+        for place in held {
+            let shown = Asserted::from_body(place)?;
+            if credential.asserted.iter().any(|earlier| earlier.role == shown.role) {
+                return None;
+            }
+            credential.asserted.push(shown);
+        }
+        let unused = &places[credential.asserted.len() * Asserted::LENGTH..];
+        unused.iter().all(|&byte| byte == 0).then_some(credential)
+    }
+
+    fn stored(&self) -> Vec<u8> {
+        let mut row = self.bytes();
+        row.extend(self.asserted.iter().flat_map(Asserted::bytes));
+        row.resize(Self::STORED, 0);
+        row
     }
 }
 
@@ -212,6 +293,7 @@ impl Access {
 
 impl Row for Access {
     const LENGTH: usize = 36;
+    const STORED: usize = Self::LENGTH;
     const CAPACITY: usize = 32;
 
     fn from_body(body: &[u8]) -> Option<Access> {
@@ -315,8 +397,9 @@ impl Tables {
         self.device_owner.is_some()
     }
 
+    /// The roles have none.
     pub fn row_owner(&self, which: Security) -> Option<Uuid> {
-        self.row_owners[which as usize]
+        self.row_owners.get(which as usize).copied().flatten()
     }
 
     pub fn credential(&self, number: u16) -> Option<&Credential> {
@@ -381,10 +464,10 @@ fn read_rows<R: Row>(bytes: &[u8], count: u8) -> Result<Vec<R>, Fault> {
     if count > R::CAPACITY {
         return Err(Fault::CountOverCapacity);
     }
-    let (used, unused) = bytes.split_at(count * R::LENGTH);
+    let (used, unused) = bytes.split_at(count * R::STORED);
     let mut rows: Vec<R> = Vec::with_capacity(count);
-    for body in used.chunks_exact(R::LENGTH) {
-        let row = R::read(body).ok_or(Fault::Row)?;
+    for row in used.chunks_exact(R::STORED) {
+        let row = R::from_stored(row).ok_or(Fault::Row)?;
         if rows.iter().any(|earlier| earlier.number() == row.number()) {
             return Err(Fault::NumberTwice);
         }
@@ -398,22 +481,24 @@ fn read_rows<R: Row>(bytes: &[u8], count: u8) -> Result<Vec<R>, Fault> {
 }
 
 fn write_rows<R: Row>(bytes: &mut [u8], rows: &[R]) {
-    for (place, row) in bytes.chunks_exact_mut(R::LENGTH).zip(rows) {
-        place.copy_from_slice(&row.bytes());
+    for (place, row) in bytes.chunks_exact_mut(R::STORED).zip(rows) {
+        place.copy_from_slice(&row.stored());
     }
 }
 
 #[cfg(test)]
 mod tests {
     use super::*;
+    use crate::examples::credential;
     use crate::generate;
     use crate::hex;
     use crate::random::Random;
 
     #[test]
     fn the_layout_has_no_gap() {
-        assert_eq!(CREDENTIALS.len(), Credential::LENGTH * Credential::CAPACITY);
-        assert_eq!(ACCESSES.len(), Access::LENGTH * Access::CAPACITY);
+        assert_eq!((Credential::STORED, Access::STORED), (39, 36));
+        assert_eq!(CREDENTIALS.len(), Credential::STORED * Credential::CAPACITY);
+        assert_eq!(ACCESSES.len(), Access::STORED * Access::CAPACITY);
         assert_eq!(DEVICE_OWNER.start, ACCESS_COUNT + 1);
         assert_eq!(ROW_OWNERS.start, DEVICE_OWNER.end);
         assert_eq!(CREDENTIALS.start, ROW_OWNERS.end);
@@ -443,7 +528,7 @@ mod tests {
 
     #[test]
     fn credential_types() {
-        let row = Credential { number: 5, subject: Uuid::new(1).unwrap(), role: None, kind: 0 };
+        let row = Credential { kind: 0, ..credential(5, Uuid::MIN) };
         for mut body in [row.bytes(), row.short_body()] {
             let allowed: Vec<u8> = (0..=255)
                 .filter(|&byte| {
@@ -477,6 +562,66 @@ mod tests {
         assert_eq!(row.short_body(), body("0007 04"));
         assert_eq!(Credential::read(&row.bytes()), Some(row.clone()));
         assert_eq!(Credential::read(&row.short_body()), None);
+    }
+
+    #[test]
+    fn places_of_asserted_roles() {
+        let body = format!("0005 {} 0007 0000 04", "11".repeat(16));
+        let stored = |places: &str| hex::literal(&format!("{body} {places}"));
+        let asserted = |places: &str| {
+            let row = Credential::from_stored(&stored(places))?;
+            assert_eq!(row.stored(), stored(places));
+            assert_eq!(row.bytes(), hex::literal(&body));
+            Some(row.asserted.iter().map(|shown| (shown.role.authority, shown.role.number, shown.last)).collect())
+        };
+        let none = "0000 0000 00000000";
+        assert_eq!(asserted(&format!("{none} {none}")), Some(vec![]));
+        assert_eq!(asserted(&format!("0102 0304 05060708 {none}")), Some(vec![(0x0102, 0x0304, 0x0506_0708)]));
+        assert_eq!(asserted("0000 0007 00000000 0001 0007 ffffffff"), Some(vec![(0, 7, 0), (1, 7, u32::MAX)]));
+        assert_eq!(asserted("0000 0007 00000009 0000 0008 00000009"), Some(vec![(0, 7, 9), (0, 8, 9)]));
+        // The second place without the first, and bytes beside no role.
+        assert_eq!(asserted(&format!("{none} 0000 0007 00000009")), None);
+        for bytes in ["0001 0000 00000000", "8000 0000 00000000", "0000 0000 00000001", "0000 0000 80000000"] {
+            assert_eq!(asserted(&format!("{bytes} {none}")), None);
+            assert_eq!(asserted(&format!("{bytes} 0000 0007 00000009")), None);
+            assert_eq!(asserted(&format!("0000 0007 00000009 {bytes}")), None);
+        }
+        // The same role twice; the last second does not make another of it.
+        assert_eq!(asserted("0001 0007 00000009 0001 0007 00000009"), None);
+        assert_eq!(asserted("0001 0007 00000009 0001 0007 00000008"), None);
+        // The role of the body may be shown too.
+        assert_eq!(asserted(&format!("0000 0007 00000009 {none}")), Some(vec![(0, 7, 9)]));
+    }
+
+    #[test]
+    fn roles_up_to_their_last_second() {
+        let numbers = |clock| -> Vec<u16> {
+            let shown = |number, last| Asserted { role: Role { authority: 1, number }, last };
+            let role = Some(Role { authority: 0, number: 7 });
+            let row = Credential { role, asserted: vec![shown(3, 20), shown(2, 10)], ..credential(5, Uuid::MIN) };
+            row.roles(clock).map(|role| role.number).collect()
+        };
+        assert_eq!(numbers(0), [7, 3, 2]);
+        assert_eq!(numbers(10), [7, 3, 2]);
+        assert_eq!(numbers(11), [7, 3]);
+        assert_eq!(numbers(20), [7, 3]);
+        assert_eq!(numbers(21), [7]);
+        assert_eq!(numbers(u32::MAX), [7]);
+    }
+
+    #[test]
+    fn bodies_of_asserted_roles() {
+        let read = |body: &str| Asserted::from_body(&hex::literal(body));
+        let shown = |authority, number, last| Some(Asserted { role: Role { authority, number }, last });
+        assert_eq!(read("0000 0007 00000000"), shown(0, 7, 0));
+        assert_eq!(read("0102 0304 05060708"), shown(0x0102, 0x0304, 0x0506_0708));
+        assert_eq!(read("ffff ffff ffffffff"), shown(0xFFFF, 0xFFFF, u32::MAX));
+        assert_eq!(read("0102 0000 05060708"), None);
+        assert_eq!(read("0102 0304 050607"), None);
+        assert_eq!(read("0102 0304 0506070809"), None);
+        assert_eq!(read(""), None);
+        let bytes = hex::literal("0102 0304 05060708");
+        assert_eq!(shown(0x0102, 0x0304, 0x0506_0708).unwrap().bytes(), bytes);
     }
 
     #[test]

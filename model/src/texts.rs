@@ -113,12 +113,13 @@ fn numbers_and_roles() -> Vec<Access> {
 
 /// Every set of resources with every choice of wildcards.
 fn sets_and_wildcards() -> Vec<Access> {
-    let choices = 0..1u16 << (DIRECTORY.len() + 3);
+    let choices = 0..1u32 << (DIRECTORY.len() + 3);
     choices
         .map(|choice| {
             let held = DIRECTORY.iter().enumerate().filter(|(place, _)| choice >> (place + 3) & 1 == 1);
             Access {
-                number: choice + 1,
+                // There is a choice more than there are numbers.
+                number: (choice % 0xFFFF + 1) as u16,
                 subject: if choice % 3 == 0 { ANON } else { AUTH },
                 permission: (choice / 5 % 32) as u8,
                 wildcards: Wildcards::from_number((choice % 8) as u8),
@@ -292,7 +293,7 @@ mod tests {
             }
         }
         assert_eq!((numbers.len(), roles.len(), authorities.len()), (65_535, 65_535, 65_536));
-        assert_eq!(resources.len(), 8 * 4096);
+        assert_eq!(resources.len(), 8 * 8192);
         assert_eq!(permissions.len(), 32);
         // Every second, a bit away from it, and another.
         assert_eq!(periods.len(), 1 + 64 + 1);

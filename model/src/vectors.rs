@@ -20,7 +20,7 @@
 
 use crate::case::Case;
 use crate::defaults::Defaults;
-use crate::directory::{DIRECTORY, LINKS, YARD};
+use crate::directory::{DIRECTORY, LINKS, ROLES, YARD};
 use crate::examples;
 use crate::generate::{self, Style};
 use crate::histogram::Histogram;
@@ -29,7 +29,7 @@ use crate::provisioning::{test, Tested};
 use crate::random::Random;
 use crate::record::{compose, target_body, Verb};
 use crate::rules::{judge, Refusal, LONGEST_REPLY};
-use crate::spoil::{ACCESS_FAULTS, CREDENTIAL_FAULTS, LOAD_FAULTS, TABLE_FAULTS};
+use crate::spoil::{ACCESS_FAULTS, CREDENTIAL_FAULTS, LOAD_FAULTS, PLACE_FAULTS, TABLE_FAULTS};
 use crate::tables::{Access, Credential, Period, Row, State, Stored, Subject, Tables, ACCESSES, CREDENTIALS, SIZE};
 
 pub const TABLES: u8 = 0;
@@ -39,7 +39,7 @@ pub const DEFAULTS: u8 = 3;
 pub const LIST: u8 = 4;
 
 /// Fewest bytes that leave room for random sessions.
-pub const LEAST: usize = 160_000;
+pub const LEAST: usize = 200_000;
 const RECORDS_BETWEEN_CHECKS: usize = 100;
 
 pub struct Vectors {
@@ -82,6 +82,7 @@ impl Vectors {
         vectors.headers();
         vectors.replies(&mut random);
         vectors.yards();
+        vectors.roles();
         vectors.default_lists(&mut random);
         vectors.faults(&mut random);
         vectors.lists_to_load(&mut Random::part(seed, 7));
@@ -181,7 +182,7 @@ impl Vectors {
         let small = Tables { credentials, accesses, ..Tables::fresh() };
         for tables in [full, small] {
             self.set_tables(&tables.bytes());
-            for resource in 0..4 {
+            for resource in 0..=3 {
                 let record = compose(Verb::Retrieve, resource, 0, &[]);
                 let fits = judge(&self.case(0, &record)).reply.len();
                 for room in [fits, fits - 1, 0, fits + 1] {
@@ -216,6 +217,47 @@ impl Vectors {
             }
             for verb in Verb::ALL {
                 self.record(100, &compose(verb, YARD, sender, &[0x59]), 0);
+            }
+        }
+        self.check();
+    }
+
+    /// Partners who show roles, read them, use them and show more of them.
+    fn roles(&mut self) {
+        let mut tables = examples::owned(State::Rfnop);
+        tables.accesses.push(examples::access(1, examples::role(2, 7), 2, 0, &[2, 8, YARD]));
+        tables.accesses.push(examples::access(2, examples::role(2, 8), 20, 1, &[8]));
+        let shown = [examples::asserted(2, 7, 100), examples::asserted(2, 8, 200)];
+        for (number, count) in [(6, 0), (7, 1), (8, 2)] {
+            let row = examples::credential(number, examples::uuid(0x66));
+            tables.credentials.push(Credential { asserted: shown[..count].to_vec(), ..row });
+        }
+        self.set_tables(&tables.bytes());
+        const SENDERS: [u16; 5] = [0, 5, 6, 7, 8];
+        for clock in [0, 99, 100, 101, 200, 201] {
+            for sender in SENDERS {
+                for resource in [2, 8, YARD] {
+                    self.record(clock, &compose(Verb::Retrieve, resource, sender, &[]), 0);
+                }
+                for room in [7, 8, 15, 16] {
+                    self.record(clock, &compose(Verb::Retrieve, ROLES, sender, &[]), room);
+                }
+            }
+        }
+        // Each keeps what the one before left.
+        for clock in [99, 100, 101, 200, 201] {
+            for sender in SENDERS {
+                for (number, last) in [(8, clock), (9, clock + 1), (7, clock - 1), (9, clock)] {
+                    let body = examples::asserted(2, number, last).bytes();
+                    self.record(clock, &compose(Verb::Update, ROLES, sender, &body), 0);
+                }
+                self.record(clock, &compose(Verb::Retrieve, ROLES, sender, &[]), LONGEST_REPLY);
+            }
+            self.check();
+        }
+        for verb in Verb::ALL {
+            for length in [7, 8, 9, 16] {
+                self.record(0, &compose(verb, ROLES, 8, &vec![0; length]), 0);
             }
         }
         self.check();
@@ -297,13 +339,19 @@ impl Vectors {
         let (credentials, accesses) = rows(random);
         for (_, fault) in CREDENTIAL_FAULTS {
             let mut stored = Tables { credentials: credentials.clone(), ..Tables::fresh() }.bytes();
-            let place = CREDENTIALS.start + Credential::LENGTH;
+            let place = CREDENTIALS.start + Credential::STORED;
             fault(&mut stored[place..place + Credential::LENGTH], random);
+            faulty.push(stored);
+        }
+        for (_, fault) in PLACE_FAULTS {
+            let mut stored = Tables { credentials: credentials.clone(), ..Tables::fresh() }.bytes();
+            let place = CREDENTIALS.start + Credential::STORED;
+            fault(&mut stored[place + Credential::LENGTH..place + Credential::STORED], random);
             faulty.push(stored);
         }
         for (_, fault) in ACCESS_FAULTS {
             let mut stored = Tables { accesses: accesses.clone(), ..Tables::fresh() }.bytes();
-            let place = ACCESSES.start + Access::LENGTH;
+            let place = ACCESSES.start + Access::STORED;
             fault(&mut stored[place..place + Access::LENGTH], random);
             faulty.push(stored);
         }
@@ -424,6 +472,7 @@ fn rows(random: &mut Random) -> (Vec<Credential>, Vec<Access>) {
 #[cfg(test)]
 mod tests {
     use super::*;
+    use crate::rules::ANSWERS;
 
     /// Reads the file as another program would.
     fn replay(mut bytes: &[u8]) -> (usize, usize, usize) {
@@ -499,7 +548,8 @@ mod tests {
             assert!(vectors.bytes.len() <= limit, "{}", vectors.bytes.len());
             assert_eq!(replay(&vectors.bytes), (vectors.records, vectors.checks, vectors.tested));
             assert_eq!(Vectors::build(seed, limit).bytes, vectors.bytes);
-            for (answer, &count) in vectors.histogram.answers.iter().enumerate() {
+            for answer in ANSWERS {
+                let count = vectors.histogram.answers[answer as usize];
                 assert!(count >= often, "answer {answer}: {count}");
             }
         }

@@ -2,7 +2,7 @@
 
 use model::case::{Case, Seen};
 use model::defaults::{Defaults, ListFault};
-use model::directory::{find, set_bit, LINKS, YARD};
+use model::directory::{find, set_bit, LINKS, ROLES, YARD};
 use model::examples::{access, ANON, AUTH};
 use model::generate::{walk_groups, walk_sessions};
 use model::lists;
@@ -11,8 +11,8 @@ use model::provisioning::{opens_security, test, Tested};
 use model::record::{Header, Verb, ALL_BITS, CREATE_BIT, DELETE_BIT, UPDATE_BIT};
 use model::rules::{effective_permission, Sender};
 use model::tables::{
-    fresh_bytes, read_uuid, Access, Credential, Period, Role, Row, Subject, Tables, Uuid, ACCESSES, ACCESS_COUNT,
-    CREDENTIALS, CREDENTIAL_COUNT,
+    fresh_bytes, read_uuid, Access, Asserted, Credential, Period, Role, Row, Subject, Tables, Uuid, ACCESSES,
+    ACCESS_COUNT, CREDENTIALS, CREDENTIAL_COUNT,
 };
 use model::texts::Picks;
 
@@ -89,7 +89,10 @@ fn permitted_by(case: &Case, right: Seen, change: impl Fn(&mut Tables)) -> Seen 
 
 /// The roles that credentials have.
 fn held_roles(tables: &mut Tables) -> impl Iterator<Item = &mut Role> {
-    tables.credentials.iter_mut().filter_map(|row| row.role.as_mut())
+    tables
+        .credentials
+        .iter_mut()
+        .flat_map(|row| row.role.iter_mut().chain(row.asserted.iter_mut().map(|shown| &mut shown.role)))
 }
 
 /// The roles that access rows are for.
@@ -109,7 +112,102 @@ fn with_roles(case: &Case, right: Seen, change: fn(&mut Role)) -> Seen {
     permitted_by(case, right, |tables| {
         held_roles(tables).for_each(change);
         wanted_roles(&mut tables.accesses).for_each(change);
+        // Roles that are equal now would not be sound.
+        for row in &mut tables.credentials {
+            if let [first, second] = row.asserted[..] {
+                if first.role == second.role {
+                    row.asserted = vec![if first.last < second.last { second } else { first }];
+                }
+            }
+        }
     })
+}
+
+/// The sender's own row and header, for a record to the roles that gets as far as
+/// its permission.
+fn to_roles(case: &Case, right: &Seen) -> Option<(Header, Option<Credential>)> {
+    if matches!(right.answer, 1..=7) || Header::read(&case.record).resource != ROLES {
+        return None;
+    }
+    let header = Header::read(&case.record);
+    let tables = Tables::read(&case.tables).expect("sound");
+    Some((header, tables.credential(header.credential).cloned()))
+}
+
+/// The same when a partner reads its roles.
+fn reads_roles(case: &Case, right: &Seen) -> Option<Credential> {
+    let (header, row) = to_roles(case, right)?;
+    let reads = header.verb == Verb::Retrieve as u8 && case.record.len() == 4 && matches!(right.answer, 0 | 15);
+    row.filter(|_| reads)
+}
+
+/// The same when a partner shows a role in service, with that role.
+fn shows_role(case: &Case, right: &Seen) -> Option<(Credential, Asserted)> {
+    let (header, row) = to_roles(case, right)?;
+    let shown = Asserted::from_body(&case.record[4..])?;
+    let shows = header.verb == Verb::Update as u8 && matches!(right.answer, 0 | 22);
+    row.filter(|_| shows).map(|row| (row, shown))
+}
+
+/// What is right, but with other roles in the sender's row after it has shown
+/// one.
+fn shown_otherwise(case: &Case, right: Seen, other: impl Fn(&mut Vec<Asserted>, Asserted)) -> Seen {
+    let Some((mut row, shown)) = shows_role(case, &right) else {
+        return right;
+    };
+    other(&mut row.asserted, shown);
+    if row.asserted.len() > Asserted::CAPACITY {
+        return refused(22, case);
+    }
+    let mut tables = Tables::read(&case.tables).expect("sound");
+    let place = tables.credentials.iter_mut().find(|held| held.number == row.number).expect("held");
+    // The owner of the terminal has all bits.
+    let permission = if Some(row.subject) == tables.device_owner { ALL_BITS } else { right.permission.max(6) };
+    *place = row;
+    Seen { answer: 0, permission, tables: tables.bytes(), ..right }
+}
+
+/// What is right, but with roles that fit otherwise.
+fn fitting(case: &Case, right: Seen, change: fn(&mut Vec<Asserted>)) -> Seen {
+    if matches!(right.answer, 1..=7 | 16) || Header::read(&case.record).resource == ROLES {
+        return right;
+    }
+    permitted_by(case, right, |tables| tables.credentials.iter_mut().for_each(|row| change(&mut row.asserted)))
+}
+
+/// What is right, but with another reply to a partner who reads its roles.
+fn replied(case: &Case, right: Seen, other: impl Fn(&Credential) -> Vec<u8>) -> Seen {
+    let Some(row) = reads_roles(case, &right) else {
+        return right;
+    };
+    let reply = other(&row);
+    if reply.len() > case.room {
+        return refused(15, case);
+    }
+    let mut seen = refused(0, case);
+    seen.buffer[..reply.len()].copy_from_slice(&reply);
+    Seen { reply: reply.len(), permission: right.permission.max(6), ..seen }
+}
+
+fn bytes_of(shown: &[Asserted]) -> Vec<u8> {
+    shown.iter().flat_map(Asserted::bytes).collect()
+}
+
+/// What a program makes of tables that are not sound when it looks away from the
+/// places of asserted roles that have some fault.
+fn blind_to_places(case: &Case, right: Seen, faulty: fn(&[u8]) -> bool) -> Seen {
+    if right.answer != 1 {
+        return right;
+    }
+    let mut bare = case.clone();
+    let held = usize::from(case.tables[CREDENTIAL_COUNT]);
+    for row in bare.tables[CREDENTIALS].chunks_exact_mut(Credential::STORED).take(held) {
+        let places = &mut row[Credential::LENGTH..];
+        if faulty(places) {
+            places.fill(0);
+        }
+    }
+    Seen { tables: right.tables, ..bare.expected() }
 }
 
 /// Whether a program takes a row to hold at a clock.
@@ -123,7 +221,7 @@ fn holding(case: &Case, right: Seen, holds: Holds) -> Seen {
         let period = Period { first: second(28), last: second(32) };
         holds(period, case.clock) != period.holds_at(case.clock)
     };
-    let held = case.tables[ACCESSES].chunks_exact(Access::LENGTH).take(case.tables[ACCESS_COUNT].into());
+    let held = case.tables[ACCESSES].chunks_exact(Access::STORED).take(case.tables[ACCESS_COUNT].into());
     if !held.into_iter().any(wrong) {
         return right;
     }
@@ -135,13 +233,13 @@ fn holding(case: &Case, right: Seen, holds: Holds) -> Seen {
 
 /// The credential row of a body, in the tables afterwards.
 fn stored_row<'a>(right: &'a mut Seen, body: &[u8]) -> Option<&'a mut [u8]> {
-    right.tables[CREDENTIALS].chunks_exact_mut(Credential::LENGTH).find(|row| row[..2] == body[..2])
+    right.tables[CREDENTIALS].chunks_exact_mut(Credential::STORED).find(|row| row[..2] == body[..2])
 }
 
 /// The access row of a body without a period, in the tables afterwards.
 fn stored_access<'a>(case: &Case, right: &'a mut Seen) -> Option<&'a mut [u8]> {
     let body = update_of(ACL2, case, right).filter(|body| body.len() == 28 && right.answer == 0)?;
-    right.tables[ACCESSES].chunks_exact_mut(Access::LENGTH).find(|row| row[..2] == body[..2])
+    right.tables[ACCESSES].chunks_exact_mut(Access::STORED).find(|row| row[..2] == body[..2])
 }
 
 /// Whether the period at the end of a row or body ends before it begins.
@@ -197,7 +295,7 @@ fn reached_otherwise(case: &Case, right: Seen, change: fn(&mut Access)) -> Seen 
     permitted_by(case, right, |tables| tables.accesses.iter_mut().for_each(change))
 }
 
-const PROGRAMS: [(&str, Program); 92] = [
+const PROGRAMS: [(&str, Program); 138] = [
     ("turns all away", |case, _| refused(8, case)),
     ("permits all", |case, right| if right.answer == 0 { right } else { refused(0, case) }),
     ("never alters the tables", |case, right| Seen { tables: case.tables, ..right }),
@@ -317,7 +415,10 @@ const PROGRAMS: [(&str, Program); 92] = [
         let mut twice = right.clone();
         if is_reset(case, &right) && case.defaults.read_credentials() == Err(ListFault::NumberTwice) {
             twice.tables[2] = 2;
-            twice.tables[CREDENTIALS][..2 * Credential::LENGTH].copy_from_slice(&case.defaults.credentials);
+            let rows = case.defaults.credentials.chunks(Credential::LENGTH);
+            for (place, row) in twice.tables[CREDENTIALS].chunks_mut(Credential::STORED).zip(rows) {
+                place[..Credential::LENGTH].copy_from_slice(row);
+            }
         }
         if is_reset(case, &right) && case.defaults.read_accesses() == Err(ListFault::NumberTwice) {
             twice.tables[3] = 2;
@@ -369,7 +470,7 @@ const PROGRAMS: [(&str, Program); 92] = [
         }
         let mut bare = case.clone();
         let held = usize::from(case.tables[CREDENTIAL_COUNT]);
-        for row in bare.tables[CREDENTIALS].chunks_exact_mut(Credential::LENGTH).take(held) {
+        for row in bare.tables[CREDENTIALS].chunks_exact_mut(Credential::STORED).take(held) {
             if row[18..20] == [0, 0] {
                 row[20..22].fill(0);
             }
@@ -385,14 +486,14 @@ const PROGRAMS: [(&str, Program); 92] = [
     ("puts zeros behind a body without an authority", |case, mut right| {
         if let Some(body) = update_of(CRED, case, &right).filter(|body| body.len() == 21 && right.answer == 0) {
             let row = stored_row(&mut right, body).expect("stored");
-            row[20..].copy_from_slice(&[body[20], 0, 0]);
+            row[20..23].copy_from_slice(&[body[20], 0, 0]);
         }
         right
     }),
     ("keeps the authority that a shorter body leaves out", |case, mut right| {
         let before = case.tables;
         if let Some(body) = update_of(CRED, case, &right).filter(|body| body.len() == 21 && right.answer == 0) {
-            let mut rows = before[CREDENTIALS].chunks_exact(Credential::LENGTH);
+            let mut rows = before[CREDENTIALS].chunks_exact(Credential::STORED);
             if let Some(held) = rows.find(|row| row[..2] == body[..2]) {
                 let row = stored_row(&mut right, body).expect("stored");
                 row[20..22].copy_from_slice(&held[20..22]);
@@ -467,7 +568,7 @@ const PROGRAMS: [(&str, Program); 92] = [
         }
         let mut straight = case.clone();
         let held = usize::from(case.tables[ACCESS_COUNT]);
-        for row in straight.tables[ACCESSES].chunks_exact_mut(Access::LENGTH).take(held) {
+        for row in straight.tables[ACCESSES].chunks_exact_mut(Access::STORED).take(held) {
             if turned(row) {
                 row[28..32].fill(0);
             }
@@ -483,7 +584,7 @@ const PROGRAMS: [(&str, Program); 92] = [
     ("keeps the period that a shorter body leaves out", |case, mut right| {
         let before = case.tables;
         if let Some(row) = stored_access(case, &mut right) {
-            let mut rows = before[ACCESSES].chunks_exact(Access::LENGTH);
+            let mut rows = before[ACCESSES].chunks_exact(Access::STORED);
             if let Some(held) = rows.find(|held| held[..2] == row[..2]) {
                 row[28..].copy_from_slice(&held[28..]);
             }
@@ -572,6 +673,273 @@ const PROGRAMS: [(&str, Program); 92] = [
         answered_as(case, right, |tables, _| {
             tables.accesses.iter_mut().for_each(|row| row.wildcards = Default::default())
         })
+    }),
+    ("does not know the roles", |case, right| match to_roles(case, &right) {
+        Some(_) => refused(6, case),
+        None => right,
+    }),
+    ("gives partners nothing on the roles", |case, right| match to_roles(case, &right) {
+        Some(_) if right.permission == 6 => refused(8, case),
+        _ => right,
+    }),
+    ("gives everybody 6 on the roles", |case, right| match to_roles(case, &right) {
+        Some((header, _)) if right.answer == 8 && matches!(header.verb, 1 | 2 | 4) => {
+            Seen { permission: 6, ..refused(0, case) }
+        }
+        _ => right,
+    }),
+    ("gives partners all on the roles", |case, right| match to_roles(case, &right) {
+        Some((_, Some(_))) if right.answer == 0 => Seen { permission: ALL_BITS, ..right },
+        _ => right,
+    }),
+    ("gives 6 and no other bit on the roles", |case, right| match to_roles(case, &right) {
+        Some((_, Some(_))) if right.answer == 0 => Seen { permission: 6, ..right },
+        _ => right,
+    }),
+    ("offers DELETE of the roles", |case, right| match to_roles(case, &right) {
+        Some((header, _)) if right.answer == 9 && header.verb == 3 => refused(0, case),
+        _ => right,
+    }),
+    ("gives the roles a row owner", |case, right| match to_roles(case, &right) {
+        Some((header, _)) if right.answer == 10 && header.verb == 2 && case.record.len() == 20 => refused(11, case),
+        _ => right,
+    }),
+    ("stores role 0", |case, right| match to_roles(case, &right) {
+        Some((header, _)) if right.answer == 10 && header.verb == 2 && case.record.len() == 12 => {
+            let mut other = case.clone();
+            other.record[4 + 3] = 1;
+            other.expected()
+        }
+        _ => right,
+    }),
+    ("takes a role in every state", |case, right| match to_roles(case, &right) {
+        Some((_, Some(_))) if right.answer == 11 => refused(0, case),
+        _ => right,
+    }),
+    ("takes a role from nobody", |case, right| match to_roles(case, &right) {
+        Some((_, None)) if right.answer == 11 => refused(0, case),
+        _ => right,
+    }),
+    ("says 8 to nobody who shows a role", |case, right| match to_roles(case, &right) {
+        Some((_, None)) if right.answer == 11 => refused(8, case),
+        _ => right,
+    }),
+    ("says 11 before 10 to who shows a role", |case, right| match to_roles(case, &right) {
+        Some((header, _)) if right.answer == 10 && header.verb == 2 && case.tables[0] != 3 => refused(11, case),
+        _ => right,
+    }),
+    ("refuses a role that is over", |case, right| match shows_role(case, &right) {
+        Some((_, shown)) if !shown.in_force(case.clock) => refused(10, case),
+        _ => right,
+    }),
+    ("never says 22", |case, right| match right.answer {
+        22 => refused(0, case),
+        _ => right,
+    }),
+    ("says 14 for 22", |case, right| if right.answer == 22 { refused(14, case) } else { right }),
+    ("drops the oldest role for a third", |case, right| {
+        shown_otherwise(case, right, |held, shown| {
+            held.retain(|held| held.in_force(case.clock));
+            match held.iter().position(|held| held.role == shown.role) {
+                Some(place) => held[place] = shown,
+                None => held.push(shown),
+            }
+            if held.len() > 2 {
+                held.remove(0);
+            }
+        })
+    }),
+    ("holds one role", |case, right| match shows_role(case, &right) {
+        Some((row, shown)) if row.asserted.iter().any(|held| held.in_force(case.clock) && held.role != shown.role) => {
+            refused(22, case)
+        }
+        _ => right,
+    }),
+    ("counts roles that are over for 22", |case, right| {
+        shown_otherwise(case, right, |held, shown| {
+            let full = held.len() == 2 && held.iter().all(|held| held.role != shown.role);
+            held.retain(|held| full || held.in_force(case.clock));
+            match held.iter().position(|held| held.role == shown.role) {
+                Some(place) => held[place] = shown,
+                None => held.push(shown),
+            }
+        })
+    }),
+    ("removes no role that is over", |case, right| {
+        shown_otherwise(case, right, |held, shown| {
+            let full = held.len() == 2;
+            held.retain(|held| held.in_force(case.clock) || !full);
+            match held.iter().position(|held| held.role == shown.role) {
+                Some(place) => held[place] = shown,
+                None => held.push(shown),
+            }
+        })
+    }),
+    ("removes roles in their last second", |case, right| {
+        shown_otherwise(case, right, |held, shown| {
+            held.retain(|held| case.clock < held.last);
+            match held.iter().position(|held| held.role == shown.role) {
+                Some(place) => held[place] = shown,
+                None => held.push(shown),
+            }
+        })
+    }),
+    ("gives an equal role its place when it is over", |case, right| {
+        shown_otherwise(case, right, |held, shown| {
+            held.retain(|held| held.in_force(case.clock) || held.role == shown.role);
+            match held.iter().position(|held| held.role == shown.role) {
+                Some(place) => held[place] = shown,
+                None => held.push(shown),
+            }
+        })
+    }),
+    ("puts an equal role at the end", |case, right| {
+        shown_otherwise(case, right, |held, shown| {
+            held.retain(|held| held.in_force(case.clock) && held.role != shown.role);
+            held.push(shown);
+        })
+    }),
+    ("puts a new role first", |case, right| {
+        shown_otherwise(case, right, |held, shown| {
+            held.retain(|held| held.in_force(case.clock));
+            match held.iter().position(|held| held.role == shown.role) {
+                Some(place) => held[place] = shown,
+                None => held.insert(0, shown),
+            }
+        })
+    }),
+    ("keeps the later of two last seconds", |case, right| {
+        shown_otherwise(case, right, |held, shown| {
+            held.retain(|held| held.in_force(case.clock));
+            match held.iter().position(|held| held.role == shown.role) {
+                Some(place) => held[place].last = held[place].last.max(shown.last),
+                None => held.push(shown),
+            }
+        })
+    }),
+    ("takes roles of one number for equal", |case, right| {
+        shown_otherwise(case, right, |held, shown| {
+            held.retain(|held| held.in_force(case.clock));
+            match held.iter().position(|held| held.role.number == shown.role.number) {
+                Some(place) => held[place] = shown,
+                None => held.push(shown),
+            }
+        })
+    }),
+    ("writes another sender's row", |case, mut right| {
+        if let (Some((row, _)), 0) = (shows_role(case, &right), right.answer) {
+            let rows: Vec<&[u8]> = case.tables[CREDENTIALS].chunks(Credential::STORED).collect();
+            let held = usize::from(case.tables[CREDENTIAL_COUNT]);
+            let place = rows.iter().position(|held| held[..2] == row.number.to_be_bytes()).expect("held");
+            let other = (place + 1) % held;
+            let start = |place| CREDENTIALS.start + place * Credential::STORED + Credential::LENGTH;
+            let new = right.tables[start(place)..start(place) + 16].to_vec();
+            right.tables = case.tables;
+            right.tables[start(other)..start(other) + 16].copy_from_slice(&new);
+        }
+        right
+    }),
+    ("keeps roles when the row is replaced", |case, mut right| {
+        let before = case.tables;
+        if let Some(body) = update_of(CRED, case, &right).filter(|body| body.len() > 20 && right.answer == 0) {
+            let mut rows = before[CREDENTIALS].chunks_exact(Credential::STORED);
+            if let Some(held) = rows.find(|row| row[..2] == body[..2]) {
+                let row = stored_row(&mut right, body).expect("stored");
+                row[Credential::LENGTH..].copy_from_slice(&held[Credential::LENGTH..]);
+            }
+        }
+        right
+    }),
+    ("removes roles that are over when they are read", |case, right| match reads_roles(case, &right) {
+        Some(row) if right.answer == 0 => {
+            let mut tables = Tables::read(&case.tables).expect("sound");
+            let own = tables.credentials.iter_mut().find(|held| held.number == row.number).expect("held");
+            own.asserted.retain(|held| held.in_force(case.clock));
+            Seen { tables: tables.bytes(), ..right }
+        }
+        _ => right,
+    }),
+    ("fits a role a second too long", |case, right| {
+        fitting(case, right, |held| held.iter_mut().for_each(|held| held.last = held.last.saturating_add(1)))
+    }),
+    ("fits a role a second too short", |case, right| {
+        fitting(case, right, |held| {
+            // In second 0 it is over at once.
+            held.retain(|held| held.last > 0);
+            held.iter_mut().for_each(|held| held.last -= 1);
+        })
+    }),
+    ("fits a role for ever", |case, right| {
+        fitting(case, right, |held| held.iter_mut().for_each(|held| held.last = u32::MAX))
+    }),
+    ("fits no role that is shown", |case, right| fitting(case, right, |held| held.clear())),
+    ("fits the first role that is shown", |case, right| fitting(case, right, |held| held.truncate(1))),
+    ("fits the last role that is shown", |case, right| {
+        fitting(case, right, |held| {
+            held.drain(..held.len().saturating_sub(1));
+        })
+    }),
+    ("fits a role that is shown in place of the stored one", |case, right| {
+        permitted_by(case, right, |tables| {
+            for row in &mut tables.credentials {
+                row.role = row.role.filter(|_| !row.asserted.iter().any(|held| held.in_force(case.clock)));
+            }
+        })
+    }),
+    ("has roles that are shown count for no link", |case, right| {
+        answered_as(case, right, |tables, _| tables.credentials.iter_mut().for_each(|row| row.asserted.clear()))
+    }),
+    ("replies with roles that are over", |case, right| replied(case, right, |row| bytes_of(&row.asserted))),
+    ("replies with roles before their last second", |case, right| {
+        replied(case, right, |row| {
+            let left: Vec<Asserted> = row.asserted.iter().filter(|held| case.clock < held.last).copied().collect();
+            bytes_of(&left)
+        })
+    }),
+    ("replies with the newest role first", |case, right| {
+        replied(case, right, |row| {
+            let left = row.asserted.iter().rev().filter(|held| held.in_force(case.clock));
+            bytes_of(&left.copied().collect::<Vec<Asserted>>())
+        })
+    }),
+    ("replies with the stored role as well", |case, right| {
+        replied(case, right, |row| {
+            let stored = row.role.map(|role| Asserted { role, last: u32::MAX });
+            let left = row.asserted.iter().filter(|held| held.in_force(case.clock)).copied();
+            bytes_of(&stored.into_iter().chain(left).collect::<Vec<Asserted>>())
+        })
+    }),
+    ("replies with a row owner before the roles", |case, right| {
+        replied(case, right, |row| {
+            let left = row.asserted.iter().filter(|held| held.in_force(case.clock)).copied();
+            [vec![0; 16], bytes_of(&left.collect::<Vec<Asserted>>())].concat()
+        })
+    }),
+    ("replies with both places as they are", |case, right| {
+        replied(case, right, |row| row.stored()[Credential::LENGTH..].to_vec())
+    }),
+    ("replies with roles among the credentials", |case, right| {
+        let of_credentials = case.record.len() == 4 && case.record[1] == CRED << 6;
+        if !of_credentials || right.reply < 16 {
+            return right;
+        }
+        let rows = Tables::read(&case.tables).expect("sound").credentials;
+        let reply = [right.buffer[..16].to_vec(), rows.iter().flat_map(Row::stored).collect()].concat();
+        if reply.len() > case.room {
+            return refused(15, case);
+        }
+        let mut seen = Seen { reply: reply.len(), ..right };
+        seen.buffer[..reply.len()].copy_from_slice(&reply);
+        seen
+    }),
+    ("takes equal roles for sound", |case, right| {
+        blind_to_places(case, right, |places| places[..4] == places[8..12] && places[2..4] != [0, 0])
+    }),
+    ("takes the second place before the first for sound", |case, right| {
+        blind_to_places(case, right, |places| places[..8] == [0; 8])
+    }),
+    ("takes bytes beside no role for sound", |case, right| {
+        blind_to_places(case, right, |places| places[2..4] == [0, 0] || places[10..12] == [0, 0])
     }),
 ];
 
@@ -665,7 +1033,7 @@ const WRITERS: [(&str, Writer); 43] = [
         _ => right,
     }),
     ("looks at the access rows only", |case, right| {
-        let rows = case.tables[ACCESSES].chunks(Access::LENGTH).take(case.tables[3].into()).map(Access::read);
+        let rows = case.tables[ACCESSES].chunks(Access::STORED).take(case.tables[3].into()).map(Access::read);
         match rows.collect::<Option<Vec<Access>>>() {
             Some(accesses) if right.answer == 17 => {
                 let tables = Tables { accesses, ..Tables::fresh() };

@@ -1,4 +1,4 @@
-// Checks 16 and 8 to 14: what is asked for, the device state, then the rows and the room for a new one.
+// Checks 16, 8 to 14 and 22: what is asked for, the device state, then the rows and the room for a new one, or for a role.
 // The first refusal is returned at once. Every public function is total.
 use bodies::ace_row;
 use bodies::cred_row;
@@ -8,23 +8,28 @@ use lookup::check_missing;
 use lookup::count_of;
 use lookup::place;
 use request::check_request;
+use roles::both_taken;
 use rows::Found;
 use rows::part;
 use rules::Action;
+use rules::CRED_ROWS;
 use rules::Check;
 use rules::Head;
 use rules::Table;
+use sender::own_row;
 use states::check_states;
 ghost use mathlib.Core.Path.{_≡_};
 ghost use Rattle.rows.specs.Rows.{placeOf, numberedAs};
-ghost use Rattle.rules.specs.Record.{body};
+ghost use Rattle.rules.specs.Record.{sender, body};
+ghost use Rattle.rules.specs.Roles.{rolesInForce};
 ghost use Rattle.rules.specs.Tables.{rowOf, rows, tablesOf};
-ghost use Rattle.rules.specs.Checks.{refuseIf, verdict, full, askedChecks};
+ghost use Rattle.rules.specs.Permission.{ownRow};
+ghost use Rattle.rules.specs.Checks.{refuseIf, verdict, full, rolesFull, askedChecks};
 
 // Where the table holds the number of the row that the body stores.
 fn numbered_place<'a>(
     h: Head,
-    creds: &'a [u8; 552],
+    creds: &'a [u8; CRED_ROWS],
     aces: &'a [u8; 1152],
     table: Table,
     b: &[u8],
@@ -45,7 +50,7 @@ fn numbered_place<'a>(
 
 fn check_full<'a>(
     h: Head,
-    creds: &'a [u8; 552],
+    creds: &'a [u8; CRED_ROWS],
     aces: &'a [u8; 1152],
     a: Action,
     record: &[u8],
@@ -64,17 +69,36 @@ fn check_full<'a>(
     Check::Pass
 }
 
-// The first of the checks 16 and 8 to 14 that applies to the action `a` of the record.
-// Rules out: the body judged before the permission; a full table that refuses a row whose number it holds.
-pub fn check_asked<'a>(
+// Check 22: both places of the sender's own row hold other roles in force.
+fn check_roles<'a>(
+    clock: u32,
     h: Head,
-    creds: &'a [u8; 552],
+    creds: &'a [u8; CRED_ROWS],
+    aces: &'a [u8; 1152],
+    a: Action,
+    record: &[u8],
+) -> Check
+    ensures { λ c. ⌜ c ≡ refuseIf 22 (rolesFull (rolesInForce clock (ownRow (tablesOf h (now (creds .entry)) (now (aces .entry))) (sender (now («record» .entry))))) (body (now («record» .entry))) a) ⌝ }
+{
+    let Action::Assert(_) = a else {
+        return Check::Pass;
+    };
+    let cred = own_row(h.ncreds, creds, record);
+    Check::refuse_if(22, both_taken(clock, body_of(record), cred))
+}
+
+// The first of the checks 16, 8 to 14 and 22 that applies to the action `a` of the record.
+// Rules out: the body judged before the permission; a full table that refuses a row whose number it holds; a role that is over counted for 22.
+pub fn check_asked<'a>(
+    clock: u32,
+    h: Head,
+    creds: &'a [u8; CRED_ROWS],
     aces: &'a [u8; 1152],
     permission: u8,
     record: &[u8],
     a: Action,
 ) -> Check
-    ensures { λ c. ⌜ c ≡ verdict (askedChecks (tablesOf h (now (creds .entry)) (now (aces .entry))) permission (now («record» .entry)) a) ⌝ }
+    ensures { λ c. ⌜ c ≡ verdict (askedChecks clock (tablesOf h (now (creds .entry)) (now (aces .entry))) permission (now («record» .entry)) a) ⌝ }
 {
     let c = check_request(permission, record, a);
     let Check::Pass = c else {
@@ -88,5 +112,9 @@ pub fn check_asked<'a>(
     let Check::Pass = c else {
         return c;
     };
-    check_full(h, creds, aces, a, record)
+    let c = check_full(h, creds, aces, a, record);
+    let Check::Pass = c else {
+        return c;
+    };
+    check_roles(clock, h, creds, aces, a, record)
 }

@@ -102,19 +102,19 @@ pub fn connection_zeros(row: &[u8]) -> u16
     field(row, 216, 7)
 }
 
-// Whether a security resource is in the set: they are its first four numbers.
+// Whether a security resource is in the set: they are its first five numbers.
 pub fn on_security(row: &[u8]) -> bool
     ensures { λ b. ⌜ b ≡ someSecurity (inSet (now (row .entry))) ⌝ }
 {
-    field(row, 32, 4) != 0
+    field(row, 32, 5) != 0
 }
 
 // Whether each number in the set of resources is known: the numbers between and after the known ones are not in it.
 pub fn set_known(row: &[u8]) -> bool
     ensures { λ b. ⌜ b ≡ setKnown (now (row .entry)) 64 ⌝ }
 {
-    // 4 to 7, 15, and 17 to 63
-    (field(row, 36, 4) == 0)
+    // 5 to 7, 15, and 17 to 63
+    (field(row, 37, 3) == 0)
         & (field(row, 47, 1) == 0)
         & (field(row, 49, 15) == 0)
         & (field(row, 64, 16) == 0)

@@ -1,9 +1,12 @@
 // The fields of a credential row.
-// Number, subject UUID, role, its authority, type. Each contract rules out the bit beside the field and one bit fewer.
+// Number, subject UUID, role, its authority, type, and behind these, its body, two places for asserted roles. Each contract rules out the bit beside the field and one bit fewer.
 use crate::bits::field;
 use rows::part;
+use rules::CRED_BODY;
+use rules::CRED_PLACE;
 ghost use mathlib.Core.Path.{_≡_};
 ghost use Rattle.rules.specs.Bodies.{credSubject, credRole, credAuthority, credType};
+ghost use Rattle.rules.specs.Roles.{bodyOf, firstRole, secondRole};
 ghost use Rattle.rules.specs.Bits.{bits};
 
 pub fn subject(row: &[u8]) -> &[u8]
@@ -36,4 +39,24 @@ pub fn zeros(row: &[u8]) -> u16
     ensures { λ n. ⌜ n ≡ bits (now (row .entry)) 182 2 ⌝ }
 {
     field(row, 182, 2)
+}
+
+// What a body stored.
+pub fn body(row: &[u8]) -> &[u8]
+    ensures { λ r. ⌜ now r ≡ bodyOf (now (row .entry)) ⌝ }
+{
+    part(row, 0, CRED_BODY)
+}
+
+// The place of the asserted role that came first.
+pub fn first_role(row: &[u8]) -> &[u8]
+    ensures { λ r. ⌜ now r ≡ firstRole (now (row .entry)) ⌝ }
+{
+    part(row, CRED_BODY, CRED_PLACE)
+}
+
+pub fn second_role(row: &[u8]) -> &[u8]
+    ensures { λ r. ⌜ now r ≡ secondRole (now (row .entry)) ⌝ }
+{
+    part(row, CRED_BODY + CRED_PLACE, CRED_PLACE)
 }

@@ -1,23 +1,29 @@
 // The values that a body may have, and what it could store as a row.
 // A test for each field, in the order of the layout; a body of another length is no row.
 use fields::ace;
+use fields::asserted::no_role;
+use fields::asserted::same_role;
 use fields::body;
 use fields::cred;
 use fields::word;
 use rows::part;
+use rules::CRED_BODY;
+use rules::CRED_PLACE;
+use rules::CRED_ROW;
 use rules::Table;
 use rules::Uuid;
 ghost use mathlib.Core.Path.{_≡_};
 ghost use Rattle.rules.specs.Bodies.{isNil, ownerBody, stateBody, credStorable, subjectStorable, aceStorable};
+ghost use Rattle.rules.specs.Roles.{rolesSound, credHeld};
 ghost use Rattle.rules.specs.Tables.{stride, capacity, storable};
 
 // Bytes of a row.
-// Rules out: one length for both tables; a length that a body does not have.
+// Rules out: one length for both tables; a credential row without its places for roles.
 pub fn stride_of(table: Table) -> usize
     ensures { λ r. ⌜ r ≡ stride table ⌝ }
 {
     match table {
-        Table::Creds => 23,
+        Table::Creds => CRED_ROW,
         Table::Aces => 36,
     }
 }
@@ -58,12 +64,12 @@ pub fn state_body(b: &[u8]) -> bool
     (body::target(b) <= 4) & (body::target_zeros(b) == 0)
 }
 
-// A credential row that a body could store.
+// What a body of 23 bytes may say of a credential.
 // Rules out: number 0; two bits of the type; an authority without a role.
 pub fn cred_storable(row: &[u8]) -> bool
     ensures { λ r. ⌜ r ≡ credStorable (now (row .entry)) ⌝ }
 {
-    if row.len() != 23 {
+    if row.len() != CRED_BODY {
         return false;
     }
     let numbered = word(row) != 0;
@@ -71,6 +77,32 @@ pub fn cred_storable(row: &[u8]) -> bool
     let role = (cred::role(row) != 0) | (cred::authority(row) == 0);
     let typed = u16::count_ones(cred::type_bits(row)) <= 1;
     numbered & named & role & typed & (cred::zeros(row) == 0)
+}
+
+// The first place is used before the second, a place that is not used is zero, and the roles are different ones.
+fn roles_sound(row: &[u8]) -> bool
+    ensures { λ r. ⌜ r ≡ rolesSound (now (row .entry)) ⌝ }
+{
+    let first = cred::first_role(row);
+    if no_role(first) {
+        return rows::all_zero(row, CRED_BODY);
+    }
+    let second = cred::second_role(row);
+    if no_role(second) {
+        return rows::all_zero(row, CRED_BODY + CRED_PLACE);
+    }
+    !same_role(first, second)
+}
+
+// A credential row that the table may hold.
+// Rules out: a body without its places; a role twice; the second place used before the first.
+pub fn cred_held(row: &[u8]) -> bool
+    ensures { λ r. ⌜ r ≡ credHeld (now (row .entry)) ⌝ }
+{
+    if row.len() != CRED_ROW {
+        return false;
+    }
+    cred_storable(cred::body(row)) & roles_sound(row)
 }
 
 fn subject_storable(row: &[u8]) -> bool
@@ -100,13 +132,13 @@ pub fn ace_storable(row: &[u8]) -> bool
     numbered & zeros & ace::set_known(row) & subject_storable(row) & period
 }
 
-// A row of the table that a body could store.
+// A row that the table may hold.
 // Rules out: one table's test for both; a row of the other table's length.
 pub fn row_storable(table: Table, row: &[u8]) -> bool
     ensures { λ r. ⌜ r ≡ storable table (now (row .entry)) ⌝ }
 {
     match table {
-        Table::Creds => cred_storable(row),
+        Table::Creds => cred_held(row),
         Table::Aces => ace_storable(row),
     }
 }

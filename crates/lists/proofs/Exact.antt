@@ -14,11 +14,10 @@ use Rattle.rules.specs.declared.Check.{Check}
 use Rattle.rules.specs.declared.Check.the-variants.{Pass, Refuse}
 use Rattle.rules.specs.declared.Table.the-variants.{Aces}
 use Rattle.rules.specs.Tables.{storable}
-use Rattle.rules.specs.Defaults.{listed}
 use Rattle.rules.specs.Checks.{refuseIf, verdict}
 use Rattle.rules.proofs.Bools.{bool-cases, and-left, and-right, or-left, or-right}
 use Rattle.lists.specs.declared.Tested.{Tested}
-use Rattle.lists.specs.Lists.{badSize, unfit, excessive, rowChecks, said, accepted, namedOr, rowsTested, listTested}
+use Rattle.lists.specs.Lists.{listed, badSize, unfit, excessive, rowChecks, said, accepted, namedOr, rowsTested, listTested}
 
 -- ---- faults
 
@@ -42,12 +41,12 @@ pub record Behind (before : List Row) (w : Row) (ws : List Row) : Type 0 where
 -- the list has no fault
 pub record Faultless (b : List ℕ) : Type 0 where
   pub whole : badSize b ≡ false
-  pub clean : Clean (listed Aces b)
+  pub clean : Clean (listed b)
 
 -- the list's first fault is n, at row m: its size, or the fault of a row with none before it
 pub data Fault (b : List ℕ) : ℕ → ℕ → Type 0 where
   size : badSize b ≡ true → Fault b 19 0
-  row : {before : List Row} {w : Row} {n : ℕ} → badSize b ≡ false → Behind before w (listed Aces b) → RowFault before w n → Fault b n (suc (length before))
+  row : {before : List Row} {w : Row} {n : ℕ} → badSize b ≡ false → Behind before w (listed b) → RowFault before w n → Fault b n (suc (length before))
 
 -- ---- rows without a fault
 
@@ -108,9 +107,9 @@ rows-told earlier (w ∷ ws) c = go (unfit earlier w) refl (excessive w) refl (�
 
 -- ---- of a list
 
-list-told : (b : List ℕ) → badSize b ≡ false → Told (listed Aces b) (listTested b)
+list-told : (b : List ℕ) → badSize b ≡ false → Told (listed b) (listTested b)
 unfolding listTested refuseIf
-list-told b e = rw e (rows-told [] (listed Aces b) no-rows)
+list-told b e = rw e (rows-told [] (listed b) no-rows)
 
 -- 19, with row 0, for a bad size
 size-refused : (b : List ℕ) → badSize b ≡ true → listTested b ≡ said 19 0
@@ -123,7 +122,7 @@ module _ (b : List ℕ) where
   unfolding listTested refuseIf rowsTested
   faultless-accepted f =
       rw (f .whole)
-      (ap (rowsTested []) (sym (append-nil (listed Aces b))) ∙ rows-past [] (listed Aces b) [] (f .clean))
+      (ap (rowsTested []) (sym (append-nil (listed b))) ∙ rows-past [] (listed b) [] (f .clean))
 
   -- and no other
   pub accepted-faultless : listTested b .answer ≡ 0 → Faultless b
@@ -132,12 +131,12 @@ module _ (b : List ℕ) where
       (λ e. absurd (omega (arith, ap (λ (x : Tested). x .answer) (size-refused b e))))
       (λ e. go e (listTested b) (list-told b e) h)
     where
-      go : badSize b ≡ false → (x : Tested) → Told (listed Aces b) x → x .answer ≡ 0 → Faultless b
+      go : badSize b ≡ false → (x : Tested) → Told (listed b) x → x .answer ≡ 0 → Faultless b
       go e x (clean c) h = record { whole = e; clean = c }
       go e x (bad s (unstored u)) h = absurd (omega arith)
       go e x (bad s (excess u g)) h = absurd (omega arith)
 
-  told-fault : badSize b ≡ false → (x : Tested) → Told (listed Aces b) x → (x .answer ≡ 0 → ⊥) → Fault b (x .answer) (x .row)
+  told-fault : badSize b ≡ false → (x : Tested) → Told (listed b) x → (x .answer ≡ 0 → ⊥) → Fault b (x .answer) (x .row)
   told-fault e x (clean c) z = absurd (z refl)
   told-fault e x (bad s f) z = row e s f
 

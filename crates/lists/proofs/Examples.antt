@@ -15,7 +15,7 @@ use Rattle.rules.specs.Checks.{refuseIf}
 use Rattle.rules.specs.Outcome.{withState, withOwner, replyTo, tablesAfter}
 use Rattle.rules.specs.Run.{final}
 use Rattle.rules.specs.Isolation.{rowAlters}
-use Rattle.rules.proofs.Examples.{definitions, uuid, credRow, owned5, aceBody, aceRow, weight, connected}
+use Rattle.rules.proofs.Examples.{definitions, uuid, credRow, withCreds, owned5, aceBody, aceRow, weight, connected}
 use Rattle.lists.specs.Lists.{badSize, unfit, excessive, said, accepted, rowsTested, listTested}
 use Rattle.lists.specs.Loading.{ownsDevice, storing, Loaded}
 use Rattle.lists.proofs.Loaded.{accepted-loaded}
@@ -58,6 +58,8 @@ pub lists-tested :
     ∷ joined ((aceBody 1 2 4 0 onAcl2 (connected 1) ++ second9) ∷ [])
     -- all five for a connection by every wildcard, which reach no security resource
     ∷ joined (good ++ (aceRow 4 2 31 7 weight (connected 1) ∷ []))
+    -- UPDATE of roles, a security resource too (U11)
+    ∷ joined (good ++ (aceRow 4 1 4 0 (0x08 ∷ replicate 7 0) role7 ∷ []))
     -- both faults in a row; 21 in a row before one with 20
     ∷ joined (good ++ (aceRow 2 1 4 0 onAcl2 role7 ∷ []))
     ∷ joined (good ++ (aceRow 4 1 4 0 onAcl2 role7 ∷ aceRow 1 0 2 0 weight uuid ∷ []))
@@ -73,6 +75,7 @@ pub lists-tested :
     ∷ said 21 4
     ∷ said 21 1
     ∷ accepted
+    ∷ said 21 4
     ∷ said 20 4
     ∷ said 21 4
     ∷ []
@@ -90,7 +93,7 @@ loading =
     ∷ []
 
 pub good-loaded : Loaded noDefaults owned5 loading good
-unfolding testing onAcl2 role7 good loading credRow owned5 ownsDevice
+unfolding testing onAcl2 role7 good loading credRow withCreds owned5 ownsDevice
 good-loaded =
     accepted-loaded noDefaults owned5 5 (joined good) loading refl
     (record { number = omega arith; isSound = refl; inRfpro = refl; noAces = refl; owner = refl }) refl
@@ -100,12 +103,12 @@ pub premises-needed :
     map (λ (t : Tables). replyTo noDefaults t (asked 0 (storing 5 (aceRow 1 0 31 0 onAcl2 uuid)) 0) .answer)
     (withState owned5 0 ∷ withState owned5 3 ∷ withOwner owned5 1 (replicate 16 0x22) ∷ [])
     ≡ 1 ∷ 11 ∷ 8 ∷ []
-unfolding testing onAcl2 storing credRow owned5
+unfolding testing onAcl2 storing credRow withCreds owned5
 premises-needed = refl
 
 -- a row that is held before stays in front of the list's
 pub held-in-front :
     rows Aces (final (tablesAfter noDefaults) (withRows Aces owned5 (aceRow 9 0 2 0 weight uuid ∷ [])) loading)
     ≡ aceRow 9 0 2 0 weight uuid ∷ good
-unfolding testing onAcl2 role7 good loading storing credRow owned5
+unfolding testing onAcl2 role7 good loading storing credRow withCreds owned5
 held-in-front = refl

@@ -25,8 +25,8 @@ use Rattle.rules.specs.Directory.{resourceOf, acl2}
 use Rattle.rules.specs.Record.{Request, partner, sender, verb, connection, resource, headerZeros, credential, body}
 use Rattle.rules.specs.Bodies.{rowNumber}
 use Rattle.rules.specs.Tables.{storable, rowOf, rows, rowsIn, withRows, sound}
-use Rattle.rules.specs.Defaults.{Defaults, listed}
-use Rattle.rules.specs.Permission.{U, has, numbered, credentialIn, isRow, gives, isOwner, byOwner, byNoOwner, effectiveOf, permission}
+use Rattle.rules.specs.Defaults.{Defaults}
+use Rattle.rules.specs.Permission.{U, has, numbered, credentialIn, isRow, gives, isOwner, byOwner, byNoOwner, byRoles, effectiveOf, permission}
 use Rattle.rules.specs.Action.{ifAllowed, storeRow, updateRows, updateAction, securityAction, action}
 use Rattle.rules.specs.States.{writeAllowed}
 use Rattle.rules.specs.Reading.{reads, replyOf, tooShort}
@@ -40,10 +40,10 @@ use Rattle.rules.proofs.PermissionLaws.{has-or}
 use Rattle.rules.proofs.BodyLaws.{sized}
 use Rattle.rules.proofs.TableLaws.{rows-with}
 use Rattle.rules.proofs.SoundKept.{sound-kept}
-use Rattle.rules.proofs.ReadBack.{row-itself}
-use Rattle.rules.proofs.Gaps.{number-zero, has-number}
+use Rattle.rules.proofs.ReadBack.{ace-itself}
+use Rattle.rules.proofs.Gaps.{has-number}
 use Rattle.rules.proofs.Built.{Call, told, Built, handedBack, built-same}
-use Rattle.lists.specs.Lists.{badSize, listTested}
+use Rattle.lists.specs.Lists.{listed, badSize, listTested}
 use Rattle.lists.specs.Loading.{ownsDevice, storing, Stores, Ready, Loaded}
 use Rattle.lists.proofs.Exact.{Clean, accepted-faultless}
 
@@ -108,7 +108,7 @@ module _ (t : Tables) (n : ℕ) (h : sound t ≡ true) (o : ownsDevice t (partne
   unfolding hasKey word
   not-zero e =
       let z : take 2 own ≡ 0 ∷ 0 ∷ [] = same-true (take 2 own) (n / 256 ∷ n % 256 ∷ []) (own-is .passed) ∙ rw e in
-      true≢false (sym (eq-eqb (rowNumber own) 0 (number-zero own z)) ∙ not-true _ (has-number Creds own (own-is .has)))
+      has-number Creds own (own-is .has) z
 
   -- the owner's rights
   all-given : byOwner t own acl2 ≡ 31
@@ -119,10 +119,12 @@ module _ (t : Tables) (n : ℕ) (h : sound t ≡ true) (o : ownsDevice t (partne
   unfolding effectiveOf
   may-update clock =
       let granted = unionOf (gives clock own 1 acl2) (rows Aces t) in
-      has-or (bitOr granted (byOwner t own acl2)) (byNoOwner t acl2) 2
+      has-or (bitOr (bitOr granted (byOwner t own acl2)) (byNoOwner t acl2)) (byRoles 1 acl2) 2
+      ∙ ap (λ (b : Bool). b || has (byRoles 1 acl2) 4)
+      (has-or (bitOr granted (byOwner t own acl2)) (byNoOwner t acl2) 2
       ∙ ap (λ (b : Bool). b || has (byNoOwner t acl2) 4)
       (has-or granted (byOwner t own acl2) 2
-      ∙ or-true-right (has granted 4) _ (ap (λ (p : ℕ). has p 4) all-given ∙ all-has))
+      ∙ or-true-right (has granted 4) _ (ap (λ (p : ℕ). has p 4) all-given ∙ all-has)))
 
 -- ---- one row
 
@@ -184,13 +186,13 @@ module _ (d : Defaults) (t : Tables) (n : ℕ) (held : List Row) (w : Row) (q : 
   offer-good = rw (s .on, s .updates)
 
   row-itself-stored : rowOf Aces (body r) ≡ w
-  row-itself-stored = ap (rowOf Aces) (s .carries) ∙ row-itself Aces w (new .fits)
+  row-itself-stored = ap (rowOf Aces) (s .carries) ∙ ace-itself w (new .fits)
 
   stores-row : action r ≡ Store Aces
   unfolding action securityAction updateAction updateRows storeRow ifAllowed resourceOf
-  stores-row = rw (s .on, s .updates, s .carries, sized Aces w (new .fits), row-itself Aces w (new .fits), new .fits)
+  stores-row = rw (s .on, s .updates, s .carries, sized Aces w (new .fits), ace-itself w (new .fits), new .fits)
 
-  room-good : tooShort t r (q .room) ≡ false
+  room-good : tooShort t q ≡ false
   unfolding tooShort replyOf reads
   room-good = rw (s .updates) (le-ltb (q .room) 0 (omega arith))
 
@@ -228,7 +230,7 @@ module _ (d : Defaults) (t : Tables) (n : ℕ) (held : List Row) (w : Row) (q : 
   unfolding outcome outcomeAt
   row-last =
       ap (λ (c : Check). outcomeOf d t (permission (q .clock) t r) q c .tables) row-permitted
-      ∙ ap (λ (a : Action). effect d t (body r) a) stores-row
+      ∙ ap (λ (a : Action). effect d (q .clock) t r a) stores-row
       ∙ ap (withRows Aces t) (ap₂ (λ (v : Row) (vs : List Row). stored v vs) row-itself-stored (at .holds) ∙ store-absent w held (new .alone))
 
   all-storable : every (storable Aces) (held ++ (w ∷ [])) ≡ true
@@ -280,7 +282,7 @@ load d t n held (w ∷ ws) (q ∷ qs) small at c few e =
     (subst (Loaded d (tablesAfter d t q) qs) a
     (load d (tablesAfter d t q) n (held ++ (w ∷ [])) ws qs small (holding-more d t n held w q at new s) (rw a c) (rw a few) (ap (drop 1) e)))
 
-few-rows : (b : List ℕ) → badSize b ≡ false → length (listed Aces b) ≤ 32
+few-rows : (b : List ℕ) → badSize b ≡ false → length (listed b) ≤ 32
 unfolding badSize
 few-rows b e = rw (length-rowsOf 36 (length b / 36) b) (ltb-false 32 (length b / 36) (or-right (not (eqb (length b % 36) 0)) _ e))
 
@@ -290,18 +292,18 @@ none-held t z = rw z
 
 -- an accepted list is permitted throughout
 pub accepted-loaded : (d : Defaults) (t : Tables) (n : ℕ) (b : List ℕ) (qs : List Request)
-    → listTested b .answer ≡ 0 → Ready n t → Stores n qs (listed Aces b) → Loaded d t qs (listed Aces b)
+    → listTested b .answer ≡ 0 → Ready n t → Stores n qs (listed b) → Loaded d t qs (listed b)
 accepted-loaded d t n b qs a ready e =
     let f = accepted-faultless b a in
-    load d t n [] (listed Aces b) qs (ready .number)
+    load d t n [] (listed b) qs (ready .number)
     (record { isSound = ready .isSound; inRfpro = ready .inRfpro; owner = ready .owner; holds = none-held t (ready .noAces) })
     (f .clean) (few-rows b (f .whole)) e
 
 -- the same of any calls that meet the contracts of `judge` and `payload`, each on the tables handed back last
 pub built-loaded : (d : Defaults) (t : Tables) (n : ℕ) (b : List ℕ) (qs : List Request) (cs : List Call)
-    → listTested b .answer ≡ 0 → Ready n t → Stores n qs (listed Aces b) → Built d t qs cs
+    → listTested b .answer ≡ 0 → Ready n t → Stores n qs (listed b) → Built d t qs cs
     → (map (λ (p : Reply). p .answer) (map told cs) ≡ map (λ (q : Request). 0) qs)
-    × (rows Aces (handedBack t cs) ≡ listed Aces b)
+    × (rows Aces (handedBack t cs) ≡ listed b)
     × (withRows Aces (handedBack t cs) [] ≡ withRows Aces t [])
 built-loaded d t n b qs cs a ready e built =
     let same = built-same d t qs cs built in

@@ -5,16 +5,19 @@ use mathlib.Core.Bool.{Bool, not, _&&_, _||_}
 use mathlib.Core.List.{List, [], _∷_, _++_}
 use lib.Dec.{eqb, ltb}
 use lib.ListN.{length}
-use Rattle.rows.specs.Rows.{Row, some, numberedAs}
+use Rattle.rows.specs.Rows.{Row, rowsOf, some, numberedAs}
 use Rattle.rules.specs.declared.Check.{Check}
 use Rattle.rules.specs.declared.Check.the-variants.{Pass, Refuse}
 use Rattle.rules.specs.declared.Table.the-variants.{Aces}
 use Rattle.rules.specs.Bodies.{aceKind}
 use Rattle.rules.specs.Tables.{stride, capacity, storable}
-use Rattle.rules.specs.Defaults.{listed}
 use Rattle.rules.specs.Checks.{refuseIf, verdict}
 use Rattle.rules.specs.Isolation.{rowAlters}
 use Rattle.lists.specs.declared.Tested.{Tested}
+
+-- the whole rows of a list
+abbrev pub listed : List ℕ → List Row
+listed b = rowsOf (stride Aces) (length b / stride Aces) b
 
 -- 19: no whole number of rows, or more than there is room for
 unfoldable pub badSize : List ℕ → Bool
@@ -51,4 +54,4 @@ rowsTested earlier [] = accepted
 rowsTested earlier (w ∷ ws) = namedOr (verdict (rowChecks earlier w)) (suc (length earlier)) (rowsTested (earlier ++ (w ∷ [])) ws)
 
 unfoldable pub listTested : List ℕ → Tested
-listTested b = namedOr (refuseIf 19 (badSize b)) 0 (rowsTested [] (listed Aces b))
+listTested b = namedOr (refuseIf 19 (badSize b)) 0 (rowsTested [] (listed b))

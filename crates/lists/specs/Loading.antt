@@ -6,18 +6,18 @@ use mathlib.Core.Bool.{Bool, true, _&&_}
 use mathlib.Core.List.{List, [], _∷_, _++_, map}
 use Rattle.rows.specs.Rows.{Row}
 use Rattle.rules.specs.declared.Tables.{Tables}
-use Rattle.rules.specs.declared.Table.the-variants.{Creds, Aces}
+use Rattle.rules.specs.declared.Table.the-variants.{Aces}
 use Rattle.rules.specs.Bits.{word}
 use Rattle.rules.specs.Record.{Request, Sender, partner}
 use Rattle.rules.specs.Tables.{rows, withRows, sound}
 use Rattle.rules.specs.Defaults.{Defaults}
-use Rattle.rules.specs.Permission.{credentialIn, isRow, names}
+use Rattle.rules.specs.Permission.{ownRow, isRow, names}
 use Rattle.rules.specs.Outcome.{Reply, replyTo, tablesAfter}
 use Rattle.rules.specs.Run.{replies, final}
 
 -- the sender has a credential row, and it names the device owner
 unfoldable pub ownsDevice : Tables → Sender → Bool
-ownsDevice t s = isRow (credentialIn (rows Creds t) s) && names (t .devowner) (credentialIn (rows Creds t) s)
+ownsDevice t s = isRow (ownRow t s) && names (t .devowner) (ownRow t s)
 
 -- partner n's record that stores the row: verb 2, connection 1, resource 3, six zero bits, the number, and the row as its body
 unfoldable pub storing : ℕ → Row → List ℕ

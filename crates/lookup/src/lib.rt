@@ -5,6 +5,8 @@ use fields::record::body_of;
 use outcome::no_places;
 use rows::Found;
 use rules::Action;
+use rules::CRED_ROW;
+use rules::CRED_ROWS;
 use rules::Check;
 use rules::Head;
 use rules::Places;
@@ -19,7 +21,12 @@ ghost use Rattle.rules.specs.Checks.{refuseIf, missing};
 
 // Rows counted.
 // Rules out: the other table's count; the rows that there is room for.
-pub fn count_of<'a>(h: Head, creds: &'a [u8; 552], aces: &'a [u8; 1152], table: Table) -> usize
+pub fn count_of<'a>(
+    h: Head,
+    creds: &'a [u8; CRED_ROWS],
+    aces: &'a [u8; 1152],
+    table: Table,
+) -> usize
     ensures { λ r. ⌜ r ≡ count table (tablesOf h (now (creds .entry)) (now (aces .entry))) ⌝ }
 {
     match table {
@@ -29,7 +36,7 @@ pub fn count_of<'a>(h: Head, creds: &'a [u8; 552], aces: &'a [u8; 1152], table: 
 }
 
 // Rows held.
-fn held_of<'a>(h: Head, creds: &'a [u8; 552], aces: &'a [u8; 1152], table: Table) -> usize
+fn held_of<'a>(h: Head, creds: &'a [u8; CRED_ROWS], aces: &'a [u8; 1152], table: Table) -> usize
     ensures { λ r. ⌜ r ≡ length (rows table (tablesOf h (now (creds .entry)) (now (aces .entry)))) ⌝ }
 {
     match table {
@@ -42,7 +49,7 @@ fn held_of<'a>(h: Head, creds: &'a [u8; 552], aces: &'a [u8; 1152], table: Table
 // Rules out: a later row; a row of the other table.
 pub fn place<'a>(
     h: Head,
-    creds: &'a [u8; 552],
+    creds: &'a [u8; CRED_ROWS],
     aces: &'a [u8; 1152],
     table: Table,
     at: usize,
@@ -53,7 +60,7 @@ pub fn place<'a>(
     match table {
         Table::Creds => {
             let count = held(h.ncreds, 24);
-            rows::find(creds, 23, count, at, key)
+            rows::find(creds, CRED_ROW, count, at, key)
         }
         Table::Aces => {
             let count = held(h.naces, 32);
@@ -66,7 +73,7 @@ pub fn place<'a>(
 // Rules out: 13 for an empty table that is emptied; a row of the other table that counts.
 pub fn check_missing<'a>(
     h: Head,
-    creds: &'a [u8; 552],
+    creds: &'a [u8; CRED_ROWS],
     aces: &'a [u8; 1152],
     a: Action,
     record: &[u8],
@@ -89,7 +96,7 @@ pub fn check_missing<'a>(
 // The places behind the first row that has the key's bytes from `at` on.
 fn gap<'a>(
     h: Head,
-    creds: &'a [u8; 552],
+    creds: &'a [u8; CRED_ROWS],
     aces: &'a [u8; 1152],
     table: Table,
     at: usize,
@@ -110,7 +117,7 @@ fn gap<'a>(
 // Rules out: places before the first row that goes; places for a row that is stored.
 pub fn places_of<'a>(
     h: Head,
-    creds: &'a [u8; 552],
+    creds: &'a [u8; CRED_ROWS],
     aces: &'a [u8; 1152],
     a: Action,
     record: &[u8],

@@ -87,7 +87,7 @@ stored w h =
 
 -- the numbers that are not in the set
 record Ranges (w : Row) : Type 0 where
-  below8 : bits w 36 4 ≡ 0
+  below8 : bits w 37 3 ≡ 0
   fifteen : bits w 47 1 ≡ 0
   below32 : bits w 49 15 ≡ 0
   below48 : bits w 64 16 ≡ 0
@@ -116,11 +116,11 @@ module _ (w v : Row) (gw : Stored w) (gv : Stored v) (c : chosen w ≡ chosen v)
       let one = agree-bit w v in
       let field = agree-field w v in
       let b : Agree w v 36 = one 35 (one 34 (one 33 (one 32 a (in-set 0 (flag 0))) (in-set 1 (flag 1))) (in-set 2 (flag 2))) (in-set 3 (flag 3)) in
-      let d : Agree w v 40 = field 36 4 b (rw′ .below8 ∙ sym (rv .below8)) in
-      let e : Agree w v 44 = one 43 (one 42 (one 41 (one 40 d (in-set 8 (flag 4))) (in-set 9 (flag 5))) (in-set 10 (flag 6))) (in-set 11 (flag 7)) in
-      let f : Agree w v 47 = one 46 (one 45 (one 44 e (in-set 12 (flag 8))) (in-set 13 (flag 9))) (in-set 14 (flag 10)) in
+      let d : Agree w v 40 = field 37 3 (one 36 b (in-set 4 (flag 4))) (rw′ .below8 ∙ sym (rv .below8)) in
+      let e : Agree w v 44 = one 43 (one 42 (one 41 (one 40 d (in-set 8 (flag 5))) (in-set 9 (flag 6))) (in-set 10 (flag 7))) (in-set 11 (flag 8)) in
+      let f : Agree w v 47 = one 46 (one 45 (one 44 e (in-set 12 (flag 9))) (in-set 13 (flag 10))) (in-set 14 (flag 11)) in
       let g : Agree w v 48 = field 47 1 f (rw′ .fifteen ∙ sym (rv .fifteen)) in
-      let h : Agree w v 64 = field 49 15 (one 48 g (in-set 16 (flag 11))) (rw′ .below32 ∙ sym (rv .below32)) in
+      let h : Agree w v 64 = field 49 15 (one 48 g (in-set 16 (flag 12))) (rw′ .below32 ∙ sym (rv .below32)) in
       let i : Agree w v 80 = field 64 16 h (rw′ .below48 ∙ sym (rv .below48)) in
       field 80 16 i (rw′ .below64 ∙ sym (rv .below64))
 
@@ -132,9 +132,9 @@ module _ (w v : Row) (gw : Stored w) (gv : Stored v) (c : chosen w ≡ chosen v)
       let a : Agree w v 16 = field 0 16 (agree-none w v) number in
       let b : Agree w v 18 = field 16 2 a (subject .kind) in
       let d : Agree w v 23 = field 18 5 b permission in
-      let e : Agree w v 24 = field 23 1 d (wildcard 23 (flag 12)) in
-      let f : Agree w v 25 = field 24 1 e (wildcard 24 (flag 13)) in
-      let g : Agree w v 26 = field 25 1 f (wildcard 25 (flag 14)) in
+      let e : Agree w v 24 = field 23 1 d (wildcard 23 (flag 13)) in
+      let f : Agree w v 25 = field 24 1 e (wildcard 24 (flag 14)) in
+      let g : Agree w v 26 = field 25 1 f (wildcard 25 (flag 15)) in
       let h : Agree w v 32 = field 26 6 g (gw .zeros ∙ sym (gv .zeros)) in
       let i : Agree w v 256 = field 224 32 (subject .bytes (set-agrees h)) (gw .first ∙ sym (gv .first)) in
       let j : Agree w v 288 = field 256 32 i (gw .last ∙ sym (gv .last)) in

@@ -69,7 +69,7 @@ subjectText w = lookup (aceKind w) ((0, uuidSubject w) ∷ (1, roleSubject w) �
 
 abbrev pub names : List (ℕ × String)
 names =
-    (0, "/oic/sec/doxm") ∷ (1, "/oic/sec/pstat") ∷ (2, "/oic/sec/cred") ∷ (3, "/oic/sec/acl2")
+    (0, "/oic/sec/doxm") ∷ (1, "/oic/sec/pstat") ∷ (2, "/oic/sec/cred") ∷ (3, "/oic/sec/acl2") ∷ (4, "/oic/sec/roles")
     ∷ (8, "/weight") ∷ (9, "/tare") ∷ (10, "/zero") ∷ (11, "/ticket")
     ∷ (12, "/lamp") ∷ (13, "/calib") ∷ (14, "/display") ∷ (16, "/yard")
     ∷ []

@@ -1,25 +1,58 @@
--- The bytes of the rows that a table holds are the first bytes of the table.
--- Over the table, so that both have one law.
-use Prim.Native.Nat.{ℕ, _*_, _≤_, min}
+-- The bytes of the rows that a table holds: of access rows the first bytes of the table, of credential rows their bodies.
+use Prim.Native.Nat.{ℕ, suc, _*_, _-_, _≤_, _<_, min}
 use native.Mathlib.Nat.{mul-le-mul-right, min-le-right}
+use native.Mathlib.Omega.{arith}
 use mathlib.Core.Path.{_≡_, sym, ap, _∙_}
-use mathlib.Core.List.{List}
-use lib.ListN.{length, take, drop}
-use lib.Seq.{length-take-le}
-use Rattle.rows.specs.Rows.{joined}
-use Rattle.rows.proofs.Laws.{joined-rowsOf}
-use Rattle.rules.specs.declared.Table.{Table}
-use Rattle.rules.specs.Tables.{stride, capacity, rowsIn}
+use mathlib.Core.List.{List, [], _++_, map}
+use lib.ListN.{length, take, drop, length-map}
+use lib.Seq.{length-take-le, take-take}
+use Rattle.rows.specs.Rows.{rowsOf, joined}
+use Rattle.rows.proofs.Laws.{joined-rowsOf, length-rowsOf, take-rest}
+use Rattle.rows.proofs.Kept.{long-rowsOf, length-joined}
+use Rattle.rules.specs.declared.Table.the-variants.{Creds, Aces}
+use Rattle.rules.specs.Tables.{rowsIn}
+use Rattle.rules.specs.Roles.{bodyOf}
+use Rattle.rules.proofs.ReadBack.{bodies-long}
 
-row-bytes : (k : Table) (n : ℕ) (b : List ℕ) → joined (rowsIn k n b) ≡ take (min n (capacity k) * stride k) b
+-- ---- access rows
+
+row-bytes : (n : ℕ) (b : List ℕ) → joined (rowsIn Aces n b) ≡ take (min n 32 * 36) b
 unfolding rowsIn
-row-bytes k n b = joined-rowsOf (stride k) (min n (capacity k)) b
+row-bytes n b = joined-rowsOf 36 (min n 32) b
 
 -- a part that code took
-pub row-part : (k : Table) (n m : ℕ) (b p : List ℕ) → m ≡ min n (capacity k) → p ≡ take (m * stride k) b → p ≡ joined (rowsIn k n b)
-row-part k n m b p e f = f ∙ ap (λ (i : ℕ). take (i * stride k) b) e ∙ sym (row-bytes k n b)
+pub row-part : (n m : ℕ) (b p : List ℕ) → m ≡ min n 32 → p ≡ take (m * 36) b → p ≡ joined (rowsIn Aces n b)
+row-part n m b p e f = f ∙ ap (λ (i : ℕ). take (i * 36) b) e ∙ sym (row-bytes n b)
 
-pub row-length : (k : Table) (n m : ℕ) (b : List ℕ) → m ≡ min n (capacity k) → length b ≡ capacity k * stride k → m * stride k ≡ length (joined (rowsIn k n b))
-row-length k n m b e l =
-    ap (λ (i : ℕ). i * stride k) e
-    ∙ sym (ap length (row-bytes k n b) ∙ length-take-le (min n (capacity k) * stride k) b (rw l (mul-le-mul-right (stride k) (min-le-right n (capacity k)))))
+pub row-length : (n m : ℕ) (b : List ℕ) → m ≡ min n 32 → length b ≡ 1152 → m * 36 ≡ length (joined (rowsIn Aces n b))
+row-length n m b e l =
+    ap (λ (i : ℕ). i * 36) e
+    ∙ sym (ap length (row-bytes n b) ∙ length-take-le (min n 32 * 36) b (rw l (mul-le-mul-right 36 (min-le-right n 32))))
+
+-- ---- the bodies of so many credential rows
+
+abbrev pub bodies : ℕ → List ℕ → List ℕ
+bodies n b = joined (map bodyOf (rowsOf 39 n b))
+
+pub bodies-held : (n m : ℕ) (b : List ℕ) → m ≡ min n 24 → bodies m b ≡ joined (map bodyOf (rowsIn Creds n b))
+unfolding rowsIn
+bodies-held n m b e = ap (λ (i : ℕ). bodies i b) e
+
+pub bodies-length : (n : ℕ) (b : List ℕ) → n * 39 ≤ length b → length (bodies n b) ≡ n * 23
+bodies-length n b h =
+    length-joined 23 (map bodyOf (rowsOf 39 n b)) (bodies-long (rowsOf 39 n b) (long-rowsOf 39 n b h))
+    ∙ ap (λ (i : ℕ). i * 23) (length-map (rowsOf 39 n b) bodyOf ∙ length-rowsOf 39 n b)
+
+one-more : (n : ℕ) (b : List ℕ) → bodies (suc n) b ≡ take 23 b ++ bodies n (drop 39 b)
+unfolding rowsOf joined
+one-more n b = ap (λ (l : List ℕ). l ++ bodies n (drop 39 b)) (take-take 23 39 b (omega arith))
+
+-- the first, and those behind it
+pub bodies-take : (n : ℕ) (b : List ℕ) → 0 < n → bodies n b ≡ take 23 b ++ bodies (n - 1) (take (length b - 39) (drop 39 b))
+bodies-take n b h =
+    let e : n ≡ suc (n - 1) = omega arith in
+    ap (λ (k : ℕ). bodies k b) e ∙ one-more (n - 1) b ∙ ap (λ (l : List ℕ). take 23 b ++ bodies (n - 1) l) (sym (take-rest 39 b))
+
+pub bodies-end : (n : ℕ) (b : List ℕ) → n ≤ 0 → bodies n b ≡ []
+unfolding rowsOf joined
+bodies-end n b h = let e : n ≡ 0 = omega arith in ap (λ (k : ℕ). bodies k b) e

@@ -1,17 +1,26 @@
 // Reading the tables back: the reply to a RETRIEVE of a security resource, its length and its bytes.
-// The resource's own body, its row owner, and its rows in table order.
+// The resource's own body, its row owner, and its rows in table order, without asserted roles; of roles the sender's own in force.
 use directory::resource_row;
 use fields::held;
 use fields::record::resource_of;
 use fields::record::verb_of;
+use roles::put_roles;
+use roles::roles_length;
 use rows::part;
+use rules::CRED_BODY;
+use rules::CRED_ROW;
 use rules::Tables;
+use sender::own_row;
 use text::put;
 use text::put_byte;
 ghost use mathlib.Core.Path.{_≡_};
-ghost use Prim.Native.Nat.{_≤_};
+ghost use mathlib.Core.List.{map};
+ghost use Prim.Native.Nat.{_*_, _≤_};
 ghost use lib.ListN.{length};
 ghost use Rattle.text.specs.Buffer.{Puts};
+ghost use Rattle.rows.specs.Rows.{rowsOf, joined};
+ghost use Rattle.rules.specs.Record.{sender};
+ghost use Rattle.rules.specs.Roles.{bodyOf};
 ghost use Rattle.rules.specs.Reading.{ownBody, rowBytes, contents, reads, replyOf};
 
 // Whether the record asks for a reply.
@@ -33,32 +42,33 @@ fn own_length(t: Tables, resource: u16) -> usize
     }
 }
 
-// The length of a resource's rows.
-fn rows_length(t: Tables, resource: u16) -> usize
-    ensures { λ r. ⌜ (r ≡ length (rowBytes t resource)) × (r ≤ 1152) ⌝ }
+// The length of a resource's rows, and of the sender's roles in force.
+fn rows_length(clock: u32, t: Tables, record: &[u8], resource: u16) -> usize
+    ensures { λ r. ⌜ (r ≡ length (rowBytes clock t (sender (now («record» .entry))) resource)) × (r ≤ 1152) ⌝ }
 {
     match resource {
-        2 => held(t.ncreds, 24) * 23,
+        2 => held(t.ncreds, 24) * CRED_BODY,
         3 => held(t.naces, 32) * 36,
+        4 => roles_length(clock, own_row(t.ncreds, &t.creds, record)),
         _ => 0,
     }
 }
 
-fn contents_length(t: Tables, resource: u16) -> usize
-    ensures { λ r. ⌜ r ≡ length (contents t resource) ⌝ }
+fn contents_length(clock: u32, t: Tables, record: &[u8], resource: u16) -> usize
+    ensures { λ r. ⌜ r ≡ length (contents clock t (sender (now («record» .entry))) resource) ⌝ }
 {
     let at = resource as usize * 16;
     let owner = part(&t.rowners, at, 16).len();
-    own_length(t, resource) + owner + rows_length(t, resource)
+    own_length(t, resource) + owner + rows_length(clock, t, record, resource)
 }
 
 // The length of the record's reply.
 // Rules out: a length without the row owner; a length for OBSERVE.
-pub fn reply_length(t: Tables, record: &[u8]) -> usize
-    ensures { λ r. ⌜ r ≡ length (replyOf t (now («record» .entry))) ⌝ }
+pub fn reply_length(clock: u32, t: Tables, record: &[u8]) -> usize
+    ensures { λ r. ⌜ r ≡ length (replyOf clock t (now («record» .entry))) ⌝ }
 {
     if is_read(record) {
-        return contents_length(t, resource_of(record));
+        return contents_length(clock, t, record, resource_of(record));
     }
     0
 }
@@ -80,38 +90,55 @@ fn put_own(out: &mut [u8], at: usize, t: Tables, resource: u16) -> usize
     }
 }
 
-fn put_rows(out: &mut [u8], at: usize, t: Tables, resource: u16) -> usize
-    ensures { λ r. ⌜ Puts (now (out .entry)) at (rowBytes t resource) (now (out .exit)) r ⌝ }
+// Writes the bodies of the first `count` credential rows.
+fn put_bodies(out: &mut [u8], at: usize, creds: &[u8], count: usize) -> usize
+    requires { ⌜ count * 39 ≤ length (now creds) ⌝ }
+    ensures { λ r. ⌜ Puts (now (out .entry)) at (joined (map bodyOf (rowsOf 39 count (now (creds .entry))))) (now (out .exit)) r ⌝ }
+{
+    let mut p = at;
+    let mut rest = creds;
+    let mut left = count;
+    while 0 < left {
+        p = put(out, p, part(rest, 0, CRED_BODY));
+        rest = &rest[CRED_ROW..];
+        left -= 1;
+    }
+    p
+}
+
+fn put_rows(out: &mut [u8], at: usize, clock: u32, t: Tables, record: &[u8], resource: u16) -> usize
+    ensures { λ r. ⌜ Puts (now (out .entry)) at (rowBytes clock t (sender (now («record» .entry))) resource) (now (out .exit)) r ⌝ }
 {
     match resource {
         2 => {
-            let n = held(t.ncreds, 24) * 23;
-            put(out, at, part(&t.creds, 0, n))
+            let n = held(t.ncreds, 24);
+            put_bodies(out, at, &t.creds, n)
         }
         3 => {
             let n = held(t.naces, 32) * 36;
             put(out, at, part(&t.aces, 0, n))
         }
+        4 => put_roles(out, at, clock, own_row(t.ncreds, &t.creds, record)),
         _ => put(out, at, b""),
     }
 }
 
-fn put_contents(out: &mut [u8], t: Tables, resource: u16) -> usize
-    ensures { λ r. ⌜ Puts (now (out .entry)) 0 (contents t resource) (now (out .exit)) r ⌝ }
+fn put_contents(out: &mut [u8], clock: u32, t: Tables, record: &[u8], resource: u16) -> usize
+    ensures { λ r. ⌜ Puts (now (out .entry)) 0 (contents clock t (sender (now («record» .entry))) resource) (now (out .exit)) r ⌝ }
 {
     let p = put_own(out, 0, t, resource);
     let at = resource as usize * 16;
     let p = put(out, p, part(&t.rowners, at, 16));
-    put_rows(out, p, t, resource)
+    put_rows(out, p, clock, t, record, resource)
 }
 
 // Writes the record's reply to the start of the buffer, as far as the buffer goes.
-// Rules out: rows in another order; a byte written for a record that has no reply.
-pub fn put_reply(out: &mut [u8], t: Tables, record: &[u8]) -> usize
-    ensures { λ r. ⌜ Puts (now (out .entry)) 0 (replyOf t (now («record» .entry))) (now (out .exit)) r ⌝ }
+// Rules out: rows in another order; a role in the reply of cred; another sender's roles; a byte written for a record that has no reply.
+pub fn put_reply(out: &mut [u8], clock: u32, t: Tables, record: &[u8]) -> usize
+    ensures { λ r. ⌜ Puts (now (out .entry)) 0 (replyOf clock t (now («record» .entry))) (now (out .exit)) r ⌝ }
 {
     if is_read(record) {
-        return put_contents(out, t, resource_of(record));
+        return put_contents(out, clock, t, record, resource_of(record));
     }
     put(out, 0, b"")
 }

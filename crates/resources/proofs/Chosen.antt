@@ -12,14 +12,14 @@ use Rattle.rules.specs.Bodies.{inSet, acePlus, aceMinus, aceStar}
 use Rattle.office.specs.Office.{comma, separated, choices, chosen, picked, braced}
 
 abbrev pub numbers : List ℕ
-numbers = 0 ∷ 1 ∷ 2 ∷ 3 ∷ 8 ∷ 9 ∷ 10 ∷ 11 ∷ 12 ∷ 13 ∷ 14 ∷ 16 ∷ []
+numbers = 0 ∷ 1 ∷ 2 ∷ 3 ∷ 4 ∷ 8 ∷ 9 ∷ 10 ∷ 11 ∷ 12 ∷ 13 ∷ 14 ∷ 16 ∷ []
 
 getD-map : (f : ℕ → Bool) (ns : List ℕ) (bs : List Bool) (k : ℕ) → k < length ns → f (getD ns k 0) ≡ getD (map f ns ++ bs) k false
 getD-map f [] bs k h = absurd (omega arith)
 getD-map f (n ∷ ns) bs zero h = refl
 getD-map f (n ∷ ns) bs (suc k) h = getD-map f ns bs k (omega arith)
 
-pub in-number : (w : Row) (k : ℕ) → k < 12 → inSet w (getD numbers k 0) ≡ getD (chosen w) k false
+pub in-number : (w : Row) (k : ℕ) → k < 13 → inSet w (getD numbers k 0) ≡ getD (chosen w) k false
 unfolding chosen
 in-number w k h = getD-map (inSet w) numbers (acePlus w ∷ aceMinus w ∷ aceStar w ∷ []) k h
 
@@ -27,7 +27,7 @@ in-number w k h = getD-map (inSet w) numbers (acePlus w ∷ aceMinus w ∷ aceSt
 abbrev pub items : Row → Bool → ℕ → List ℕ
 items w first k = separated first (map braced (picked (drop k (chosen w)) (drop k choices)))
 
-module _ (w : Row) (first : Bool) (k : ℕ) (h : k < 15) where
+module _ (w : Row) (first : Bool) (k : ℕ) (h : k < 16) where
   here : picked (drop k (chosen w)) (drop k choices) ≡ cond (getD (chosen w) k false) (getD choices k [] ∷ picked (drop (suc k) (chosen w)) (drop (suc k) choices)) (picked (drop (suc k) (chosen w)) (drop (suc k) choices))
   unfolding chosen choices
   here = ap₂ (λ (bs : List Bool) (xs : List (List ℕ)). picked bs xs) (drop-cons (chosen w) k false h) (drop-cons choices k [] h)
@@ -38,9 +38,9 @@ module _ (w : Row) (first : Bool) (k : ℕ) (h : k < 15) where
   pub items-take : getD (chosen w) k false ≡ true → items w first k ≡ (comma first ++ braced (getD choices k [])) ++ items w false (suc k)
   items-take e = rw (here, e)
 
-pub items-end : (w : Row) (first : Bool) (k : ℕ) → 15 ≤ k → k ≤ 15 → items w first k ≡ []
+pub items-end : (w : Row) (first : Bool) (k : ℕ) → 16 ≤ k → k ≤ 16 → items w first k ≡ []
 unfolding chosen choices
-items-end w first k h l = let e : k ≡ 15 = omega arith in ap (items w first) e
+items-end w first k h l = let e : k ≡ 16 = omega arith in ap (items w first) e
 
 -- the text of the choice with a known number
 pub choice-puts : {k j at r : ℕ} {o x o′ : List ℕ} → k ≡ j → braced (getD choices j []) ≡ x → Puts o at x o′ r → Puts o at (braced (getD choices k [])) o′ r

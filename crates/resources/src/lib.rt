@@ -22,48 +22,49 @@ pub fn put_comma(out: &mut [u8], at: usize, first: bool) -> usize
 }
 
 fn put_security(out: &mut [u8], at: usize, k: usize) -> usize
-    requires { ⌜ k < 4 ⌝ }
+    requires { ⌜ k < 5 ⌝ }
     ensures { λ r. ⌜ Puts (now (out .entry)) at (braced (getD choices k [])) (now (out .exit)) r ⌝ }
 {
     match k {
         0 => put(out, at, b"{\"href\":\"/oic/sec/doxm\"}"),
         1 => put(out, at, b"{\"href\":\"/oic/sec/pstat\"}"),
         2 => put(out, at, b"{\"href\":\"/oic/sec/cred\"}"),
-        _ => put(out, at, b"{\"href\":\"/oic/sec/acl2\"}"),
+        3 => put(out, at, b"{\"href\":\"/oic/sec/acl2\"}"),
+        _ => put(out, at, b"{\"href\":\"/oic/sec/roles\"}"),
     }
 }
 
 fn put_scale(out: &mut [u8], at: usize, k: usize) -> usize
-    requires { ⌜ (4 ≤ k) × (k < 8) ⌝ }
+    requires { ⌜ (5 ≤ k) × (k < 9) ⌝ }
     ensures { λ r. ⌜ Puts (now (out .entry)) at (braced (getD choices k [])) (now (out .exit)) r ⌝ }
 {
     match k {
-        4 => put(out, at, b"{\"href\":\"/weight\"}"),
-        5 => put(out, at, b"{\"href\":\"/tare\"}"),
-        6 => put(out, at, b"{\"href\":\"/zero\"}"),
+        5 => put(out, at, b"{\"href\":\"/weight\"}"),
+        6 => put(out, at, b"{\"href\":\"/tare\"}"),
+        7 => put(out, at, b"{\"href\":\"/zero\"}"),
         _ => put(out, at, b"{\"href\":\"/ticket\"}"),
     }
 }
 
 fn put_yard(out: &mut [u8], at: usize, k: usize) -> usize
-    requires { ⌜ (8 ≤ k) × (k < 12) ⌝ }
+    requires { ⌜ (9 ≤ k) × (k < 13) ⌝ }
     ensures { λ r. ⌜ Puts (now (out .entry)) at (braced (getD choices k [])) (now (out .exit)) r ⌝ }
 {
     match k {
-        8 => put(out, at, b"{\"href\":\"/lamp\"}"),
-        9 => put(out, at, b"{\"href\":\"/calib\"}"),
-        10 => put(out, at, b"{\"href\":\"/display\"}"),
+        9 => put(out, at, b"{\"href\":\"/lamp\"}"),
+        10 => put(out, at, b"{\"href\":\"/calib\"}"),
+        11 => put(out, at, b"{\"href\":\"/display\"}"),
         _ => put(out, at, b"{\"href\":\"/yard\"}"),
     }
 }
 
 fn put_wildcard(out: &mut [u8], at: usize, k: usize) -> usize
-    requires { ⌜ (12 ≤ k) × (k < 15) ⌝ }
+    requires { ⌜ (13 ≤ k) × (k < 16) ⌝ }
     ensures { λ r. ⌜ Puts (now (out .entry)) at (braced (getD choices k [])) (now (out .exit)) r ⌝ }
 {
     match k {
-        12 => put(out, at, b"{\"wc\":\"+\"}"),
-        13 => put(out, at, b"{\"wc\":\"-\"}"),
+        13 => put(out, at, b"{\"wc\":\"+\"}"),
+        14 => put(out, at, b"{\"wc\":\"-\"}"),
         _ => put(out, at, b"{\"wc\":\"*\"}"),
     }
 }
@@ -71,41 +72,41 @@ fn put_wildcard(out: &mut [u8], at: usize, k: usize) -> usize
 // What a row's resources may name: the known resources by rising number, then the wildcards.
 // In four groups, since what a match costs to prove grows faster than its arms.
 fn put_choice(out: &mut [u8], at: usize, k: usize) -> usize
-    requires { ⌜ k < 15 ⌝ }
+    requires { ⌜ k < 16 ⌝ }
     ensures { λ r. ⌜ Puts (now (out .entry)) at (braced (getD choices k [])) (now (out .exit)) r ⌝ }
 {
-    if k < 4 {
+    if k < 5 {
         return put_security(out, at, k);
     }
-    if k < 8 {
+    if k < 9 {
         return put_scale(out, at, k);
     }
-    if k < 12 {
+    if k < 13 {
         return put_yard(out, at, k);
     }
     put_wildcard(out, at, k)
 }
 
 // The numbers of the known resources.
-const NUMBERS: [u16; 12] = [0, 1, 2, 3, 8, 9, 10, 11, 12, 13, 14, 16];
+const NUMBERS: [u16; 13] = [0, 1, 2, 3, 4, 8, 9, 10, 11, 12, 13, 14, 16];
 
 // Whether the row names choice k.
 fn is_chosen(row: &[u8], k: usize) -> bool
-    requires { ⌜ k < 15 ⌝ }
+    requires { ⌜ k < 16 ⌝ }
     ensures { λ r. ⌜ r ≡ getD (chosen (now (row .entry))) k false ⌝ }
 {
-    if k < 12 {
+    if k < 13 {
         return ace::in_set(row, NUMBERS[k]);
     }
     match k {
-        12 => ace::plus(row),
-        13 => ace::minus(row),
+        13 => ace::plus(row),
+        14 => ace::minus(row),
         _ => ace::star(row),
     }
 }
 
 fn put_item(out: &mut [u8], at: usize, first: bool, k: usize) -> usize
-    requires { ⌜ k < 15 ⌝ }
+    requires { ⌜ k < 16 ⌝ }
     ensures { λ r. ⌜ Puts (now (out .entry)) at (comma first ++ braced (getD choices k [])) (now (out .exit)) r ⌝ }
 {
     let p = put_comma(out, at, first);
@@ -120,7 +121,7 @@ pub fn put_resources(out: &mut [u8], at: usize, row: &[u8]) -> usize
     let mut p = at;
     let mut first = true;
     let mut k = 0;
-    while k < 15 {
+    while k < 16 {
         if !is_chosen(row, k) {
             k += 1;
             continue;

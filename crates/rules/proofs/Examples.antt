@@ -15,10 +15,11 @@ use Rattle.rules.specs.Bits.{bit, bits, word}
 use Rattle.rules.specs.Directory.{resourceOf, someSecurity}
 use Rattle.rules.specs.Record.{Request, asked, Sender, unauthenticated, partner, sender, payloadOf}
 use Rattle.rules.specs.Bodies.{nil, isNil, ownerBody, stateBody, credStorable, credRowOf, setKnown, subjectStorable, aceStorable, everySecond, aceRowOf}
+use Rattle.rules.specs.Roles.{noRole, free, sameRole, unasserted, rolesInForce, rolesSound, credHeld, withRole, bothTaken, asserted}
 use Rattle.rules.specs.Tables.{rowsIn, withRows, rowsSound, headSound, sound, empty, rowOwner}
 use Rattle.rules.specs.Defaults.{Defaults, noDefaults, goodList, defaultRows, fresh}
-use Rattle.rules.specs.Permission.{has, subjectFits, resourceFits, inForce, rowFits, gives, names, isOwner, byOwner, byNoOwner, effectiveOf, effective, permission}
-use Rattle.rules.specs.Action.{ifAllowed, updateDoxm, updatePstat, storeRow, updateRows, updateAction, deleteNumber, deleteAces, deleteCreds, deleteAction, readAction, securityAction, action}
+use Rattle.rules.specs.Permission.{has, forRole, roleFits, subjectIs, subjectFits, resourceFits, inForce, rowFits, gives, names, isOwner, byOwner, byNoOwner, byRoles, effectiveOf, effective, permission}
+use Rattle.rules.specs.Action.{ifAllowed, updateDoxm, updatePstat, storeRow, updateRows, updateRoles, updateAction, deleteNumber, deleteAces, deleteCreds, deleteAction, readAction, securityAction, action}
 use Rattle.rules.specs.States.{writeAllowed, moveListed, moveAllowed}
 use Rattle.rules.specs.declared.Places.{Places}
 use Rattle.rules.specs.Places.{nowhere, gapOf}
@@ -27,13 +28,13 @@ use Rattle.rules.specs.Reading.{ownBody, rowBytes, contents, reads, repl
 use Rattle.rules.specs.Checks.{badLength, noVerb, zeroBitSet, mismatch, unknownResource, noCredential, noEndpoint, notPermitted, offered, notOffered, verdict}
 use Rattle.rules.specs.Outcome.{Reply, outcomeAt, outcome, withOwner, withState, entered, replyTo, tablesAfter}
 use Rattle.rules.specs.Run.{replies, final, Along, kept, keptOf}
-use Rattle.rules.specs.Isolation.{Harmless, Premise, isOthers, namesOwner, rowAlters, mayAlter}
+use Rattle.rules.specs.Isolation.{Harmless, Premise, isOthers, namesOwner, rowAlters, mayFit, mayAlter, compared}
 use Rattle.rules.proofs.Bools.{and-left, and-right}
 use Rattle.rules.proofs.Isolated.{isolation}
 
 -- `unfolding definitions` opens all that its own line names
 unfoldable pub definitions : Unit {0}
-unfolding ones onesIn rowsBefore gapOf rowsOf joined packed allZero same hasKey numberedAs placeFrom firstRow some every without distinctNumbers stored unionOf withRow bit bits has resourceOf word sender payloadOf nil isNil ownerBody stateBody credStorable credRowOf setKnown subjectStorable aceStorable everySecond aceRowOf rowsIn rowsSound headSound sound empty goodList defaultRows fresh rowOwner subjectFits resourceFits inForce rowFits gives names isOwner byOwner byNoOwner effectiveOf permission ownBody rowBytes contents reads replyOf tooShort ifAllowed updateDoxm updatePstat storeRow updateRows updateAction deleteNumber deleteAces deleteCreds deleteAction readAction securityAction action writeAllowed moveListed moveAllowed badLength noVerb zeroBitSet mismatch unknownResource noCredential noEndpoint notPermitted offered notOffered verdict entered asksLinks linkSet outcomeAt outcome
+unfolding ones onesIn rowsBefore gapOf rowsOf joined packed allZero same hasKey numberedAs placeFrom firstRow some every without distinctNumbers stored unionOf withRow bit bits has resourceOf word sender payloadOf nil isNil ownerBody stateBody credStorable credRowOf noRole free sameRole rolesInForce rolesSound credHeld withRole bothTaken asserted setKnown subjectStorable aceStorable everySecond aceRowOf rowsIn rowsSound headSound sound empty goodList defaultRows fresh rowOwner forRole roleFits subjectIs subjectFits resourceFits inForce rowFits gives names isOwner byOwner byNoOwner byRoles effectiveOf permission ownBody rowBytes contents reads replyOf tooShort ifAllowed updateDoxm updatePstat storeRow updateRows updateRoles updateAction deleteNumber deleteAces deleteCreds deleteAction readAction securityAction action writeAllowed moveListed moveAllowed badLength noVerb zeroBitSet mismatch unknownResource noCredential noEndpoint notPermitted offered notOffered verdict entered asksLinks linkSet outcomeAt outcome
 definitions = tt
 
 -- a record at clock 0, with a buffer that fits any reply
@@ -51,26 +52,30 @@ uuid = replicate 16 0x11
 pub credBody : ℕ → List ℕ
 credBody n = 0 ∷ n ∷ (uuid ++ (0 ∷ 0 ∷ 4 ∷ []))
 
--- the row that it stores
-unfoldable pub credRow : ℕ → Row
+-- the body of 23 bytes that says the same
+unfoldable pub credRow : ℕ → List ℕ
 credRow n = 0 ∷ n ∷ (uuid ++ (0 ∷ 0 ∷ 0 ∷ 0 ∷ 4 ∷ []))
 
--- n rows, numbered from n down to 1
-credRows : ℕ → List Row
+-- the tables with the rows that these bodies store
+unfoldable pub withCreds : Tables → List (List ℕ) → Tables
+withCreds t bs = withRows Creds t (map unasserted bs)
+
+-- n of them, numbered from n down to 1
+credRows : ℕ → List (List ℕ)
 credRows zero = []
 credRows (suc n) = credRow (suc n) ∷ credRows n
 
 -- 25 credential rows are claimed where 24 stand: nothing else is wrong
 overfull : Tables
-overfull = record { state = 1; owned = 0; ncreds = 25; naces = 0; devowner = nil; rowners = replicate 64 0; creds = packed 552 (credRows 24); aces = replicate 1152 0 }
+overfull = record { state = 1; owned = 0; ncreds = 25; naces = 0; devowner = nil; rowners = replicate 64 0; creds = packed 936 (map unasserted (credRows 24)); aces = replicate 1152 0 }
 
 -- state 2, the owner in row 5
 unfoldable pub owned5 : Tables
-owned5 = withState (withOwner (withRows Creds (fresh noDefaults) (credRow 5 ∷ [])) 1 uuid) 2
+owned5 = withState (withOwner (withCreds (fresh noDefaults) (credRow 5 ∷ [])) 1 uuid) 2
 
 -- 24 credential rows
 full24 : Tables
-full24 = withRows Creds (fresh noDefaults) (credRows 24)
+full24 = withCreds (fresh noDefaults) (credRows 24)
 
 pub record Example : Type 0 where
   pub tables : Tables
@@ -99,7 +104,7 @@ examples =
     ∷ []
 
 pub fourteen : map (λ e. answer (e .tables) (e .bytes)) examples ≡ 1 ∷ 2 ∷ 3 ∷ 4 ∷ 5 ∷ 6 ∷ 7 ∷ 8 ∷ 9 ∷ 10 ∷ 11 ∷ 12 ∷ 13 ∷ 14 ∷ []
-unfolding definitions uuid credBody credRow credRows overfull owned5 full24 example examples
+unfolding definitions uuid credBody credRow credRows overfull owned5 full24 example examples withCreds
 fourteen = refl
 
 -- ---- the worked run
@@ -119,7 +124,7 @@ pub line : Tables → Request → List ℕ
 line t q = replyTo noDefaults t q .answer ∷ replyTo noDefaults t q .permission ∷ tablesAfter noDefaults t q .state ∷ []
 
 pub worked : replies line (tablesAfter noDefaults) (fresh noDefaults) (map lent workedRun) ≡ (0 ∷ 31 ∷ 1 ∷ []) ∷ (0 ∷ 31 ∷ 1 ∷ []) ∷ (8 ∷ 0 ∷ 1 ∷ []) ∷ (0 ∷ 31 ∷ 2 ∷ []) ∷ (12 ∷ 0 ∷ 2 ∷ []) ∷ []
-unfolding definitions line workedRun uuid credBody credRow
+unfolding definitions line workedRun uuid credBody credRow withCreds
 worked = refl
 
 -- ---- readings to guard against
@@ -136,7 +141,7 @@ aceRow n kind permission wild set subject = aceBody n kind permission wild set s
 unfoldable pub weight : List ℕ
 weight = 0 ∷ 0x80 ∷ replicate 6 0
 
-pub none : List ℕ
+unfoldable pub none : List ℕ
 none = replicate 8 0
 
 -- connection 0 or 1 as a subject
@@ -144,7 +149,7 @@ unfoldable pub connected : ℕ → List ℕ
 connected c = replicate 15 0 ++ (c ∷ [])
 
 -- state 3, the owner in row 5, and these access rows
-pub serving : List Row → Tables
+unfoldable pub serving : List Row → Tables
 serving ws = withState (withRows Aces owned5 ws) 3
 
 -- each reading, and beside it that the same row does fit where it should
@@ -167,7 +172,7 @@ pub guards :
     ∷ answer owned5 (0x50 ∷ 0x40 ∷ 0x00 ∷ 0x05 ∷ 0x40 ∷ [])
     ∷ []
     ≡ 5 ∷ 0 ∷ 31 ∷ 0 ∷ 31 ∷ 0 ∷ 31 ∷ 8 ∷ 10 ∷ 12 ∷ []
-unfolding definitions owned5 serving aceBody aceRow weight none connected uuid credRow
+unfolding definitions owned5 serving aceBody aceRow weight none connected uuid credRow withCreds
 guards = refl
 
 -- nil fits nobody, not even a credential row that has no bytes, or one whose subject is nil
@@ -182,11 +187,11 @@ aceRows zero = []
 aceRows (suc n) = aceRow (suc n) 0 2 0 weight uuid ∷ aceRows n
 
 pub crowded : Tables
-crowded = withState (withOwner (withRows Creds (withRows Aces (fresh noDefaults) (aceRows 32)) (credRows 24)) 1 uuid) 3
+crowded = withState (withOwner (withCreds (withRows Aces (fresh noDefaults) (aceRows 32)) (credRows 24)) 1 uuid) 3
 
 -- RETRIEVE of resource 8 by the owner's credential 5
 pub crowded-read : replyTo noDefaults crowded (lent (0x32 ∷ 0x00 ∷ 0x00 ∷ 0x05 ∷ 0x77 ∷ [])) ≡ record { answer = 0; permission = 2; payload = 0x77 ∷ []; contents = []; places = nowhere; links = noLinks }
-unfolding definitions crowded aceRows aceBody aceRow weight credRows credRow uuid
+unfolding definitions crowded aceRows aceBody aceRow weight credRows credRow uuid withCreds
 crowded-read = refl
 
 -- ---- reading back (U1): the replies of the four security resources to the owner, and the length that just fits
@@ -203,7 +208,7 @@ pub replies-read :
     ∷ reply 0 (0x90 ∷ 0xc0 ∷ 0x00 ∷ 0x05 ∷ [])
     ∷ []
     ≡ (0 ∷ 0x80 ∷ (uuid ++ nil)) ∷ (0 ∷ 0x40 ∷ nil) ∷ (0 ∷ (nil ++ credRow 5)) ∷ (15 ∷ []) ∷ (0 ∷ nil) ∷ (0 ∷ []) ∷ []
-unfolding definitions owned5 uuid credRow reply
+unfolding definitions owned5 uuid credRow reply withCreds
 replies-read = refl
 
 -- ---- endpoints (U2): RETRIEVE of each application resource, 8 to 14 and 16, over connection 1 by the owner and over connection 0
@@ -219,33 +224,33 @@ pub applications : List ℕ
 applications = 8 ∷ 9 ∷ 10 ∷ 11 ∷ 12 ∷ 13 ∷ 14 ∷ 16 ∷ []
 
 pub endpoints-secure : map (λ n. answer broad (header-of 1 n 5)) applications ≡ 0 ∷ 0 ∷ 0 ∷ 0 ∷ 0 ∷ 0 ∷ 16 ∷ 0 ∷ []
-unfolding definitions broad header-of applications owned5 serving aceBody aceRow none connected uuid credRow
+unfolding definitions broad header-of applications owned5 serving aceBody aceRow none connected uuid credRow withCreds
 endpoints-secure = refl
 
 pub endpoints-clear : map (λ n. answer broad (header-of 0 n 0)) applications ≡ 0 ∷ 16 ∷ 16 ∷ 16 ∷ 0 ∷ 16 ∷ 0 ∷ 16 ∷ []
-unfolding definitions broad header-of applications owned5 serving aceBody aceRow none connected uuid credRow
+unfolding definitions broad header-of applications owned5 serving aceBody aceRow none connected uuid credRow withCreds
 endpoints-clear = refl
 
--- security resources are exempt: the four are read over connection 0 in fresh tables; and 16 comes before 8
-pub endpoints-exempt : map (λ n. answer (fresh noDefaults) (header-of 0 n 0)) (0 ∷ 1 ∷ 2 ∷ 3 ∷ 9 ∷ 14 ∷ []) ≡ 0 ∷ 0 ∷ 0 ∷ 0 ∷ 16 ∷ 8 ∷ []
+-- security resources are exempt: the five are read over connection 0 in fresh tables; and 16 comes before 8
+pub endpoints-exempt : map (λ n. answer (fresh noDefaults) (header-of 0 n 0)) (0 ∷ 1 ∷ 2 ∷ 3 ∷ 4 ∷ 9 ∷ 14 ∷ []) ≡ 0 ∷ 0 ∷ 0 ∷ 0 ∷ 0 ∷ 16 ∷ 8 ∷ []
 unfolding definitions header-of
 endpoints-exempt = refl
 
 -- ---- delete by subject (U3): two rows of a haulier between others; the order of the rest is kept
 
-pub haulierRow : ℕ → Row
+unfoldable pub haulierRow : ℕ → List ℕ
 haulierRow n = 0 ∷ n ∷ (replicate 16 0x22 ++ (0 ∷ 0 ∷ 0 ∷ 0 ∷ 4 ∷ []))
 
 -- state 2, the owner in row 5
 pub several : Tables
-several = withRows Creds owned5 (haulierRow 3 ∷ credRow 5 ∷ haulierRow 4 ∷ credRow 6 ∷ [])
+several = withCreds owned5 (haulierRow 3 ∷ credRow 5 ∷ haulierRow 4 ∷ credRow 6 ∷ [])
 
 -- DELETE by the owner with this body
 pub deletes : List ℕ → Request
 deletes b = lent (0x70 ∷ 0x80 ∷ 0x00 ∷ 0x05 ∷ b)
 
-pub subject-deleted : tablesAfter noDefaults several (deletes (replicate 16 0x22)) ≡ withRows Creds several (credRow 5 ∷ credRow 6 ∷ [])
-unfolding definitions several deletes haulierRow owned5 uuid credRow
+pub subject-deleted : tablesAfter noDefaults several (deletes (replicate 16 0x22)) ≡ withCreds several (credRow 5 ∷ credRow 6 ∷ [])
+unfolding definitions several deletes haulierRow owned5 uuid credRow withCreds
 subject-deleted = refl
 
 -- a haulier's rows; nobody's; nil; and of acl2, which takes no subject
@@ -256,7 +261,7 @@ pub subject-answers :
     ∷ answer several (0x70 ∷ 0xc0 ∷ 0x00 ∷ 0x05 ∷ replicate 16 0x22)
     ∷ []
     ≡ 0 ∷ 13 ∷ 10 ∷ 10 ∷ []
-unfolding definitions several deletes haulierRow owned5 uuid credRow
+unfolding definitions several deletes haulierRow owned5 uuid credRow withCreds
 subject-answers = refl
 
 -- ---- places (U4): of the same deletes, of one row by its number, of all rows, of all rows of an empty table, and of a row that is not there
@@ -273,7 +278,7 @@ pub places-told :
     ∷ replyTo noDefaults several (deletes (0x00 ∷ 0x09 ∷ [])) .places
     ∷ []
     ≡ at-places 0 4 ∷ at-places 2 2 ∷ at-places 3 1 ∷ at-places 0 4 ∷ nowhere ∷ nowhere ∷ []
-unfolding definitions several deletes haulierRow owned5 uuid credRow at-places
+unfolding definitions several deletes haulierRow owned5 uuid credRow at-places withCreds
 places-told = refl
 
 -- ---- default rows (U5): good lists come back with a clear and with RESET; a bad list counts as none, wholly and by itself
@@ -281,8 +286,8 @@ places-told = refl
 pub build : Defaults
 build = record { creds = credRow 5 ++ haulierRow 7; aces = aceRow 1 0 2 0 weight uuid }
 
-pub good-lists : fresh build ≡ withRows Aces (withRows Creds empty (credRow 5 ∷ haulierRow 7 ∷ [])) (aceRow 1 0 2 0 weight uuid ∷ [])
-unfolding definitions build haulierRow credRow uuid aceBody aceRow weight
+pub good-lists : fresh build ≡ withRows Aces (withCreds empty (credRow 5 ∷ haulierRow 7 ∷ [])) (aceRow 1 0 2 0 weight uuid ∷ [])
+unfolding definitions build haulierRow credRow uuid aceBody aceRow weight withCreds
 good-lists = refl
 
 -- three rows; a number twice; a row that no body could store; half a row more
@@ -293,51 +298,51 @@ pub bad-lists :
     ∷ defaultRows Creds (credRow 1 ++ (0 ∷ 9 ∷ []))
     ∷ []
     ≡ [] ∷ [] ∷ [] ∷ [] ∷ []
-unfolding definitions haulierRow credRow uuid
+unfolding definitions haulierRow credRow uuid withCreds
 bad-lists = refl
 
 pub one-bad-list : fresh (record { creds = credRow 1 ++ credRow 1; aces = aceRow 1 0 2 0 weight uuid }) ≡ withRows Aces empty (aceRow 1 0 2 0 weight uuid ∷ [])
-unfolding definitions credRow uuid aceBody aceRow weight
+unfolding definitions credRow uuid aceBody aceRow weight withCreds
 one-bad-list = refl
 
 -- a row deleted, and then RESET by the owner: the build's rows are back
 pub reset-restores : tablesAfter build (tablesAfter build several (deletes (0x00 ∷ 0x03 ∷ []))) (lent (0x50 ∷ 0x40 ∷ 0x00 ∷ 0x05 ∷ 0x00 ∷ [])) ≡ fresh build
-unfolding definitions build several deletes haulierRow owned5 credRow uuid aceBody aceRow weight
+unfolding definitions build several deletes haulierRow owned5 credRow uuid aceBody aceRow weight withCreds
 reset-restores = refl
 
--- all rows deleted by whoever stands at a terminal without an owner: the default rows are gone too
+-- all rows deleted by whoever stands at a terminal without an owner: the default rows are free too
 pub emptied : Tables
 emptied = tablesAfter build (tablesAfter build (fresh build) (lent (0x60 ∷ 0x80 ∷ 0x00 ∷ 0x00 ∷ []))) (lent (0x60 ∷ 0xc0 ∷ 0x00 ∷ 0x00 ∷ []))
 
 pub defaults-deleted : emptied ≡ empty
-unfolding definitions emptied build haulierRow credRow uuid aceBody aceRow weight
+unfolding definitions emptied build haulierRow credRow uuid aceBody aceRow weight withCreds
 defaults-deleted = refl
 
 -- until the next RESET
 pub defaults-back : tablesAfter build emptied (lent (0x40 ∷ 0x40 ∷ 0x00 ∷ 0x00 ∷ 0x00 ∷ [])) ≡ fresh build
-unfolding definitions emptied build haulierRow credRow uuid aceBody aceRow weight
+unfolding definitions emptied build haulierRow credRow uuid aceBody aceRow weight withCreds
 defaults-back = refl
 
 -- ---- roles of an authority (U7): foremen of two hauliers, both with role 7
 
 -- role 7 of authority a
-pub foremanRow : ℕ → ℕ → Row
+pub foremanRow : ℕ → ℕ → List ℕ
 foremanRow n a = 0 ∷ n ∷ (replicate 16 0x22 ++ (0 ∷ 7 ∷ 0 ∷ a ∷ 4 ∷ []))
 
 -- as the subject of an access row
-pub foreman : ℕ → List ℕ
+unfoldable pub foreman : ℕ → List ℕ
 foreman a = replicate 13 0 ++ (a ∷ 0 ∷ 7 ∷ [])
 
 -- U on resource 8 for the role of authority 1, R for that of our works
 pub foremen : Tables
-foremen = withRows Creds (serving (aceRow 1 1 4 0 weight (foreman 1) ∷ aceRow 2 1 2 0 weight (foreman 0) ∷ [])) (credRow 5 ∷ foremanRow 1 1 ∷ foremanRow 2 2 ∷ foremanRow 3 0 ∷ [])
+foremen = withCreds (serving (aceRow 1 1 4 0 weight (foreman 1) ∷ aceRow 2 1 2 0 weight (foreman 0) ∷ [])) (credRow 5 ∷ foremanRow 1 1 ∷ foremanRow 2 2 ∷ foremanRow 3 0 ∷ [])
 
 -- a role fits with its authority alone
 pub roles-fit : effective 0 foremen (partner 1) 8 ∷ effective 0 foremen (partner 2) 8 ∷ effective 0 foremen (partner 3) 8 ∷ effective 0 foremen (partner 5) 8 ∷ [] ≡ 4 ∷ 0 ∷ 2 ∷ 0 ∷ []
-unfolding definitions foremen foremanRow foreman owned5 serving aceBody aceRow weight uuid credRow
+unfolding definitions foremen foremanRow foreman owned5 serving aceBody aceRow weight uuid credRow withCreds
 roles-fit = refl
 
--- 21 bytes with role 7 store the row of 23 with authority 0; 23 are the row
+-- 21 bytes with role 7 say what 23 with authority 0 say
 pub roles-stored :
     credRowOf (0 ∷ 9 ∷ (replicate 16 0x22 ++ (0 ∷ 7 ∷ 4 ∷ [])))
     ∷ credRowOf (foremanRow 9 1)
@@ -355,7 +360,7 @@ pub roles-answered :
     ∷ answer owned5 (0x50 ∷ 0xc0 ∷ 0x00 ∷ 0x05 ∷ aceRow 1 1 4 0 weight (replicate 13 0 ++ (1 ∷ 0 ∷ 0 ∷ [])))
     ∷ []
     ≡ 0 ∷ 10 ∷ 10 ∷ 0 ∷ 10 ∷ []
-unfolding definitions foremanRow foreman owned5 aceBody aceRow weight uuid credRow
+unfolding definitions foremanRow foreman owned5 aceBody aceRow weight uuid credRow withCreds
 roles-answered = refl
 
 -- ---- rows that hold for a season (U8): a harvest contractor's row holds from second 10 to second 20
@@ -364,26 +369,26 @@ pub seasonRow : ℕ → Row
 seasonRow n = aceBody n 0 2 0 weight (replicate 16 0x22) ++ (0 ∷ 0 ∷ 0 ∷ 10 ∷ 0 ∷ 0 ∷ 0 ∷ 20 ∷ [])
 
 pub harvest : Tables
-harvest = withRows Creds (serving (seasonRow 1 ∷ [])) (credRow 5 ∷ haulierRow 7 ∷ [])
+harvest = withCreds (serving (seasonRow 1 ∷ [])) (credRow 5 ∷ haulierRow 7 ∷ [])
 
 -- the clock before, on and behind both ends
 pub periods : map (λ clock. effective clock harvest (partner 7) 8) (0 ∷ 9 ∷ 10 ∷ 20 ∷ 21 ∷ 4294967295 ∷ []) ≡ 0 ∷ 0 ∷ 2 ∷ 2 ∷ 0 ∷ 0 ∷ []
-unfolding definitions harvest seasonRow haulierRow owned5 serving aceBody aceRow weight uuid credRow
+unfolding definitions harvest seasonRow haulierRow owned5 serving aceBody aceRow weight uuid credRow withCreds
 periods = refl
 
 -- the owner's rights have no period
 pub periods-owner : map (λ clock. effective clock harvest (partner 5) 3) (9 ∷ 15 ∷ 21 ∷ []) ≡ 31 ∷ 31 ∷ 31 ∷ []
-unfolding definitions harvest seasonRow haulierRow owned5 serving aceBody aceRow weight uuid credRow
+unfolding definitions harvest seasonRow haulierRow owned5 serving aceBody aceRow weight uuid credRow withCreds
 periods-owner = refl
 
 -- a run in which each record has its own clock: the contractor reads resource 8
 pub season-run : replies (λ t q. replyTo noDefaults t q .answer) (tablesAfter noDefaults) harvest (map (λ clock. asked clock (0x32 ∷ 0x00 ∷ 0x00 ∷ 0x07 ∷ []) 0) (9 ∷ 10 ∷ 20 ∷ 21 ∷ 15 ∷ [])) ≡ 8 ∷ 0 ∷ 0 ∷ 8 ∷ 0 ∷ []
-unfolding definitions harvest seasonRow haulierRow owned5 serving aceBody aceRow weight uuid credRow
+unfolding definitions harvest seasonRow haulierRow owned5 serving aceBody aceRow weight uuid credRow withCreds
 season-run = refl
 
 -- the premise of demand 3 counts a row of any period: this one gives U on acl2 from second 10 to second 20
-pub season-grant : mayAlter (withRows Creds (serving ((aceBody 1 0 4 0 (0x10 ∷ replicate 7 0) (replicate 16 0x22) ++ (0 ∷ 0 ∷ 0 ∷ 10 ∷ 0 ∷ 0 ∷ 0 ∷ 20 ∷ [])) ∷ [])) (credRow 5 ∷ haulierRow 7 ∷ [])) (partner 7) ≡ true
-unfolding definitions rowAlters mayAlter someSecurity haulierRow owned5 serving aceBody aceRow uuid credRow
+pub season-grant : mayAlter (withCreds (serving ((aceBody 1 0 4 0 (0x10 ∷ replicate 7 0) (replicate 16 0x22) ++ (0 ∷ 0 ∷ 0 ∷ 10 ∷ 0 ∷ 0 ∷ 0 ∷ 20 ∷ [])) ∷ [])) (credRow 5 ∷ haulierRow 7 ∷ [])) (partner 7) ≡ true
+unfolding definitions rowAlters mayFit mayAlter someSecurity haulierRow owned5 serving aceBody aceRow uuid credRow withCreds
 season-grant = refl
 
 -- 28 bytes store the row of 36 that holds for every second
@@ -397,13 +402,13 @@ pub periods-answered :
     ∷ answer owned5 (0x50 ∷ 0xc0 ∷ 0x00 ∷ 0x05 ∷ (aceBody 1 0 2 0 weight uuid ++ (0 ∷ 1 ∷ 0 ∷ 1 ∷ 0 ∷ 1 ∷ 0 ∷ 0 ∷ [])))
     ∷ []
     ≡ 0 ∷ 10 ∷ []
-unfolding definitions owned5 aceBody weight uuid credRow
+unfolding definitions owned5 aceBody weight uuid credRow withCreds
 periods-answered = refl
 
 -- ---- the whole yard at once (U9): the contractor has R on 8 from second 10 to second 20, and R and U at all times on 13, 14 and /yard
 
 pub polled : Tables
-polled = withRows Creds (serving (seasonRow 1 ∷ aceRow 2 0 6 0 (0 ∷ 0x06 ∷ 0x80 ∷ replicate 5 0) (replicate 16 0x22) ∷ [])) (credRow 5 ∷ haulierRow 7 ∷ [])
+polled = withCreds (serving (seasonRow 1 ∷ aceRow 2 0 6 0 (0 ∷ 0x06 ∷ 0x80 ∷ replicate 5 0) (replicate 16 0x22) ∷ [])) (credRow 5 ∷ haulierRow 7 ∷ [])
 
 -- the set that a record is answered
 pub told : ℕ → List ℕ → ℕ
@@ -418,23 +423,23 @@ pub links-told :
     ∷ told 15 (0x33 ∷ 0x40 ∷ 0x00 ∷ 0x07 ∷ [])
     ∷ []
     ≡ 0x0084000000000000 ∷ 0x0004000000000000 ∷ 0x0004000000000000 ∷ 0 ∷ 0 ∷ []
-unfolding definitions permits ownRecord setOf told polled seasonRow haulierRow owned5 serving aceBody aceRow weight uuid credRow
+unfolding definitions permits ownRecord setOf told polled seasonRow haulierRow owned5 serving aceBody aceRow weight uuid credRow withCreds
 links-told = refl
 
 -- and /yard itself is answered
 pub yard-answered : map (λ clock. replyTo noDefaults polled (asked clock (0x34 ∷ 0x00 ∷ 0x00 ∷ 0x07 ∷ []) 0) .answer) (15 ∷ 21 ∷ []) ≡ 0 ∷ 0 ∷ []
-unfolding definitions polled seasonRow haulierRow owned5 serving aceBody aceRow weight uuid credRow
+unfolding definitions polled seasonRow haulierRow owned5 serving aceBody aceRow weight uuid credRow withCreds
 yard-answered = refl
 
 -- ---- demand 3 is not empty: partner 7, a haulier who may read resource 8, is chosen, and the unauthenticated senders with it
 
-haulier : List ℕ
+unfoldable pub haulier : List ℕ
 haulier = replicate 16 0x22
 
-pub yard : Tables
-yard = withRows Creds (serving (aceRow 1 0 2 0 weight haulier ∷ aceRow 2 2 2 0 weight (connected 0) ∷ [])) (credRow 5 ∷ (0 ∷ 7 ∷ (haulier ++ (0 ∷ 0 ∷ 0 ∷ 0 ∷ 4 ∷ []))) ∷ [])
+unfoldable pub yard : Tables
+yard = withCreds (serving (aceRow 1 0 2 0 weight haulier ∷ aceRow 2 2 2 0 weight (connected 0) ∷ [])) (credRow 5 ∷ (0 ∷ 7 ∷ (haulier ++ (0 ∷ 0 ∷ 0 ∷ 0 ∷ 4 ∷ []))) ∷ [])
 
-pub chosen7 : Sender → Bool
+unfoldable pub chosen7 : Sender → Bool
 chosen7 unauthenticated = true
 chosen7 (partner n) = eqb n 7
 
@@ -453,11 +458,11 @@ yardRun =
 
 -- everybody's answers: the chosen get 8 for each write, and their read is served
 pub yard-answers : replies (λ t q. replyTo noDefaults t q .answer) (tablesAfter noDefaults) yard yardRun ≡ 8 ∷ 0 ∷ 8 ∷ 0 ∷ 8 ∷ 0 ∷ 0 ∷ []
-unfolding definitions owned5 serving aceBody aceRow weight none connected uuid credRow haulier yard yardRun
+unfolding definitions owned5 serving aceBody aceRow weight none connected uuid credRow haulier yard yardRun withCreds
 yard-answers = refl
 
 -- the premise for these two senders, as a test
-calm : Tables → Bool
+unfoldable pub calm : Tables → Bool
 calm t = not (eqb (t .owned) 0) && not (namesOwner t unauthenticated) && not (namesOwner t (partner 7)) && not (mayAlter t unauthenticated) && not (mayAlter t (partner 7))
 
 record Calm (t : Tables) : Type 0 where
@@ -471,7 +476,7 @@ calm-parts : (t : Tables) → calm t ≡ true → Calm t
 unfolding calm
 calm-parts t h = search (and-left, and-right)
 
-calm-harmless : (t : Tables) → calm t ≡ true → Harmless chosen7 t
+pub calm-harmless : (t : Tables) → calm t ≡ true → Harmless chosen7 t
 unfolding chosen7
 calm-harmless t h = let p = calm-parts t h in record { hasOwner = λ s c. not-true _ (p .owned); notOwner = owner p; notGranted = granted p }
   where
@@ -484,11 +489,11 @@ calm-harmless t h = let p = calm-parts t h in record { hasOwner = λ s c. not-tr
     granted p (partner n) c = rw (eqb-true n 7 c) (not-true _ (p .haulier-alters))
 
 yard-premise : Along (tablesAfter noDefaults) (Premise chosen7) yard (kept (isOthers chosen7) yardRun)
-unfolding definitions calm namesOwner rowAlters mayAlter someSecurity owned5 serving aceBody aceRow weight none connected uuid credRow haulier yard yardRun chosen7
+unfolding definitions calm namesOwner rowAlters mayFit mayAlter someSecurity owned5 serving aceBody aceRow weight none connected uuid credRow haulier yard yardRun chosen7 withCreds
 yard-premise = (λ _. calm-harmless _ refl, (λ _. calm-harmless _ refl, (λ _. calm-harmless _ refl, λ _. calm-harmless _ refl)))
 
 -- so the owner's answers, and the tables at the end, are those of the owner's records alone
 pub yard-isolated :
     (keptOf (isOthers chosen7) yardRun (replies (replyTo noDefaults) (tablesAfter noDefaults) yard yardRun) ≡ replies (replyTo noDefaults) (tablesAfter noDefaults) yard (kept (isOthers chosen7) yardRun))
-    × (final (tablesAfter noDefaults) yard yardRun ≡ final (tablesAfter noDefaults) yard (kept (isOthers chosen7) yardRun))
+    × (compared chosen7 (final (tablesAfter noDefaults) yard yardRun) ≡ compared chosen7 (final (tablesAfter noDefaults) yard (kept (isOthers chosen7) yardRun)))
 yard-isolated = isolation noDefaults chosen7 yard yardRun yard-premise

@@ -8,7 +8,7 @@ use mathlib.Core.Bool.{Bool, true, false, not, _&&_, cond}
 use mathlib.Core.List.{List, [], _∷_}
 use lib.Dec.{eqb}
 use lib.ListN.{length, take, drop, getD}
-use lib.Seq.{getD-take}
+use lib.Seq.{getD-take, take-take}
 use borrow.Author.Tests.{eq-eqb, not-true}
 use Rattle.rows.specs.Rows.{Row, rowsOf, packed, every, some, without, hasKey, numberAt, rowsBefore}
 use Rattle.rows.proofs.Laws.{kept}
@@ -20,6 +20,7 @@ use Rattle.rules.specs.declared.Table.{Table}
 use Rattle.rules.specs.declared.Table.the-variants.{Creds, Aces}
 use Rattle.rules.specs.Bits.{bits}
 use Rattle.rules.specs.Bodies.{rowNumber, credStorable, aceStorable}
+use Rattle.rules.specs.Roles.{bodyOf}
 use Rattle.rules.specs.Tables.{stride, capacity, storable, count, bytes, rows, withRows, sound}
 use Rattle.rules.specs.Places.{nowhere, gapOf}
 use Rattle.rules.proofs.Bools.{contradiction, bool-cases, and-left, and-right}
@@ -27,6 +28,7 @@ use Rattle.rules.proofs.BitLaws.{bits-word}
 use Rattle.rules.proofs.Answers.{table-parts, rows-are}
 use Rattle.rules.proofs.BodyLaws.{sized, two-long}
 use Rattle.rules.proofs.TableLaws.{table-is, few-rows}
+use Rattle.rules.proofs.RoleLaws.{held-parts}
 
 -- ---- a row that a body could store has a number
 
@@ -36,16 +38,21 @@ number-zero w e =
     let b : getD w 1 0 ≡ 0 = sym (getD-take 2 w 1 0 (omega arith)) ∙ ap (λ (l : List ℕ). getD l 1 0) e in
     bits-word w 0 (omega arith) (omega arith) ∙ omega arith
 
-pub has-number : (k : Table) (w : Row) → storable k w ≡ true → not (eqb (rowNumber w) 0) ≡ true
+pub has-number : (k : Table) (w : Row) → storable k w ≡ true → take 2 w ≡ 0 ∷ 0 ∷ [] → ⊥
 unfolding credStorable aceStorable
-has-number Creds w h = search (and-left, and-right)
-has-number Aces w h = search (and-left, and-right)
+has-number Creds w h e =
+    let s = held-parts w h .body in
+    let n : not (eqb (rowNumber (bodyOf w)) 0) ≡ true = search (and-left, and-right) in
+    contradiction (eq-eqb (rowNumber (bodyOf w)) 0 (number-zero (bodyOf w) (take-take 2 23 w (omega arith) ∙ e))) (not-true _ n)
+has-number Aces w h e =
+    let n : not (eqb (rowNumber w) 0) ≡ true = search (and-left, and-right) in
+    contradiction (eq-eqb (rowNumber w) 0 (number-zero w e)) (not-true _ n)
 
 numbered : (k : Table) (ws : List Row) → every (storable k) ws ≡ true → gap.Numbered ws
 unfolding every
 numbered k [] h = tt
 numbered k (w ∷ ws) h =
-    (λ e. contradiction (eq-eqb (rowNumber w) 0 (number-zero w e)) (not-true _ (has-number k w (and-left (storable k w) (every (storable k) ws) h))), numbered k ws (and-right (storable k w) (every (storable k) ws) h))
+    (has-number k w (and-left (storable k w) (every (storable k) ws) h), numbered k ws (and-right (storable k w) (every (storable k) ws) h))
 
 -- ---- in the tables
 

@@ -1,4 +1,4 @@
--- The laws of the definitions, and the theorems over them: Refusals, SoundKept, ReadBack, Gaps, LinkLaws, Isolated, Built, Examples.
+-- The laws of the definitions, and the theorems over them: Refusals, SoundKept, ReadBack, Gaps, LinkLaws, Isolated, Built, Examples, RoleExamples.
 pub mod Bools
 pub mod BitLaws
 pub mod RecordLaws
@@ -11,10 +11,16 @@ pub mod TableLaws
 pub mod Refusals
 pub mod Simulation
 pub mod PermissionLaws
+pub mod RoleLaws
+pub mod RolePlaces
+pub mod RowMaps
+pub mod OwnRow
 pub mod SoundKept
 pub mod ReadBack
 pub mod Gaps
 pub mod LinkLaws
+pub mod Alike
 pub mod Isolated
 pub mod Built
 pub mod Examples
+pub mod RoleExamples

@@ -1,5 +1,5 @@
 -- A permission bit of a union comes from a member.
--- So a chosen sender's effective permission on a security resource has none of C, U and D.
+-- So a chosen sender's effective permission on a security resource other than roles has none of C, U and D.
 use Prim.Native.Nat.{ℕ, zero, suc, _<_, _≤_, _/_, _%_, _^_}
 use native.Mathlib.Nat.{zero-div}
 use native.Mathlib.Omega.{arith}
@@ -12,14 +12,14 @@ use lib.ListN.{length}
 use borrow.Author.Tests.{eqb-true, eq-eqb}
 use Rattle.rows.specs.Rows.{Row, some, unionOf}
 use Rattle.rules.specs.declared.Tables.{Tables}
-use Rattle.rules.specs.declared.Table.the-variants.{Creds, Aces}
-use Rattle.rules.specs.Directory.{isSecurity, someBelow, someSecurity, directory}
-use Rattle.rules.specs.Record.{Sender}
-use Rattle.rules.specs.Bodies.{acePermission, inSet}
+use Rattle.rules.specs.declared.Table.the-variants.{Aces}
+use Rattle.rules.specs.Directory.{isSecurity, roles, someBelow, someSecurity, directory}
+use Rattle.rules.specs.Record.{Sender, unauthenticated, partner}
+use Rattle.rules.specs.Bodies.{aceKind, acePermission, inSet}
 use Rattle.rules.specs.Tables.{rows}
-use Rattle.rules.specs.Permission.{C, U, D, has, credentialIn, connectionOf, subjectFits, resourceFits, inForce, rowFits, gives, isOwner, byOwner, byNoOwner, effectiveOf, effective}
-use Rattle.rules.specs.Isolation.{Harmless, alters, namesOwner, rowAlters, mayAlter}
-use Rattle.rules.proofs.Bools.{cond-cases, contradiction, and-left, and-right, and-false-right, or-neither, or-left, or-right, bool-cases}
+use Rattle.rules.specs.Permission.{C, U, D, has, isRow, ownRow, connectionOf, roleFits, subjectIs, subjectFits, resourceFits, inForce, rowFits, gives, isOwner, byOwner, byNoOwner, byRoles, effectiveOf, effective}
+use Rattle.rules.specs.Isolation.{Harmless, alters, namesOwner, rowAlters, mayFit, mayAlter}
+use Rattle.rules.proofs.Bools.{cond-cases, contradiction, and-left, and-right, and-both, and-false-right, or-neither, or-left, or-right, bool-cases}
 use Rattle.rules.proofs.BodyLaws.{security-number}
 
 pub has-zero : (bit : ℕ) → has 0 bit ≡ false
@@ -93,13 +93,31 @@ and-weaken false y z g h e u v = refl
 and-weaken true false z g h e u v = rw (u refl)
 and-weaken true true z g h e u v = rw (v e) (and-false g)
 
+-- a sender with a credential row is a partner
+row-partner : (t : Tables) (s : Sender) → isRow (ownRow t s) ≡ true → eqb (connectionOf s) 1 ≡ true
+row-partner t unauthenticated e = e
+row-partner t (partner n) e = refl
+
+-- a row that fits may fit: every role counts
+fits-may : (clock : ℕ) (w : Row) (c : ℕ) (a : Row) → (isRow w ≡ true → eqb c 1 ≡ true) → subjectFits clock w c a ≡ true → mayFit w c a ≡ true
+unfolding subjectFits subjectIs mayFit roleFits
+fits-may clock w c a one = pick (eqb (aceKind a) 0) (eqb (aceKind a) 1) _ _ _ _ (λ h. one (and-left (isRow w) _ h))
+  where
+    pick : (k0 k1 x r r′ y : Bool) → (r ≡ true → r′ ≡ true) → cond k0 x (cond k1 r y) ≡ true → cond k0 x (cond k1 r′ y) ≡ true
+    pick true k1 x r r′ y f h = h
+    pick false true x r r′ y f h = f h
+    pick false false x r r′ y f h = h
+
 -- a row that may not alter a security resource gives nothing to alter resource n by
-gives-lacks : (clock : ℕ) (w : Row) (c n k : ℕ) (a : Row) → isSecurity n ≡ true → ((p : ℕ) → alters p ≡ false → has p (2 ^ k) ≡ false)
-    → (subjectFits w c a && rowAlters a) ≡ false → has (gives clock w c n a) (2 ^ k) ≡ false
+gives-lacks : (clock : ℕ) (w : Row) (c n k : ℕ) (a : Row) → (isRow w ≡ true → eqb c 1 ≡ true) → isSecurity n ≡ true → ((p : ℕ) → alters p ≡ false → has p (2 ^ k) ≡ false)
+    → (mayFit w c a && rowAlters a) ≡ false → has (gives clock w c n a) (2 ^ k) ≡ false
 unfolding gives rowFits rowAlters
-gives-lacks clock w c n k a sec sub e =
-    cond-cases (λ (p : ℕ). has p (2 ^ k) ≡ false) (subjectFits w c a && resourceFits n a && inForce clock a)
-    (λ f. and-false-right (subjectFits w c a && resourceFits n a) _ (and-weaken (subjectFits w c a) (someSecurity (λ m. resourceFits m a)) (alters (acePermission a)) (resourceFits n a) (has (acePermission a) (2 ^ k)) e (security-lacks (λ m. resourceFits m a) n sec) (sub (acePermission a))) (and-left _ _ f))
+gives-lacks clock w c n k a one sec sub e =
+    cond-cases (λ (p : ℕ). has p (2 ^ k) ≡ false) (subjectFits clock w c a && resourceFits n a && inForce clock a)
+    (λ f.
+    let both = and-left (subjectFits clock w c a && resourceFits n a) _ f in
+    let may = fits-may clock w c a one (and-left (subjectFits clock w c a) _ both) in
+    and-false-right (mayFit w c a && resourceFits n a) _ (and-weaken (mayFit w c a) (someSecurity (λ m. resourceFits m a)) (alters (acePermission a)) (resourceFits n a) (has (acePermission a) (2 ^ k)) e (security-lacks (λ m. resourceFits m a) n sec) (sub (acePermission a))) (and-both _ _ may (and-right (subjectFits clock w c a) _ both)))
     (λ _. has-zero (2 ^ k))
 
 -- what holds of each of the bits C, U, D
@@ -111,26 +129,36 @@ alters-lacks p h =
     (h 2 (λ q e. or-right (has q C) _ (or-left (has q C || has q U) _ e))))
     (h 3 (λ q e. or-right (has q C || has q U) _ e))
 
-module _ (clock : ℕ) (chosen : Sender → Bool) (t : Tables) (s : Sender) (n : ℕ) (safe : Harmless chosen t) (c : chosen s ≡ true) (sec : isSecurity n ≡ true) where
-  owner-none : byOwner t (credentialIn (rows Creds t) s) n ≡ 0
+module _ (clock : ℕ) (chosen : Sender → Bool) (t : Tables) (s : Sender) (n : ℕ) (safe : Harmless chosen t) (c : chosen s ≡ true) (sec : isSecurity n ≡ true) (other : eqb n roles ≡ false) where
+  owner-none : byOwner t (ownRow t s) n ≡ 0
   unfolding byOwner namesOwner
-  owner-none = rw (sec, security-lacks (isOwner t (credentialIn (rows Creds t) s)) n sec (safe .notOwner s c))
+  owner-none = rw (sec, security-lacks (isOwner t (ownRow t s)) n sec (safe .notOwner s c))
 
   unowned-none : byNoOwner t n ≡ 0
   unfolding byNoOwner
   unowned-none = rw (sec, safe .hasOwner s c)
 
-  -- a chosen sender alters no security resource
+  elsewhere-none : byRoles (connectionOf s) n ≡ 0
+  unfolding byRoles
+  elsewhere-none = rw other
+
+  -- a chosen sender alters no security resource but roles
   pub effective-lacks : alters (effective clock t s n) ≡ false
   unfolding effectiveOf mayAlter
   effective-lacks =
-      let w = credentialIn (rows Creds t) s in
+      let w = ownRow t s in
       let granted = unionOf (gives clock w (connectionOf s) n) (rows Aces t) in
       alters-lacks (effective clock t s n) λ k sub.
-      has-or (bitOr granted (byOwner t w n)) (byNoOwner t n) k
+      has-or (bitOr (bitOr granted (byOwner t w n)) (byNoOwner t n)) (byRoles (connectionOf s) n) k
+      ∙ or-neither _ _
+      (has-or (bitOr granted (byOwner t w n)) (byNoOwner t n) k
       ∙ or-neither _ _
       (has-or granted (byOwner t w n) k
       ∙ or-neither _ _
-      (union-lacks (gives clock w (connectionOf s) n) (λ a. subjectFits w (connectionOf s) a && rowAlters a) k (λ a e. gives-lacks clock w (connectionOf s) n k a sec sub e) (rows Aces t) (safe .notGranted s c))
-      (ap (λ (x : ℕ). has x (2 ^ k)) owner-none ∙ has-zero (2 ^ k)))
-      (ap (λ (x : ℕ). has x (2 ^ k)) unowned-none ∙ has-zero (2 ^ k))
+      (union-lacks (gives clock w (connectionOf s) n) (λ a. mayFit w (connectionOf s) a && rowAlters a) k (λ a e. gives-lacks clock w (connectionOf s) n k a (row-partner t s) sec sub e) (rows Aces t) (safe .notGranted s c))
+      (none k owner-none))
+      (none k unowned-none))
+      (none k elsewhere-none)
+    where
+      none : (k : ℕ) {x : ℕ} → x ≡ 0 → has x (2 ^ k) ≡ false
+      none k e = ap (λ (x : ℕ). has x (2 ^ k)) e ∙ has-zero (2 ^ k)

@@ -71,9 +71,9 @@ none : (r : Row) → setKnown r 0 ≡ true
 unfolding setKnown
 none r = refl
 
--- the ranges of the directory: 0 to 3 known, 4 to 7 not, 8 to 14 known, 15 not, 16 known, 17 to 63 not
+-- the ranges of the directory: 0 to 4 known, 5 to 7 not, 8 to 14 known, 15 not, 16 known, 17 to 63 not
 pub set-ranges : (r : Row) → setKnown r 64
-    ≡ (eqb (bits r 36 4) 0 && eqb (bits r 47 1) 0 && eqb (bits r 49 15) 0 && eqb (bits r 64 16) 0 && eqb (bits r 80 16) 0)
+    ≡ (eqb (bits r 37 3) 0 && eqb (bits r 47 1) 0 && eqb (bits r 49 15) 0 && eqb (bits r 64 16) 0 && eqb (bits r 80 16) 0)
 unfolding resourceOf
 set-ranges r =
     unknown-part r 48 16 refl
@@ -88,8 +88,8 @@ set-ranges r =
     (known-part r 16 1 refl ∙ unknown-part r 15 1 refl
     ∙ and-comm (eqb (bits r 47 1) 0) (setKnown r 15)
     ∙ ap (λ (b : Bool). b && eqb (bits r 47 1) 0)
-    (known-part r 8 7 refl ∙ unknown-part r 4 4 refl ∙ and-comm (eqb (bits r 36 4) 0) (setKnown r 4)
-    ∙ ap (λ (b : Bool). b && eqb (bits r 36 4) 0) (known-part r 0 4 refl ∙ none r)))))
+    (known-part r 8 7 refl ∙ unknown-part r 5 3 refl ∙ and-comm (eqb (bits r 37 3) 0) (setKnown r 5)
+    ∙ ap (λ (b : Bool). b && eqb (bits r 37 3) 0) (known-part r 0 5 refl ∙ none r)))))
 
 -- ---- security resources in the set
 
@@ -105,7 +105,7 @@ some-first r (suc w) =
     rw (some-first r w, zero-more (bits r 32 w) (bit r (32 + w)) (bit-small r (32 + w)))
     (or-not (inSet r w) (eqb (bits r 32 w) 0))
 
--- the security resources are the first four
-pub set-security : (r : Row) → someSecurity (λ n. inSet r n) ≡ not (eqb (bits r 32 4) 0)
+-- the security resources are the first five
+pub set-security : (r : Row) → someSecurity (λ n. inSet r n) ≡ not (eqb (bits r 32 5) 0)
 unfolding someSecurity resourceOf
-set-security r = some-first r 4
+set-security r = some-first r 5

@@ -6,7 +6,7 @@ use mathlib.Core.Path.{_≡_, refl, ap, _∙_, sym}
 use mathlib.Core.Bool.{Bool, true, false, not, _&&_, _||_, cond}
 use mathlib.Core.List.{List, [], _∷_}
 use lib.Dec.{eqb, leb}
-use lib.ListN.{length, drop}
+use lib.ListN.{length, drop, length-map}
 use borrow.Author.Tests.{eqb-true, leb-true, le-leb, eq-eqb, not-false}
 use Rattle.rows.specs.Rows.{Row, rowsOf, packed, allZero, same, every, distinctNumbers, stored, without, hasKey, IsTable}
 use Rattle.rows.proofs.Laws.{length-rowsOf}
@@ -17,22 +17,26 @@ use Rattle.rules.specs.declared.Table.the-variants.{Creds, Aces}
 use Rattle.rules.specs.declared.Check.{Check}
 use Rattle.rules.specs.declared.Check.the-variants.{Pass, Refuse}
 use Rattle.rules.specs.declared.Action.{Action}
-use Rattle.rules.specs.declared.Action.the-variants.{Serve, Read, SetRowOwner, SetOwner, SetState, Store, Remove, Malformed}
+use Rattle.rules.specs.declared.Action.the-variants.{Serve, Read, SetRowOwner, SetOwner, SetState, Store, Remove, Assert, Malformed}
 use Rattle.rules.specs.Lookup.{lookup}
-use Rattle.rules.specs.Record.{Request, body}
+use Rattle.rules.specs.Record.{Request, body, connection, sender}
 use Rattle.rules.specs.Bodies.{nil, isNil}
-use Rattle.rules.specs.Tables.{stride, capacity, storable, rowOf, count, bytes, rows, rowsIn, withRows, rowsSound, headSound, sound, empty}
+use Rattle.rules.specs.Roles.{rolesInForce, asserted}
+use Rattle.rules.specs.Tables.{stride, longest, capacity, storable, rowFrom, rowOf, count, bytes, rows, rowsIn, withRows, rowsSound, headSound, sound, empty}
 use Rattle.rules.specs.Defaults.{Defaults, listed, goodList, defaultRows, fresh}
 use Rattle.rules.specs.Action.{action}
-use Rattle.rules.specs.Checks.{checks, verdict, badTarget, full}
+use Rattle.rules.specs.Checks.{checks, verdict, badLength, noCredential, badTarget, full, rolesFull}
 use Rattle.rules.specs.States.{stateAllows, writeAllowed, moveListed, moveAllowed}
 use Rattle.rules.specs.Outcome.{Outcome, outcome, outcomeAt, outcomeOf, effect, entered, tablesAfter}
-use Rattle.rules.specs.Permission.{permission}
+use Rattle.rules.specs.Permission.{permission, ownRow}
 use Rattle.rules.specs.Run.{final}
-use Rattle.rules.proofs.Bools.{cond-cases, contradiction, and-left, and-right, and-both, or-not-left, or-true-right}
+use Rattle.rules.proofs.Bools.{cond-cases, bool-cases, contradiction, and-left, and-right, and-both, or-not-left, or-true-right}
 use Rattle.rules.proofs.Answers.{RowsSound, Sound, rows-parts, sound-parts, table-parts, rows-counted, passed}
 use Rattle.rules.proofs.BodyLaws.{Valid, action-valid, sized, two-long}
-use Rattle.rules.proofs.TableLaws.{few-stored, few-without}
+use Rattle.rules.proofs.TableLaws.{few-rows, few-stored, few-without}
+use Rattle.rules.proofs.Refusals.{unsound-refused}
+use Rattle.rules.proofs.RoleLaws.{asserted-storable}
+use Rattle.rules.proofs.OwnRow.{asserts, own-held, asserted-count}
 
 rows-whole : (k : Table) (n : ℕ) (b : List ℕ) → RowsSound k n b → rowsSound k n b ≡ true
 unfolding rowsSound
@@ -50,10 +54,16 @@ rows-sound k size ws room few all apart =
     rows-whole k (length ws) (packed size ws)
     (record { few = few; unused = packed-table (stride k) size ws (two-long k) long room .zeros; stores = rw is all; apart = rw is apart })
 
-sound-with : (k : Table) (t : Tables) (ws : List Row) → sound t ≡ true → length ws ≤ capacity k → every (storable k) ws ≡ true → distinctNumbers ws ≡ true → sound (withRows k t ws) ≡ true
+-- rows that a sound table may hold
+pub record SoundRows (k : Table) (ws : List Row) : Type 0 where
+  pub few : length ws ≤ capacity k
+  pub stores : every (storable k) ws ≡ true
+  pub apart : distinctNumbers ws ≡ true
+
+sound-with : (k : Table) (t : Tables) (ws : List Row) → sound t ≡ true → SoundRows k ws → sound (withRows k t ws) ≡ true
 unfolding headSound
-sound-with Creds t ws h few all apart = let s = sound-parts t h in sound-whole _ (record { head = s .head; creds = rows-sound Creds 552 ws (omega arith) few all apart; aces = s .aces })
-sound-with Aces t ws h few all apart = let s = sound-parts t h in sound-whole _ (record { head = s .head; creds = s .creds; aces = rows-sound Aces 1152 ws (omega arith) few all apart })
+sound-with Creds t ws h x = let s = sound-parts t h in let few = x .few in sound-whole _ (record { head = s .head; creds = rows-sound Creds 936 ws (omega arith) few (x .stores) (x .apart); aces = s .aces })
+sound-with Aces t ws h x = let s = sound-parts t h in let few = x .few in sound-whole _ (record { head = s .head; creds = s .creds; aces = rows-sound Aces 1152 ws (omega arith) few (x .stores) (x .apart) })
 
 -- the parts of the head
 record Head (t : Tables) : Type 0 where
@@ -76,17 +86,12 @@ empty-sound = refl
 
 -- ---- the default rows are few, storable and distinct
 
-pub record SoundRows (k : Table) (ws : List Row) : Type 0 where
-  pub few : length ws ≤ capacity k
-  pub stores : every (storable k) ws ≡ true
-  pub apart : distinctNumbers ws ≡ true
-
 two-fit : (k : Table) → 2 ≤ capacity k
 two-fit Creds = omega arith
 two-fit Aces = omega arith
 
 record Good (k : Table) (b : List ℕ) : Type 0 where
-  few : length b / stride k ≤ 2
+  few : length b / longest k ≤ 2
   stores : every (storable k) (listed k b) ≡ true
   apart : distinctNumbers (listed k b) ≡ true
 
@@ -103,18 +108,16 @@ unfolding defaultRows
 default-sound k b =
     cond-cases (SoundRows k) (goodList k b)
     (λ e. let g = good-parts k b e in
-    record { few = rw (length-rowsOf (stride k) (length b / stride k) b) (omega (arith, g .few, two-fit k)); stores = g .stores; apart = g .apart })
+    record { few = rw (length-map (rowsOf (longest k) (length b / longest k) b) (rowFrom k), length-rowsOf (longest k) (length b / longest k) b) (omega (arith, g .few, two-fit k)); stores = g .stores; apart = g .apart })
     (λ _. no-rows k)
 
 -- fresh tables are sound, whatever the lists
 pub fresh-sound : (d : Defaults) → sound (fresh d) ≡ true
 unfolding fresh
 fresh-sound d =
-    let c = default-sound Creds (d .creds) in
-    let a = default-sound Aces (d .aces) in
     sound-with Aces (withRows Creds empty (defaultRows Creds (d .creds))) (defaultRows Aces (d .aces))
-    (sound-with Creds empty (defaultRows Creds (d .creds)) empty-sound (c .few) (c .stores) (c .apart))
-    (a .few) (a .stores) (a .apart)
+    (sound-with Creds empty (defaultRows Creds (d .creds)) empty-sound (default-sound Creds (d .creds)))
+    (default-sound Aces (d .aces))
 
 -- a move to another state than RESET finds an owner
 move-owned : (t : Tables) (s : ℕ) → Head t → eqb s 0 ≡ false → moveAllowed t s ≡ true → eqb (t .owned) 1 ≡ true
@@ -142,28 +145,72 @@ positive : (s : ℕ) → eqb s 0 ≡ false → 1 ≤ s
 positive zero e = contradiction refl e
 positive (suc s) e = omega arith
 
-effect-sound : (d : Defaults) (t : Tables) (b : List ℕ) (a : Action) → sound t ≡ true → Valid b a → stateAllows (t .state) a ≡ true → badTarget t a ≡ false → full t b a ≡ false → sound (effect d t b a) ≡ true
+-- what a permitted record's checks leave of its action
+pub record Passed (t : Tables) (q : Request) (a : Action) : Type 0 where
+  pub valid : Valid (connection (q .bytes)) (body (q .bytes)) a
+  pub long : badLength (q .bytes) ≡ false
+  pub known : noCredential t (q .bytes) ≡ false
+  pub allowed : stateAllows (t .state) a ≡ true
+  pub listed : badTarget t a ≡ false
+  pub fits : full t (body (q .bytes)) a ≡ false
+  pub placed : rolesFull (rolesInForce (q .clock) (ownRow t (sender (q .bytes)))) (body (q .bytes)) a ≡ false
+
+pub passed-all : (t : Tables) (p : ℕ) (q : Request) → verdict (checks t p q) ≡ Pass → Passed t q (action (q .bytes))
+passed-all t p q e = record {
+  valid = action-valid (q .bytes);
+  long = passed (checks t p q) e 2;
+  known = passed (checks t p q) e 7;
+  allowed = not-false _ (passed (checks t p q) e 11);
+  listed = passed (checks t p q) e 12;
+  fits = passed (checks t p q) e 14;
+  placed = passed (checks t p q) e 22;
+}
+
+-- ---- the rows after an action
+
+pub stored-sound : (k : Table) (t : Tables) (q : Request) → sound t ≡ true → Passed t q (Store k) → SoundRows k (stored (rowOf k (body (q .bytes))) (rows k t))
+stored-sound k t q h x =
+    let s = table-parts k t h in
+    let b = body (q .bytes) in
+    record { few = few-stored k t b h (x .fits); stores = every-stored (storable k) (rowOf k b) (rows k t) (x .valid) (s .stores); apart = distinct-stored (rowOf k b) (rows k t) (s .apart) }
+
+pub removed-sound : (k : Table) (t : Tables) (goes : Row → Bool) → sound t ≡ true → SoundRows k (without goes (rows k t))
+removed-sound k t goes h =
+    let s = table-parts k t h in
+    record { few = few-without k t goes h; stores = every-without (storable k) goes (rows k t) (s .stores); apart = distinct-without goes (rows k t) (s .apart) }
+
+pub asserted-sound : (c : ℕ) (t : Tables) (q : Request) → sound t ≡ true → Passed t q (Assert c) → SoundRows Creds (stored (asserted (q .clock) (body (q .bytes)) (ownRow t (sender (q .bytes)))) (rows Creds t))
+asserted-sound c t q h x =
+    let s = table-parts Creds t h in
+    let b = body (q .bytes) in
+    let w = ownRow t (sender (q .bytes)) in
+    let a = asserts t (q .bytes) c (x .valid) (x .allowed) (x .long) (x .known) in
+    let new = asserted (q .clock) b w in
+    record {
+      few = rw (asserted-count t (q .bytes) h a (q .clock) b) (few-rows Creds t h);
+      stores = every-stored (storable Creds) new (rows Creds t) (asserted-storable (q .clock) b w (own-held t (q .bytes) h a) (x .valid .1) (x .valid .2) (x .placed)) (s .stores);
+      apart = distinct-stored new (rows Creds t) (s .apart);
+    }
+
+effect-sound : (d : Defaults) (t : Tables) (q : Request) (a : Action) → sound t ≡ true → Passed t q a → sound (effect d (q .clock) t (q .bytes) a) ≡ true
 unfolding entered
-effect-sound d t b Serve h v w g f = h
-effect-sound d t b Read h v w g f = h
-effect-sound d t b (SetRowOwner n) h v w g f =
+effect-sound d t q Serve h x = h
+effect-sound d t q Read h x = h
+effect-sound d t q (SetRowOwner n) h x =
     let s = sound-parts t h in let p = head-parts t h in
     sound-whole _ (record { head = head-whole _ (record { low = p .low; high = p .high; agrees = p .agrees; ready = p .ready }); creds = s .creds; aces = s .aces })
-effect-sound d t b (SetOwner o) h v w g f =
+effect-sound d t q (SetOwner o) h x =
     let s = sound-parts t h in let p = head-parts t h in
-    sound-whole _ (record { head = head-whole _ (record { low = p .low; high = p .high; agrees = eq-eqb o _ (v .1); ready = owner-ready (t .state) o (p .low) (p .high) w }); creds = s .creds; aces = s .aces })
-effect-sound d t b (SetState n) h v w g f =
-    cond-cases (λ x. sound x ≡ true) (eqb n 0)
+    sound-whole _ (record { head = head-whole _ (record { low = p .low; high = p .high; agrees = eq-eqb o _ (x .valid .1); ready = owner-ready (t .state) o (p .low) (p .high) (x .allowed) }); creds = s .creds; aces = s .aces })
+effect-sound d t q (SetState n) h x =
+    cond-cases (λ u. sound u ≡ true) (eqb n 0)
     (λ _. fresh-sound d)
     (λ e. let s = sound-parts t h in let p = head-parts t h in
-    sound-whole _ (record { head = head-whole _ (record { low = positive n e; high = v; agrees = p .agrees; ready = or-true-right (eqb n 1) _ (move-owned t n p e (not-false _ g)) }); creds = s .creds; aces = s .aces }))
-effect-sound d t b (Store k) h v w g f =
-    let s = table-parts k t h in
-    sound-with k t (stored (rowOf k b) (rows k t)) h (few-stored k t b h f) (every-stored (storable k) (rowOf k b) (rows k t) v (s .stores)) (distinct-stored (rowOf k b) (rows k t) (s .apart))
-effect-sound d t b (Remove k at) h v w g f =
-    let s = table-parts k t h in
-    sound-with k t (without (hasKey at b) (rows k t)) h (few-without k t (hasKey at b) h) (every-without (storable k) (hasKey at b) (rows k t) (s .stores)) (distinct-without (hasKey at b) (rows k t) (s .apart))
-effect-sound d t b Malformed h v w g f = h
+    sound-whole _ (record { head = head-whole _ (record { low = positive n e; high = x .valid; agrees = p .agrees; ready = or-true-right (eqb n 1) _ (move-owned t n p e (not-false _ (x .listed))) }); creds = s .creds; aces = s .aces }))
+effect-sound d t q (Store k) h x = sound-with k t (stored (rowOf k (body (q .bytes))) (rows k t)) h (stored-sound k t q h x)
+effect-sound d t q (Remove k at) h x = sound-with k t (without (hasKey at (body (q .bytes))) (rows k t)) h (removed-sound k t (hasKey at (body (q .bytes))) h)
+effect-sound d t q (Assert c) h x = sound-with Creds t (stored (asserted (q .clock) (body (q .bytes)) (ownRow t (sender (q .bytes)))) (rows Creds t)) h (asserted-sound c t q h x)
+effect-sound d t q Malformed h x = h
 
 -- at any permission
 pub sound-kept-at : (d : Defaults) (t : Tables) (p : ℕ) (q : Request) → sound t ≡ true → sound (outcomeAt d t p q .tables) ≡ true
@@ -172,10 +219,7 @@ sound-kept-at d t p q h = go (verdict (checks t p q)) refl
   where
     go : (c : Check) → verdict (checks t p q) ≡ c → sound (outcomeOf d t p q c .tables) ≡ true
     go Pass e =
-        effect-sound d t (body (q .bytes)) (action (q .bytes)) h (action-valid (q .bytes))
-        (not-false _ (passed (checks t p q) e 11))
-        (passed (checks t p q) e 12)
-        (passed (checks t p q) e 14)
+        effect-sound d t q (action (q .bytes)) h (passed-all t p q e)
     go (Refuse n) e = h
 
 -- a record leaves sound tables sound
@@ -187,3 +231,7 @@ sound-kept d t q h = sound-kept-at d t (permission (q .clock) t (q .bytes)) q h
 pub run-sound : (d : Defaults) (t : Tables) (qs : List Request) → sound t ≡ true → sound (final (tablesAfter d) t qs) ≡ true
 run-sound d t [] h = h
 run-sound d t (q ∷ qs) h = run-sound d (tablesAfter d t q) qs (sound-kept d t q h)
+
+-- a record neither makes nor mends tables that are not sound
+pub sound-same : (d : Defaults) (t : Tables) (q : Request) → sound (tablesAfter d t q) ≡ sound t
+sound-same d t q = bool-cases (sound t) (λ e. sound-kept d t q e ∙ sym e) (λ e. ap (λ (o : Outcome). sound (o .tables)) (unsound-refused d t q e))

@@ -1,17 +1,19 @@
--- 'The others alone': the premise on the chosen senders, and whose records the others' are.
+-- 'The others alone': the premise on the chosen senders, whose records the others' are, and what is compared of the tables.
 -- The chosen are any set of senders: of partners, and of the unauthenticated.
 use Prim.Native.Nat.{ℕ}
 use mathlib.Core.Path.{_≡_}
-use mathlib.Core.Bool.{Bool, true, false, not, _&&_, _||_}
+use mathlib.Core.Bool.{Bool, true, false, not, _&&_, _||_, cond}
+use mathlib.Core.List.{map}
 use lib.Dec.{eqb}
 use Rattle.rows.specs.Rows.{Row, some}
 use Rattle.rules.specs.declared.Tables.{Tables}
 use Rattle.rules.specs.declared.Table.the-variants.{Creds, Aces}
 use Rattle.rules.specs.Directory.{someSecurity}
-use Rattle.rules.specs.Record.{Request, Sender, sender}
-use Rattle.rules.specs.Bodies.{acePermission}
-use Rattle.rules.specs.Tables.{rows, sound}
-use Rattle.rules.specs.Permission.{C, U, D, has, credentialIn, connectionOf, subjectFits, resourceFits, isOwner}
+use Rattle.rules.specs.Record.{Request, Sender, partner, sender}
+use Rattle.rules.specs.Bodies.{rowNumber, acePermission}
+use Rattle.rules.specs.Roles.{withoutRoles}
+use Rattle.rules.specs.Tables.{rows, withRows, sound}
+use Rattle.rules.specs.Permission.{C, U, D, has, ownRow, connectionOf, subjectIs, resourceFits, isOwner}
 
 -- create, update or delete
 abbrev pub alters : ℕ → Bool
@@ -19,17 +21,21 @@ alters p = has p C || has p U || has p D
 
 -- the sender's credential row names the device owner or a row owner
 unfoldable pub namesOwner : Tables → Sender → Bool
-namesOwner t s = someSecurity (isOwner t (credentialIn (rows Creds t) s))
+namesOwner t s = someSecurity (isOwner t (ownRow t s))
 
 -- the access row gives create, update or delete on a security resource
 unfoldable pub rowAlters : Row → Bool
 rowAlters a = someSecurity (λ n. resourceFits n a) && alters (acePermission a)
 
--- an access row that fits the sender does
-unfoldable pub mayAlter : Tables → Sender → Bool
-mayAlter t s = some (λ a. subjectFits (credentialIn (rows Creds t) s) (connectionOf s) a && rowAlters a) (rows Aces t)
+-- the access row may fit the sender: every role counts as a partner's (U11)
+unfoldable pub mayFit : Row → ℕ → Row → Bool
+mayFit w connection a = subjectIs (eqb connection 1) w connection a
 
--- where anybody is chosen: there is an owner, no chosen sender's credential row names one, and no access row that fits a chosen sender gives create, update or delete on a security resource
+-- an access row that may fit the sender does
+unfoldable pub mayAlter : Tables → Sender → Bool
+mayAlter t s = some (λ a. mayFit (ownRow t s) (connectionOf s) a && rowAlters a) (rows Aces t)
+
+-- where anybody is chosen: there is an owner, no chosen sender's credential row names one, and no access row that may fit a chosen sender gives create, update or delete on a security resource
 pub record Harmless (chosen : Sender → Bool) (t : Tables) : Type 0 where
   pub hasOwner : (s : Sender) → chosen s ≡ true → eqb (t .owned) 0 ≡ false
   pub notOwner : (s : Sender) → chosen s ≡ true → namesOwner t s ≡ false
@@ -42,3 +48,17 @@ Premise chosen t = sound t ≡ true → Harmless chosen t
 -- the record is one of the others'
 abbrev pub isOthers : (Sender → Bool) → Request → Bool
 isOthers chosen q = not (chosen (sender (q .bytes)))
+
+-- ---- the compared tables (U11)
+
+-- a credential row, without what its partner asserted where it is chosen
+unfoldable pub hidden : (Sender → Bool) → Row → Row
+hidden chosen w = cond (chosen (partner (rowNumber w))) (withoutRoles w) w
+
+-- the tables with such rows
+abbrev pub hiddenIn : (Sender → Bool) → Tables → Tables
+hiddenIn chosen t = withRows Creds t (map (hidden chosen) (rows Creds t))
+
+-- the tables without the asserted roles of the chosen partners; tables that are not sound are compared whole
+unfoldable pub compared : (Sender → Bool) → Tables → Tables
+compared chosen t = cond (sound t) (hiddenIn chosen t) t

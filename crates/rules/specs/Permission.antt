@@ -6,14 +6,15 @@ use mathlib.Core.List.{List, [], _∷_}
 use lib.Bits.{bitOr}
 use lib.Dec.{eqb, leb}
 use lib.ListN.{length}
-use Rattle.rows.specs.Rows.{Row, same, hasKey, firstRow, unionOf}
+use Rattle.rows.specs.Rows.{Row, same, hasKey, firstRow, some, unionOf}
 use Rattle.rules.specs.declared.Tables.{Tables}
 use Rattle.rules.specs.declared.Table.the-variants.{Creds, Aces}
 use Rattle.rules.specs.Bits.{word}
 use Rattle.rules.specs.Lookup.{lookup}
-use Rattle.rules.specs.Directory.{resourceOf, isSecurity, starReaches, plusReaches, minusReaches}
+use Rattle.rules.specs.Directory.{resourceOf, isSecurity, roles, starReaches, plusReaches, minusReaches}
 use Rattle.rules.specs.Record.{Sender, unauthenticated, partner, sender, resource}
 use Rattle.rules.specs.Bodies.{isNil, credSubject, credRole, credAuthority, aceKind, acePermission, acePlus, aceMinus, aceStar, inSet, aceSubject, aceAuthority, aceRole, aceConnection, aceFirst, aceLast}
+use Rattle.rules.specs.Roles.{assertedAuthority, assertedRole, rolesInForce}
 use Rattle.rules.specs.Tables.{rows, rowOwner}
 
 -- permission bits: C 1, R 2, U 4, D 8, N 16
@@ -56,6 +57,10 @@ abbrev pub credentialIn : List Row → Sender → Row
 credentialIn ws unauthenticated = []
 credentialIn ws (partner n) = firstRow (numbered n) ws
 
+-- in these tables
+abbrev pub ownRow : Tables → Sender → Row
+ownRow t s = credentialIn (rows Creds t) s
+
 abbrev pub connectionOf : Sender → ℕ
 connectionOf unauthenticated = 0
 connectionOf (partner n) = 1
@@ -66,15 +71,26 @@ isRow w = not (eqb (length w) 0)
 
 -- ---- 1. the access rows that fit by subject, resource and period
 
--- a UUID fits the credential row w with that subject, a role the one with that role of that authority, a connection the same bit; role 0 is none, and no role row has it
-unfoldable pub subjectFits : Row → ℕ → Row → Bool
-subjectFits w connection a =
+-- the access row is for this role of this authority; role 0 is none, and no role row has it
+unfoldable pub forRole : Row → ℕ → ℕ → Bool
+forRole a role authority = eqb (aceRole a) role && eqb (aceAuthority a) authority
+
+-- the credential row w has the role, stored or asserted and in force (U11)
+unfoldable pub roleFits : ℕ → Row → Row → Bool
+roleFits clock w a = isRow w && (forRole a (credRole w) (credAuthority w) || some (λ p. forRole a (assertedRole p) (assertedAuthority p)) (rolesInForce clock w))
+
+-- a UUID fits the credential row w with that subject, a connection the same bit, a role where it is had
+unfoldable pub subjectIs : Bool → Row → ℕ → Row → Bool
+subjectIs hasRole w connection a =
     lookup (aceKind a)
     ((0, isRow w && same (aceSubject a) (credSubject w))
-    ∷ (1, isRow w && eqb (aceRole a) (credRole w) && eqb (aceAuthority a) (credAuthority w))
+    ∷ (1, hasRole)
     ∷ (2, eqb (aceConnection a) connection)
     ∷ [])
     false
+
+unfoldable pub subjectFits : ℕ → Row → ℕ → Row → Bool
+subjectFits clock w connection a = subjectIs (roleFits clock w a) w connection a
 
 -- the resource n is in the set, or a wildcard reaches it
 unfoldable pub resourceFits : ℕ → Row → Bool
@@ -89,7 +105,7 @@ unfoldable pub inForce : ℕ → Row → Bool
 inForce clock a = leb (aceFirst a) clock && leb clock (aceLast a)
 
 unfoldable pub rowFits : ℕ → Row → ℕ → ℕ → Row → Bool
-rowFits clock w connection n a = subjectFits w connection a && resourceFits n a && inForce clock a
+rowFits clock w connection n a = subjectFits clock w connection a && resourceFits n a && inForce clock a
 
 unfoldable pub gives : ℕ → Row → ℕ → ℕ → Row → ℕ
 gives clock w connection n a = cond (rowFits clock w connection n a) (acePermission a) 0
@@ -112,13 +128,18 @@ byOwner t w n = cond (isSecurity n && isOwner t w n) all 0
 unfoldable pub byNoOwner : Tables → ℕ → ℕ
 byNoOwner t n = cond (isSecurity n && eqb (t .owned) 0) all 0
 
+-- ---- 4. every partner on /oic/sec/roles: R and U (U11)
+
+unfoldable pub byRoles : ℕ → ℕ → ℕ
+byRoles connection n = cond (eqb n roles && eqb connection 1) 6 0
+
 -- ---- the union
 
 unfoldable pub effectiveOf : ℕ → Tables → Row → ℕ → ℕ → ℕ
-effectiveOf clock t w connection n = bitOr (bitOr (unionOf (gives clock w connection n) (rows Aces t)) (byOwner t w n)) (byNoOwner t n)
+effectiveOf clock t w connection n = bitOr (bitOr (bitOr (unionOf (gives clock w connection n) (rows Aces t)) (byOwner t w n)) (byNoOwner t n)) (byRoles connection n)
 
 abbrev pub effective : ℕ → Tables → Sender → ℕ → ℕ
-effective clock t s n = effectiveOf clock t (credentialIn (rows Creds t) s) (connectionOf s) n
+effective clock t s n = effectiveOf clock t (ownRow t s) (connectionOf s) n
 
 -- of a record: its sender's on its resource
 unfoldable pub permission : ℕ → Tables → List ℕ → ℕ

@@ -1,39 +1,41 @@
 -- Reading the tables back (U1): what a permitted RETRIEVE of a security resource fills the lent buffer with.
--- The resource's own body, its row owner, and its rows in table order; every other record has no reply.
+-- The resource's own body, its row owner, and its rows in table order; of roles the sender's own in force. Every other record has no reply.
 use Prim.Native.Nat.{ℕ, _*_, _%_}
 use mathlib.Core.Bool.{Bool, _&&_, cond}
-use mathlib.Core.List.{List, [], _∷_, _++_}
+use mathlib.Core.List.{List, [], _∷_, _++_, map}
 use lib.Dec.{eqb, ltb}
 use lib.ListN.{length, drop}
 use Rattle.rows.specs.Rows.{joined}
 use Rattle.rules.specs.declared.Tables.{Tables}
 use Rattle.rules.specs.declared.Table.the-variants.{Creds, Aces}
 use Rattle.rules.specs.Lookup.{lookup}
-use Rattle.rules.specs.Directory.{isSecurity, doxm, pstat, cred, acl2}
-use Rattle.rules.specs.Record.{verb, resource}
+use Rattle.rules.specs.Directory.{isSecurity, doxm, pstat, cred, acl2, roles}
+use Rattle.rules.specs.Record.{Request, Sender, verb, resource, sender}
+use Rattle.rules.specs.Roles.{bodyOf, rolesInForce}
 use Rattle.rules.specs.Tables.{rows, rowOwner}
+use Rattle.rules.specs.Permission.{ownRow}
 
 -- what an UPDATE of doxm or pstat would set to what is: owned stands in the first bit, the state in the first three; the tables' resources have no such body
 unfoldable pub ownBody : Tables → ℕ → List ℕ
 ownBody t n = lookup n ((doxm, t .owned % 2 * 128 ∷ t .devowner) ∷ (pstat, t .state % 8 * 32 ∷ []) ∷ []) []
 
--- the rows of a table, each as the longest body that stores it
-unfoldable pub rowBytes : Tables → ℕ → List ℕ
-rowBytes t n = lookup n ((cred, joined (rows Creds t)) ∷ (acl2, joined (rows Aces t)) ∷ []) []
+-- the rows of a table, each as the longest body that stores it, without what is asserted; of roles those of the sender
+unfoldable pub rowBytes : ℕ → Tables → Sender → ℕ → List ℕ
+rowBytes clock t s n = lookup n ((cred, joined (map bodyOf (rows Creds t))) ∷ (acl2, joined (rows Aces t)) ∷ (roles, joined (rolesInForce clock (ownRow t s))) ∷ []) []
 
-unfoldable pub contents : Tables → ℕ → List ℕ
-contents t n = ownBody t n ++ rowOwner t n ++ rowBytes t n
+unfoldable pub contents : ℕ → Tables → Sender → ℕ → List ℕ
+contents clock t s n = ownBody t n ++ rowOwner t n ++ rowBytes clock t s n
 
 -- RETRIEVE of a security resource; OBSERVE gets no reply
 unfoldable pub reads : List ℕ → Bool
 reads r = eqb (verb r) 1 && isSecurity (resource r)
 
-unfoldable pub replyOf : Tables → List ℕ → List ℕ
-replyOf t r = cond (reads r) (contents t (resource r)) []
+unfoldable pub replyOf : ℕ → Tables → List ℕ → List ℕ
+replyOf clock t r = cond (reads r) (contents clock t (sender r) (resource r)) []
 
 -- the buffer is shorter than the reply
-unfoldable pub tooShort : Tables → List ℕ → ℕ → Bool
-tooShort t r room = ltb room (length (replyOf t r))
+unfoldable pub tooShort : Tables → Request → Bool
+tooShort t q = ltb (q .room) (length (replyOf (q .clock) t (q .bytes)))
 
 -- the lent buffer afterwards: the reply, and then what stood there
 unfoldable pub filled : List ℕ → List ℕ → List ℕ

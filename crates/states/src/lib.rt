@@ -1,6 +1,7 @@
 // Device states, checks 11 and 12: the writes that each state allows, and the moves between them.
 // 0 RESET, 1 RFOTM, 2 RFPRO, 3 RFNOP, 4 SRESET.
 use rules::Action;
+use rules::CRED_ROWS;
 use rules::Check;
 use rules::Head;
 ghost use mathlib.Core.Path.{_≡_};
@@ -76,11 +77,12 @@ fn check_state(state: u8, a: Action) -> Check
         Action::SetState(_) => Check::refuse_if(11, !write_allowed(state, 3)),
         Action::Store(_) => Check::refuse_if(11, !write_allowed(state, 2)),
         Action::Remove(_, _) => Check::refuse_if(11, !write_allowed(state, 2)),
+        Action::Assert(connection) => Check::refuse_if(11, !((state == 3) & (connection == 1))),
         Action::Malformed => Check::Pass,
     }
 }
 
-fn check_target<'a>(h: Head, creds: &'a [u8; 552], aces: &'a [u8; 1152], a: Action) -> Check
+fn check_target<'a>(h: Head, creds: &'a [u8; CRED_ROWS], aces: &'a [u8; 1152], a: Action) -> Check
     ensures { λ c. ⌜ c ≡ refuseIf 12 (badTarget (tablesOf h (now (creds .entry)) (now (aces .entry))) a) ⌝ }
 {
     let Action::SetState(target) = a else {
@@ -91,8 +93,13 @@ fn check_target<'a>(h: Head, creds: &'a [u8; 552], aces: &'a [u8; 1152], a: Acti
 }
 
 // The first of the checks 11 and 12 that applies to the action.
-// Rules out: a write that the state forbids; a move to the present state.
-pub fn check_states<'a>(h: Head, creds: &'a [u8; 552], aces: &'a [u8; 1152], a: Action) -> Check
+// Rules out: a write that the state forbids; a move to the present state; a role asserted over connection 0.
+pub fn check_states<'a>(
+    h: Head,
+    creds: &'a [u8; CRED_ROWS],
+    aces: &'a [u8; 1152],
+    a: Action,
+) -> Check
     ensures { λ c. ⌜ c ≡ verdict (stateChecks (tablesOf h (now (creds .entry)) (now (aces .entry))) a) ⌝ }
 {
     let c = check_state(h.state, a);

@@ -1,63 +1,115 @@
--- The bytes of a build's default rows: a good list is its rows, and the table with them is the list and then zeros.
+-- The rows of a build's default list: each is its body and what stands behind a body, and over a table of zeros they are the table.
 -- Over the table, so that both have one law.
-use Prim.Native.Nat.{ℕ, _+_, _*_, _-_, _/_, _%_, _≤_, _<_}
-use native.Mathlib.Nat.{div-add-mod', mul-div-cancel, mul-le-mul-right}
+use Prim.Native.Nat.{ℕ, suc, _+_, _*_, _-_, _/_, _%_, _≤_, _<_}
+use native.Mathlib.Nat.{div-add-mod', mul-le-mul-right}
 use native.Mathlib.Omega.{arith}
 use mathlib.Core.Path.{_≡_, refl, sym, ap, _∙_}
 use mathlib.Core.Bool.{true, _&&_}
-use mathlib.Core.List.{List, _++_}
-use lib.Dec.{eqb}
-use lib.ListN.{length, take, drop, replicate, length-replicate}
-use lib.Seq.{take-all}
-use borrow.Author.Tests.{eqb-true}
-use Rattle.text.specs.Buffer.{written, Puts}
-use Rattle.text.proofs.Buffers.{written-start}
-use Rattle.rows.specs.Rows.{Row, joined, packed}
-use Rattle.rows.proofs.Laws.{joined-rowsOf, drop-replicate}
-use Rattle.rows.proofs.Kept.{AllLong, every-long, length-joined}
+use mathlib.Core.List.{List, [], _∷_, _++_, map, append-nil}
+use lib.Dec.{leb}
+use lib.ListN.{length, take, drop, replicate, length-append, length-replicate, length-map}
+use borrow.Author.Tests.{leb-true}
+use Rattle.text.specs.Buffer.{written}
+use Rattle.text.proofs.Buffers.{written-start, written-length}
+use Rattle.rows.specs.Rows.{Row, rowsOf, joined, packed}
+use Rattle.rows.proofs.Laws.{length-rowsOf, drop-replicate, take-rest}
+use Rattle.rows.proofs.Kept.{AllLong, long-rowsOf, length-joined, rowsOf-packed}
 use Rattle.rules.specs.declared.Table.{Table}
-use Rattle.rules.specs.Tables.{stride, capacity, storable}
-use Rattle.rules.specs.Defaults.{listed, goodList, defaultRows}
-use Rattle.rules.proofs.Bools.{and-left, and-right}
-use Rattle.rules.proofs.BodyLaws.{sized, two-long}
-use Rattle.rules.proofs.SoundKept.{default-sound}
+use Rattle.rules.specs.declared.Table.the-variants.{Creds, Aces}
+use Rattle.rules.specs.Tables.{stride, longest, capacity, rowFrom}
+use Rattle.rules.specs.Defaults.{listed, goodList}
+use Rattle.rules.proofs.Bools.{and-left}
 
-pub positive : (k : Table) → 0 < stride k
-positive k = omega (arith, two-long k)
+pub positive : (k : Table) → 0 < longest k
+positive Creds = omega arith
+positive Aces = omega arith
 
 -- the whole rows of a list lie within it
-pub rows-within : (k : Table) (n : ℕ) → n / stride k * stride k ≤ n
-rows-within k n = omega (arith, div-add-mod' n (stride k))
+rows-within : (k : Table) (n : ℕ) → n / longest k * longest k ≤ n
+rows-within k n = omega (arith, div-add-mod' n (longest k))
 
-good-whole : (k : Table) (b : List ℕ) → goodList k b ≡ true → length b % stride k ≡ 0
+pub good-few : (k : Table) (b : List ℕ) → goodList k b ≡ true → length b / longest k ≤ 2
 unfolding goodList
-good-whole k b h = eqb-true (length b % stride k) 0 (search (and-left, and-right))
+good-few k b h = leb-true (length b / longest k) 2 (search and-left)
 
--- a good list is its rows
-pub whole-list : (k : Table) (b : List ℕ) → goodList k b ≡ true → joined (listed k b) ≡ b
-whole-list k b h =
-    joined-rowsOf (stride k) (length b / stride k) b
-    ∙ take-all (length b / stride k * stride k) b (omega (arith, div-add-mod' (length b) (stride k), good-whole k b h))
+-- ---- a row
 
-default-long : (k : Table) (b : List ℕ) → AllLong (stride k) (defaultRows k b)
-default-long k b = every-long (stride k) (storable k) (sized k) (defaultRows k b) (default-sound k b .stores)
+-- what stands behind the body
+pub behind : Table → List ℕ
+behind k = replicate (stride k - longest k) 0
 
-pub default-count : (k : Table) (b p : List ℕ) → p ≡ joined (defaultRows k b) → length p / stride k ≡ length (defaultRows k b)
-default-count k b p e =
-    ap (λ (n : ℕ). n / stride k) (ap length e ∙ length-joined (stride k) (defaultRows k b) (default-long k b))
-    ∙ mul-div-cancel (length (defaultRows k b)) (positive k)
+pub row-from : (k : Table) (b : List ℕ) → rowFrom k b ≡ b ++ behind k
+unfolding behind
+row-from Creds b = refl
+row-from Aces b = sym (append-nil b)
 
-pub default-packed : (k : Table) (b p x : List ℕ) (r : ℕ) → p ≡ joined (defaultRows k b) → Puts (replicate (capacity k * stride k) 0) 0 p x r
-    → x ≡ packed (capacity k * stride k) (defaultRows k b)
-unfolding packed
-default-packed k b p x r e q =
-    q .buffer
-    ∙ ap (λ (s : List ℕ). written-zeros s) e
-    ∙ written-start (replicate (capacity k * stride k) 0) (joined (defaultRows k b)) fits
-    ∙ ap (λ (z : List ℕ). joined (defaultRows k b) ++ z) (drop-replicate (length (joined (defaultRows k b))) (capacity k * stride k) 0)
-  where
-    written-zeros : List ℕ → List ℕ
-    written-zeros s = written (replicate (capacity k * stride k) 0) 0 s
+-- a part of sixteen zeros
+pub zeros-part : (k : Table) → take (stride k - longest k) (replicate 16 0) ≡ behind k
+unfolding behind
+zeros-part Creds = refl
+zeros-part Aces = refl
 
-    fits : length (joined (defaultRows k b)) ≤ length (replicate {A = ℕ} (capacity k * stride k) 0)
-    fits = rw (length-replicate, length-joined (stride k) (defaultRows k b) (default-long k b)) (mul-le-mul-right (stride k) (default-sound k b .few))
+from-long : (k : Table) (b : List ℕ) → length b ≡ longest k → length (rowFrom k b) ≡ stride k
+from-long Creds b l = rw (length-append, l)
+from-long Aces b l = l
+
+-- ---- so many rows
+
+-- each from s bytes
+abbrev pub rowsFrom : Table → ℕ → ℕ → List ℕ → List ℕ
+rowsFrom k s n b = joined (map (rowFrom k) (rowsOf s n b))
+
+one-more : (k : Table) (s n : ℕ) (b : List ℕ) → rowsFrom k s (suc n) b ≡ rowFrom k (take s b) ++ rowsFrom k s n (drop s b)
+unfolding rowsOf joined
+one-more k s n b = refl
+
+-- the first, and those behind it
+pub from-take : (k : Table) (s n : ℕ) (b : List ℕ) → 0 < n → rowsFrom k s n b ≡ rowFrom k (take s b) ++ rowsFrom k s (n - 1) (take (length b - s) (drop s b))
+from-take k s n b h =
+    let e : n ≡ suc (n - 1) = omega arith in
+    ap (λ (m : ℕ). rowsFrom k s m b) e
+    ∙ one-more k s (n - 1) b
+    ∙ ap (λ (l : List ℕ). rowFrom k (take s b) ++ rowsFrom k s (n - 1) l) (sym (take-rest s b))
+
+pub from-end : (k : Table) (s n : ℕ) (b : List ℕ) → n ≤ 0 → rowsFrom k s n b ≡ []
+unfolding rowsOf joined
+from-end k s n b h = let e : n ≡ 0 = omega arith in ap (λ (m : ℕ). rowsFrom k s m b) e
+
+-- ---- the rows of a list over a table of zeros
+
+all-long : (k : Table) (ws : List Row) → AllLong (longest k) ws → AllLong (stride k) (map (rowFrom k) ws)
+all-long k [] a = tt
+all-long k (w ∷ ws) a = (from-long k w (a .0), all-long k ws (a .1))
+
+listed-long : (k : Table) (b : List ℕ) → AllLong (stride k) (listed k b)
+listed-long k b = all-long k (rowsOf (longest k) (length b / longest k) b) (long-rowsOf (longest k) (length b / longest k) b (rows-within k (length b)))
+
+pub listed-count : (k : Table) (b : List ℕ) → length (listed k b) ≡ length b / longest k
+listed-count k b = length-map (rowsOf (longest k) (length b / longest k) b) (rowFrom k) ∙ length-rowsOf (longest k) (length b / longest k) b
+
+two-fit : (k : Table) → 2 ≤ capacity k
+two-fit Creds = omega arith
+two-fit Aces = omega arith
+
+module _ (k : Table) (b x : List ℕ) (few : length b / longest k ≤ 2) (over : x ≡ written (replicate (capacity k * stride k) 0) 0 (joined (listed k b))) where
+  pub listed-fits : length b / longest k * stride k ≤ capacity k * stride k
+  listed-fits = let h : length b / longest k ≤ capacity k = omega (arith, few, two-fit k) in mul-le-mul-right (stride k) h
+
+  short : length (joined (listed k b)) ≤ length (replicate {A = ℕ} (capacity k * stride k) 0)
+  short = rw (length-replicate, length-joined (stride k) (listed k b) (listed-long k b), listed-count k b) listed-fits
+
+  pub listed-packed : x ≡ packed (capacity k * stride k) (listed k b)
+  unfolding packed
+  listed-packed =
+      over
+      ∙ written-start (replicate (capacity k * stride k) 0) (joined (listed k b)) short
+      ∙ ap (λ (z : List ℕ). joined (listed k b) ++ z) (drop-replicate (length (joined (listed k b))) (capacity k * stride k) 0)
+
+  pub listed-rows : rowsOf (stride k) (length b / longest k) x ≡ listed k b
+  listed-rows =
+      ap (λ (l : List ℕ). rowsOf (stride k) (length b / longest k) l) listed-packed
+      ∙ ap (λ (n : ℕ). rowsOf (stride k) n (packed (capacity k * stride k) (listed k b))) (sym (listed-count k b))
+      ∙ rowsOf-packed (stride k) (capacity k * stride k) (listed k b) (listed-long k b)
+
+  pub listed-length : length x ≡ capacity k * stride k
+  listed-length = rw (over, written-length, length-replicate)

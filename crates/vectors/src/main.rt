@@ -4,6 +4,7 @@ use fields::after;
 use fields::double_word;
 use fields::word;
 use rows::part;
+use rules::CRED_ROWS;
 use rules::Judgement;
 use rules::Links;
 use rules::Places;
@@ -320,7 +321,7 @@ fn tables_of(bytes: &[u8]) -> Tables {
     let behind = after(after(bytes, 86), n);
     let mut devowner = [0u8; 16];
     let mut rowners = [0u8; 64];
-    let mut creds = [0u8; 552];
+    let mut creds = [0u8; CRED_ROWS];
     let mut aces = [0u8; 1152];
     fill(&mut devowner, after(bytes, 4));
     fill(&mut rowners, after(bytes, 20));

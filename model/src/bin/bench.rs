@@ -10,8 +10,8 @@ use std::time::Instant;
 
 use model::case::{shrink, Case as Put};
 use model::defaults::{join, Defaults};
-use model::directory::YARD;
-use model::examples::{access, credential, role, uuid, AUTH};
+use model::directory::{ROLES, YARD};
+use model::examples::{access, asserted, credential, role, uuid, AUTH};
 use model::generate::{clock, record, session, walk};
 use model::library::{self, Outcome, Tables as Given};
 use model::office::{self, LONGEST_TEXT};
@@ -102,7 +102,20 @@ impl Rows {
         tables
     }
 
-    /// The same, but the last access row lets the last credential read all that a wildcard reaches.
+    /// One in service, in which every partner has shown two roles; the last access row is for the second role of the
+    /// last credential.
+    fn shown(self) -> Tables {
+        let mut tables = self.serving();
+        for row in &mut tables.credentials {
+            row.asserted = [2, 1].map(|authority| asserted(authority, row.number, u32::MAX)).to_vec();
+        }
+        if let (Some(sender), Some(last)) = (tables.credentials.last(), tables.accesses.last_mut()) {
+            last.subject = role(1, sender.number);
+        }
+        tables
+    }
+
+    /// The same as in service, but the last access row lets the last credential read all that a wildcard reaches.
     fn polled(self) -> Tables {
         let mut tables = self.serving();
         if let (Some(sender), Some(last)) = (tables.credentials.last(), tables.accesses.last_mut()) {
@@ -207,6 +220,20 @@ fn cases(rows: Rows) -> Vec<Case> {
             0,
         ));
         cases.push(Case::new(
+            "foreman",
+            "the same by roles that are shown",
+            rows.shown().bytes(),
+            compose(Verb::Update, TARE, sender, &[0x55; 64]),
+            0,
+        ));
+        cases.push(Case::new(
+            "show",
+            "UPDATE /oic/sec/roles, an equal role, by the last row",
+            rows.shown().bytes(),
+            compose(Verb::Update, ROLES, sender, &asserted(1, sender, 0).bytes()),
+            0,
+        ));
+        cases.push(Case::new(
             "poll",
             "RETRIEVE /yard, six links, by the last rows",
             rows.polled().bytes(),
@@ -225,6 +252,15 @@ fn cases(rows: Rows) -> Vec<Case> {
     ));
     cases.push(Case::new("refuse8", "UPDATE /weight by nobody", ownerless, compose(Verb::Update, WEIGHT, 0, &[]), 8));
     cases.push(Case::new("refuse16", "UPDATE /tare by nobody", ownerless, compose(Verb::Update, TARE, 0, &[]), 16));
+    if rows.credentials > 0 {
+        cases.push(Case::new(
+            "refuse22",
+            "UPDATE /oic/sec/roles, a third role",
+            rows.shown().bytes(),
+            compose(Verb::Update, ROLES, 1, &asserted(3, 1, 0).bytes()),
+            22,
+        ));
+    }
     if full {
         cases.push(Case::new(
             "refuse14",
@@ -546,7 +582,7 @@ mod yardstick {
 
 const COMPARED: u64 = 300_000;
 /// The cases in which both are timed.
-const BY_HAND: [&str; 5] = ["serve", "poll", "refuse1", "refuse2", "refuse8"];
+const BY_HAND: [&str; 6] = ["serve", "foreman", "poll", "refuse1", "refuse2", "refuse8"];
 
 /// What the two make of a case: the library first.
 fn both(put: &Put) -> [Outcome; 2] {

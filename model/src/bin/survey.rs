@@ -3,7 +3,7 @@
 use model::generate::{walk, Part};
 use model::histogram::Histogram;
 use model::options::Program;
-use model::rules::judge;
+use model::rules::{judge, ANSWERS};
 
 const PROGRAM: Program = Program {
     name: "survey",
@@ -45,14 +45,14 @@ fn main() {
     });
 
     print!("{:<20}", "part");
-    for answer in 0..whole.answers.len() {
+    for answer in ANSWERS {
         print!(" {answer:>6}");
     }
     println!();
     for (name, histogram) in &parts {
         print!("{name:<20}");
-        for count in histogram.answers {
-            print!(" {count:>6}");
+        for answer in ANSWERS {
+            print!(" {:>6}", histogram.answers[answer as usize]);
         }
         println!();
     }

@@ -4,29 +4,26 @@ use borrow.Author.Needs.{needs}
 use borrow.Author.Tests.{ne-eqb}
 use denote.Ref.{now}
 use Rattle.rules.specs.Bodies.{aceKind}
-use Rattle.rules.specs.Permission.{subjectFits}
+use Rattle.rules.specs.Permission.{subjectIs, subjectFits}
 use Rattle.access.proofs.subject_fits.Statement.{statement}
 use Rattle.access.proofs.subject_fits.Tie as tie
 
 returns : tie.Need-returns
-unfolding subjectFits
+unfolding subjectFits subjectIs
 returns c =
     let at = c .before .before .before in
     rw (sym (at .before .kind .ensures) ∙ at .match .keys1, c .same-bytes .ensures, c .before .subject2 .ensures, c .before .before .subject .ensures)
 
 returns-2 : tie.Need-returns-2
-unfolding subjectFits
-returns-2 c =
-    let role = c .before .before in
-    let at = role .before .before in
-    rw (sym (at .before .kind .ensures) ∙ at .match .keys2, c .authority2 .ensures, c .before .authority .ensures, role .role2 .ensures, role .before .role .ensures)
+unfolding subjectFits subjectIs
+returns-2 c = rw (sym (c .before .before .kind .ensures) ∙ c .before .match .keys2, c .role-fits .ensures)
 
 returns-3 : tie.Need-returns-3
-unfolding subjectFits
+unfolding subjectFits subjectIs
 returns-3 c = rw (sym (c .before .before .kind .ensures) ∙ c .before .match .keys3, c .connection .ensures)
 
 returns-4 : tie.Need-returns-4
-unfolding subjectFits
+unfolding subjectFits subjectIs
 returns-4 c =
     let kind = aceKind (now (c .before .before .before .before .args .ace)) in
     let is = c .before .kind .ensures in
@@ -37,7 +34,7 @@ pub subject-fits-spec : {M : Type 1} → statement M
 subject-fits-spec =
     tie.close
     (tie.spec
-    (λ c κs. search needs) (λ c κs. search needs) (λ c κs. search needs) (λ c κs. search needs) (λ c κs. search needs) (λ c κs. search needs) (λ c κs. search needs) (λ c κs. search needs) (λ c κs. search needs) returns
+    (λ c κs. search needs) (λ c κs. search needs) (λ c κs. search needs) (λ c κs. search needs) (λ c κs. search needs) (λ c κs. search needs) returns
     returns-2
     returns-3
     returns-4)

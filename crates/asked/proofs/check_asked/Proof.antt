@@ -3,6 +3,7 @@ use mathlib.Core.Path.{_≡_}
 use mathlib.Core.Bool.{Bool}
 use mathlib.Core.List.{List, _++_}
 use Prim.Native.Nat.{ℕ}
+use lib.ListN.{drop}
 use denote.Ref.{now}
 use Rattle.rules.specs.declared.Check.{Check}
 use Rattle.rules.proofs.CheckLaws.{stop, skip, last, stop-all, skip-all}
@@ -25,7 +26,7 @@ module _ (s : tie.Start) where
   ofStates = stateChecks (tables s) (s .args .a)
 
   abbrev ofRows : List (ℕ × Bool)
-  ofRows = rowChecks (tables s) (now (s .args .«record»)) (s .args .a)
+  ofRows = rowChecks (s .args .clock) (tables s) (now (s .args .«record»)) (s .args .a)
 
   abbrev all : List (ℕ × Bool)
   all = requests ++ (ofStates ++ ofRows)
@@ -42,6 +43,12 @@ start2 c = start (c .before .before .before)
 past2 : (c : tie.After-enum-told3) {out : Check} → out ≡ verdict (ofRows (start2 c)) → out ≡ verdict (all (start2 c))
 past2 c h = past (c .before .before .before) (skip-all (ofStates (start2 c)) _ (c .before .before .check-states .ensures) (c .enum-told3 .given .1) h)
 
+abbrev start3 : tie.After-enum-told5 → tie.Start
+start3 c = start2 (c .before .before .before)
+
+past3 : (c : tie.After-enum-told5) {out : Check} → out ≡ verdict (drop 1 (ofRows (start3 c))) → out ≡ verdict (all (start3 c))
+past3 c h = past2 (c .before .before .before) (skip _ _ _ (c .before .before .check-missing .ensures) (c .enum-told5 .given .1) h)
+
 returns : tie.Need-returns
 returns c = stop-all (requests (c .before .before .before .before)) _ _ (c .before .before .check-request .ensures) (c .enum-told2 .given .1)
 
@@ -52,7 +59,10 @@ returns-3 : tie.Need-returns-3
 returns-3 c = past2 (c .before .before .before) (stop _ _ _ _ (c .before .before .check-missing .ensures) (c .enum-told6 .given .1))
 
 returns-4 : tie.Need-returns-4
-returns-4 c = past2 (c .before .before .before .before) (skip _ _ _ (c .before .before .before .check-missing .ensures) (c .before .enum-told5 .given .1) (last _ _ (c .check-full .ensures)))
+returns-4 c = past3 (c .before .before .before) (stop _ _ _ _ (c .before .before .check-full .ensures) (c .enum-told8 .given .1))
+
+returns-5 : tie.Need-returns-5
+returns-5 c = past3 (c .before .before .before .before) (skip _ _ _ (c .before .before .before .check-full .ensures) (c .before .enum-told7 .given .1) (last _ _ (c .check-roles .ensures)))
 
 pub check-asked-spec : {M : Type 1} → statement M
 check-asked-spec =
@@ -61,4 +71,5 @@ check-asked-spec =
     (λ c κs. search needs) (λ c. search needs) (λ c. search needs) returns
     (λ c κs. search needs) (λ c. search needs) (λ c. search needs) returns-2
     (λ c κs. search needs) (λ c. search needs) (λ c. search needs) returns-3
-    (λ c κs. search needs) returns-4)
+    (λ c κs. search needs) (λ c. search needs) (λ c. search needs) returns-4
+    (λ c κs. search needs) returns-5)

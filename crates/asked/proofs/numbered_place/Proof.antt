@@ -22,7 +22,7 @@ by-number w v ws key h e is =
 returns : tie.Need-returns
 returns c =
     let made = c .before .before .before in
-    let l : length (made .cred-row .result) ≡ 23 = search needs in
+    let l : length (made .cred-row .result) ≡ 39 = search needs in
     let told = made .before .enum-told .given .1 in
     rw told ((rw told at (c .place .ensures)) ∙ by-number _ _ _ _ (omega arith) (c .before .part .ensures) (made .cred-row .ensures))
 

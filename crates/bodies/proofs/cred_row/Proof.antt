@@ -1,7 +1,7 @@
 -- `cred_row`: each arm by the length that it was reached by.
 use Prim.Native.Nat.{ℕ, _+_, _≤_}
 use native.Mathlib.Omega.{arith}
-use mathlib.Core.Path.{_≡_, refl, sym, ap, _∙_}
+use mathlib.Core.Path.{_≡_, sym, ap, _∙_}
 use mathlib.Core.List.{List, [], _∷_, _++_, append-assoc}
 use borrow.Author.Tests.{ne-eqb}
 use denote.Ref.{now}
@@ -9,23 +9,25 @@ use lib.ListN.{length, take, drop, getD, set, replicate, length-append, drop-of-
 use lib.Seq.{length-take-le, drop-cons, set-at}
 use Rattle.rows.specs.Rows.{withRow}
 use Rattle.rules.specs.Bodies.{credRowOf}
-use Rattle.rules.proofs.TableLaws.{put-whole}
+use Rattle.rules.specs.Roles.{unasserted}
 use borrow.Author.Needs.{needs}
 use Rattle.bodies.proofs.cred_row.Statement.{statement}
 use Rattle.bodies.proofs.cred_row.Tie as tie
 
 -- twenty bytes over zeros, and the last byte two places later
-opened : (b p x : List ℕ) → length b ≡ 21 → p ≡ take 20 b → x ≡ withRow 20 0 p (replicate 23 0) → set x 22 (getD b 20 0) ≡ take 20 b ++ (0 ∷ 0 ∷ drop 20 b)
+opened : (b p x : List ℕ) → length b ≡ 21 → p ≡ take 20 b → x ≡ withRow 20 0 p (replicate 39 0) → set x 22 (getD b 20 0) ≡ unasserted (take 20 b ++ (0 ∷ 0 ∷ drop 20 b))
 unfolding withRow
 opened b p x l is e =
     let front = take 20 b ++ (0 ∷ 0 ∷ []) in
     let long : length front ≡ 22 = rw (length-append, length-take-le 20 b (omega arith)) in
     let short : length b ≤ 21 = omega arith in
     let last : drop 20 b ≡ getD b 20 0 ∷ [] = drop-cons b 20 0 (omega arith) ∙ ap (λ (r : List ℕ). getD b 20 0 ∷ r) (drop-of-length-le b short) in
-    ap (λ (r : List ℕ). set r 22 (getD b 20 0)) (e ∙ ap (λ (r : List ℕ). r ++ (0 ∷ 0 ∷ 0 ∷ [])) is ∙ sym (append-assoc (take 20 b) (0 ∷ 0 ∷ []) (0 ∷ [])))
-    ∙ set-at front 0 [] (getD b 20 0) 22 long
-    ∙ append-assoc (take 20 b) (0 ∷ 0 ∷ []) (getD b 20 0 ∷ [])
-    ∙ ap (λ (r : List ℕ). take 20 b ++ (0 ∷ 0 ∷ r)) (sym last)
+    let none : List ℕ = replicate 16 0 in
+    ap (λ (r : List ℕ). set r 22 (getD b 20 0)) (e ∙ ap (λ (r : List ℕ). r ++ (0 ∷ 0 ∷ 0 ∷ none)) is ∙ sym (append-assoc (take 20 b) (0 ∷ 0 ∷ []) (0 ∷ none)))
+    ∙ set-at front 0 none (getD b 20 0) 22 long
+    ∙ append-assoc (take 20 b) (0 ∷ 0 ∷ []) (getD b 20 0 ∷ none)
+    ∙ sym (append-assoc (take 20 b) (0 ∷ 0 ∷ getD b 20 0 ∷ []) none)
+    ∙ ap (λ (r : List ℕ). unasserted (take 20 b ++ (0 ∷ 0 ∷ r))) (sym last)
 
 put-row-requires : tie.Need-put-row-requires
 put-row-requires c κs = (c .before .match .keys1, omega arith)
@@ -37,11 +39,11 @@ put-row-requires-2 c κs =
     (ap length (c .part .ensures) ∙ length-take-le 20 b (omega (arith, at .match .keys2)), omega arith)
 
 returns : tie.Need-returns
-unfolding credRowOf
+unfolding credRowOf withRow
 returns c =
     let call = c .before in
     let at = call .before .before in
-    simp (at .match .keys1) (put-whole 23 (now (at .before .before .args .b)) (replicate 23 0) (call .put-row .last .0) refl (call .put-row .ensures))
+    simp (at .match .keys1) (call .put-row .ensures)
 
 returns-2 : tie.Need-returns-2
 unfolding credRowOf

@@ -15,7 +15,7 @@ find-requires : tie.Need-find-requires
 find-requires c κs =
     let told = c .before in
     let start = told .before .before .before .before in
-    let l : length (now (start .args .creds)) ≡ 552 = search needs in
+    let l : length (now (start .args .creds)) ≡ 936 = search needs in
     omega (arith, told .held .ensures)
 
 find-requires-2 : tie.Need-find-requires-2

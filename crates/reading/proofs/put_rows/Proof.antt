@@ -1,28 +1,56 @@
--- `put_rows`: the rows held are the first bytes of the table.
+-- `put_rows`: the bodies of credential rows, the first bytes of the access rows, or the roles in force.
+use Prim.Native.Nat.{_≤_}
+use mathlib.Core.Path.{_≡_}
+use native.Mathlib.Omega.{arith}
+use lib.ListN.{length}
 use borrow.Author.Tests.{ne-eqb}
-use Rattle.rules.specs.declared.Table.the-variants.{Creds, Aces}
-use Rattle.reading.proofs.RowBytes.{row-part}
+use Rattle.reading.proofs.RowBytes.{row-part, bodies-held}
 use Rattle.rules.specs.Reading.{rowBytes}
 use borrow.Author.Needs.{needs}
 use Rattle.reading.proofs.put_rows.Statement.{statement}
 use Rattle.reading.proofs.put_rows.Tie as tie
 
+put-bodies-requires : tie.Need-put-bodies-requires
+put-bodies-requires c κs =
+    let held = c .before .before .before .before in
+    let l : length (held .before .before .before .before .args .t4 .creds) ≡ 936 = search needs in
+    omega (arith, held .held .ensures)
+
 returns : tie.Need-returns
 unfolding rowBytes
-returns c = rw (c .before .before .before .before .before .before .before .before .before .match .keys1, ← row-part Creds _ _ _ _ (c .before .before .before .before .before .before .before .before .held .ensures) (c .before .before .before .part .ensures)) (c .before .before .put .ensures)
+returns c =
+    let bodies = c .before .before in
+    let held = bodies .before .before .before .before .before in
+    rw (held .before .match .keys1, ← bodies-held _ _ _ (held .held .ensures)) (bodies .put-bodies .ensures)
 
 returns-2 : tie.Need-returns-2
 unfolding rowBytes
-returns-2 c = rw (c .before .before .before .before .before .before .before .before .before .match .keys2, ← row-part Aces _ _ _ _ (c .before .before .before .before .before .before .before .before .held2 .ensures) (c .before .before .before .part2 .ensures)) (c .before .before .put2 .ensures)
+returns-2 c =
+    let put = c .before .before in
+    let held = put .before .before .before .before .before .before in
+    rw (held .before .match .keys2, ← row-part _ _ _ _ (held .held2 .ensures) (put .before .part .ensures)) (put .put .ensures)
 
 returns-3 : tie.Need-returns-3
 unfolding rowBytes
-returns-3 c = let none = c .before .before .before .before .before .match .rest in rw (ne-eqb _ 2 (none .0 .1), ne-eqb _ 3 (none .1)) (c .before .before .put3 .ensures)
+returns-3 c =
+    let roles = c .before .before in
+    let row = roles .before in
+    rw (row .before .before .before .before .match .keys3, ← row .own-row .ensures) (roles .put-roles .ensures)
+
+returns-4 : tie.Need-returns-4
+unfolding rowBytes
+returns-4 c =
+    let none = c .before .before .before .before .before .match .rest in
+    rw (ne-eqb _ 2 (none .0 .0 .1), ne-eqb _ 3 (none .0 .1), ne-eqb _ 4 (none .1)) (c .before .before .put2 .ensures)
 
 pub put-rows-spec : {M : Type 1} → statement M
 put-rows-spec =
     tie.close
     (tie.spec
-    (λ c κs. search needs) (λ c. search needs) (λ c κs. search needs) (λ c κs. search needs) (λ c κs. search needs) (λ c. search needs) (λ c κs. search needs) (λ c κs. search needs) (λ c. search needs) (λ c κs. search needs) (λ c. search needs) returns
+    (λ c κs. search needs) put-bodies-requires
+    (λ c κs. search needs) (λ c. search needs) (λ c κs. search needs) (λ c κs. search needs)
+    (λ c κs. search needs) (λ c κs. search needs) (λ c. search needs) (λ c κs. search needs)
+    (λ c. search needs) returns
     (λ c. search needs) returns-2
-    (λ c. search needs) returns-3)
+    (λ c. search needs) returns-3
+    (λ c. search needs) returns-4)

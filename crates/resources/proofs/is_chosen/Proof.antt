@@ -21,10 +21,10 @@ unfolding chosen
 returns-3 c = rw (c .before .match .keys2) (c .minus .ensures)
 
 -- none of the numbers before
-below : (k : ℕ) → k < 15 → 12 ≤ k → (k ≡ 12 → ⊥) → (k ≡ 13 → ⊥) → k ≡ 14
+below : (k : ℕ) → k < 16 → 13 ≤ k → (k ≡ 13 → ⊥) → (k ≡ 14 → ⊥) → k ≡ 15
 below k h l a b = omega arith
 
-last : (c : tie.After-star) → c .before .before .before .before .args .k ≡ 14
+last : (c : tie.After-star) → c .before .before .before .before .args .k ≡ 15
 last c =
     let match = c .before in
     let s = match .before .before .before in

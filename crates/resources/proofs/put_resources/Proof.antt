@@ -14,10 +14,10 @@ use Rattle.resources.proofs.put_resources.Statement.{statement}
 use Rattle.resources.proofs.put_resources.Tie as tie
 
 abbrev Inv-loop : tie.InvT-loop
-Inv-loop out₀ at row p₀ first₀ k₀ out p first k = (k ≤ 15) × Writing out₀ at (items row true 0) (items row first k) out p
+Inv-loop out₀ at row p₀ first₀ k₀ out p first k = (k ≤ 16) × Writing out₀ at (items row true 0) (items row first k) out p
 
 abbrev μ-loop : tie.MeasureT-loop
-μ-loop out₀ at row p₀ first₀ k₀ out p first k = 15 - k
+μ-loop out₀ at row p₀ first₀ k₀ out p first k = 16 - k
 
 loop-holds : tie.Need-loop-holds Inv-loop μ-loop
 loop-holds c = (omega arith, writing-start _ _ _ (omega arith) (omega arith))

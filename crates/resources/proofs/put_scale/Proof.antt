@@ -23,10 +23,10 @@ unfolding choices href braced joined ascii
 returns-3 c = let put = c .before .before in choice-puts (put .before .before .before .match .keys3) refl (put .put3 .ensures)
 
 -- none of the numbers before
-left : (k : ℕ) → 4 ≤ k → k < 8 → (k ≡ 4 → ⊥) → (k ≡ 5 → ⊥) → (k ≡ 6 → ⊥) → k ≡ 7
+left : (k : ℕ) → 5 ≤ k → k < 9 → (k ≡ 5 → ⊥) → (k ≡ 6 → ⊥) → (k ≡ 7 → ⊥) → k ≡ 8
 left k l h a b c = omega arith
 
-last : (c : tie.At-match-rest) → c .before .before .args .k ≡ 7
+last : (c : tie.At-match-rest) → c .before .before .args .k ≡ 8
 last c = let r = c .match .rest in left (c .before .before .args .k) (c .before .before .pre .0) (c .before .before .pre .1) (r .0 .0 .1) (r .0 .1) (r .1)
 
 returns-4 : tie.Need-returns-4

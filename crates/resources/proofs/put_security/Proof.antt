@@ -23,21 +23,26 @@ unfolding choices href braced joined ascii
 returns-3 c = let put = c .before .before in choice-puts (put .before .before .before .match .keys3) refl (put .put3 .ensures)
 
 -- none of the numbers before
-left : (k : ℕ) → k < 4 → (k ≡ 0 → ⊥) → (k ≡ 1 → ⊥) → (k ≡ 2 → ⊥) → k ≡ 3
-left k h a b c = omega arith
+left : (k : ℕ) → k < 5 → (k ≡ 0 → ⊥) → (k ≡ 1 → ⊥) → (k ≡ 2 → ⊥) → (k ≡ 3 → ⊥) → k ≡ 4
+left k h a b c d = omega arith
 
-last : (c : tie.At-match-rest) → c .before .before .args .k ≡ 3
-last c = let r = c .match .rest in left (c .before .before .args .k) (c .before .before .pre) (r .0 .0 .1) (r .0 .1) (r .1)
+last : (c : tie.At-match-rest) → c .before .before .args .k ≡ 4
+last c = let r = c .match .rest in left (c .before .before .args .k) (c .before .before .pre) (r .0 .0 .0 .1) (r .0 .0 .1) (r .0 .1) (r .1)
 
 returns-4 : tie.Need-returns-4
 unfolding choices href braced joined ascii
-returns-4 c = let put = c .before .before in choice-puts (last (put .before .before .before)) refl (put .put4 .ensures)
+returns-4 c = let put = c .before .before in choice-puts (put .before .before .before .match .keys4) refl (put .put4 .ensures)
+
+returns-5 : tie.Need-returns-5
+unfolding choices href braced joined ascii
+returns-5 c = let put = c .before .before in choice-puts (last (put .before .before .before)) refl (put .put5 .ensures)
 
 pub put-security-spec : {M : Type 1} → statement M
 put-security-spec =
     tie.close
     (tie.spec
-    (λ c. search needs) (λ c κs. search needs) (λ c. search needs) (λ c κs. search needs) (λ c. search needs) (λ c κs. search needs) (λ c. search needs) (λ c κs. search needs) (λ c. search needs) returns
+    (λ c. search needs) (λ c κs. search needs) (λ c. search needs) (λ c κs. search needs) (λ c. search needs) (λ c κs. search needs) (λ c. search needs) (λ c κs. search needs) (λ c. search needs) (λ c κs. search needs) (λ c. search needs) returns
     (λ c. search needs) returns-2
     (λ c. search needs) returns-3
-    (λ c. search needs) returns-4)
+    (λ c. search needs) returns-4
+    (λ c. search needs) returns-5)

@@ -19,10 +19,10 @@ unfolding choices href braced joined ascii
 returns-2 c = let put = c .before .before in choice-puts (put .before .before .before .match .keys2) refl (put .put2 .ensures)
 
 -- none of the numbers before
-left : (k : ℕ) → 12 ≤ k → k < 15 → (k ≡ 12 → ⊥) → (k ≡ 13 → ⊥) → k ≡ 14
+left : (k : ℕ) → 13 ≤ k → k < 16 → (k ≡ 13 → ⊥) → (k ≡ 14 → ⊥) → k ≡ 15
 left k l h a b = omega arith
 
-last : (c : tie.At-match-rest) → c .before .before .args .k ≡ 14
+last : (c : tie.At-match-rest) → c .before .before .args .k ≡ 15
 last c = let r = c .match .rest in left (c .before .before .args .k) (c .before .before .pre .0) (c .before .before .pre .1) (r .0 .1) (r .1)
 
 returns-3 : tie.Need-returns-3

@@ -23,10 +23,10 @@ unfolding choices href braced joined ascii
 returns-3 c = let put = c .before .before in choice-puts (put .before .before .before .match .keys3) refl (put .put3 .ensures)
 
 -- none of the numbers before
-left : (k : ℕ) → 8 ≤ k → k < 12 → (k ≡ 8 → ⊥) → (k ≡ 9 → ⊥) → (k ≡ 10 → ⊥) → k ≡ 11
+left : (k : ℕ) → 9 ≤ k → k < 13 → (k ≡ 9 → ⊥) → (k ≡ 10 → ⊥) → (k ≡ 11 → ⊥) → k ≡ 12
 left k l h a b c = omega arith
 
-last : (c : tie.At-match-rest) → c .before .before .args .k ≡ 11
+last : (c : tie.At-match-rest) → c .before .before .args .k ≡ 12
 last c = let r = c .match .rest in left (c .before .before .args .k) (c .before .before .pre .0) (c .before .before .pre .1) (r .0 .0 .1) (r .0 .1) (r .1)
 
 returns-4 : tie.Need-returns-4

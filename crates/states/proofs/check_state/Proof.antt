@@ -36,18 +36,22 @@ returns-7 : tie.Need-returns-7
 returns-7 c = rw (c .before .before .enum-told6 .given .1) (refused (c .before .write-allowed5 .ensures) (c .refuse-if6 .ensures))
 
 returns-8 : tie.Need-returns-8
+returns-8 c = rw (c .before .before .a2 .given .1) (c .refuse-if7 .ensures)
+
+returns-9 : tie.Need-returns-9
 unfolding refuseIf
-returns-8 c = rw (c .enum-told7 .given .1)
+returns-9 c = rw (c .enum-told7 .given .1)
 
 pub check-state-spec : {M : Type 1} → statement M
 check-state-spec =
     tie.close
     (tie.spec
-    (λ c. search needs) (λ c κs. search needs) (λ c. search needs) (λ c. search needs) (λ c κs. search needs) (λ c κs. search needs) (λ c. search needs) (λ c κs. search needs) (λ c κs. search needs) (λ c. search needs) (λ c κs. search needs) (λ c κs. search needs) (λ c. search needs) (λ c κs. search needs) (λ c κs. search needs) (λ c. search needs) (λ c κs. search needs) (λ c κs. search needs) (λ c. search needs) returns
+    (λ c. search needs) (λ c κs. search needs) (λ c. search needs) (λ c. search needs) (λ c κs. search needs) (λ c κs. search needs) (λ c. search needs) (λ c κs. search needs) (λ c κs. search needs) (λ c. search needs) (λ c κs. search needs) (λ c κs. search needs) (λ c. search needs) (λ c κs. search needs) (λ c κs. search needs) (λ c. search needs) (λ c κs. search needs) (λ c κs. search needs) (λ c. search needs) (λ c κs. search needs) (λ c. search needs) returns
     returns-2
     returns-3
     returns-4
     returns-5
     returns-6
     returns-7
-    returns-8)
+    returns-8
+    returns-9)

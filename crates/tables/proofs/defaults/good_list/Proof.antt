@@ -1,29 +1,45 @@
--- `defaults::good_list`: the whole rows of a list lie within it.
-use mathlib.Core.Path.{_≡_}
+-- `defaults::good_list`: the rows over the table of zeros are those of the list.
+use mathlib.Core.Path.{_≡_, sym, ap, _∙_}
+use denote.Ref.{now}
 use borrow.Author.Tests.{lt-leb, le-leb}
 use Rattle.rules.specs.Defaults.{goodList}
 use Rattle.rules.proofs.BodyLaws.{two-long}
-use Rattle.tables.proofs.DefaultLaws.{positive, rows-within}
+use Rattle.tables.proofs.DefaultLaws.{positive, listed-fits, listed-rows, listed-length}
 use borrow.Author.Needs.{needs}
 use Rattle.tables.proofs.defaults.good_list.Statement.{statement}
 use Rattle.tables.proofs.defaults.good_list.Tie as tie
 
 div-n : tie.Need-div-n
-div-n c = rw (c .stride-of .ensures) (positive (c .before .before .args .table))
+div-n c = rw (c .longest-of .ensures) (positive (c .before .before .before .args .table))
 
 returns : tie.Need-returns
 unfolding goodList
-returns c = rw (lt-leb _ 2 (rw (c .before .stride-of .ensures) at (c .if1 .taken)))
+returns c = rw (lt-leb _ 2 (rw (c .before .longest-of .ensures) at (c .if1 .taken)))
 
 rem-result : tie.Need-rem-result
-rem-result c = rw (c .before .stride-of .ensures) (positive (c .before .before .before .args .table))
+rem-result c = rw (c .before .longest-of .ensures) (positive (c .before .before .before .before .args .table))
 
 distinct-requires : tie.Need-distinct-requires
-distinct-requires c κs = let at = c .before .before in rw (at .stride-of .ensures) (two-long (at .before .before .args .table), rows-within (at .before .before .args .table) _)
+distinct-requires c κs =
+    let test = c .before .before in
+    let s = test .before .before .before .before in
+    let few = rw (test .before .longest-of .ensures) at (test .if1 .left) in
+    rw (c .stride-of .ensures, test .before .longest-of .ensures, listed-length (s .args .table) (now (s .args .list)) (now (s .args .rows)) few (s .pre)) (two-long (s .args .table), listed-fits (s .args .table) (now (s .args .list)) (now (s .args .rows)) few (s .pre))
 
 returns-2 : tie.Need-returns-2
 unfolding goodList
-returns-2 c = let test = c .before .before in rw (le-leb _ 2 (rw (test .before .stride-of .ensures) at (test .if1 .left)), c .distinct .ensures, c .before .rows-storable .ensures, test .before .stride-of .ensures)
+returns-2 c =
+    let test = c .before .before .before in
+    let s = test .before .before .before .before in
+    let few = rw (test .before .longest-of .ensures) at (test .if1 .left) in
+    rw (
+      le-leb _ 2 few,
+      c .distinct .ensures,
+      c .before .before .rows-storable .ensures,
+      c .before .stride-of .ensures,
+      test .before .longest-of .ensures,
+      listed-rows (s .args .table) (now (s .args .list)) (now (s .args .rows)) few (s .pre),
+    )
 
 pub good-list-spec : {M : Type 1} → statement M
 good-list-spec =
@@ -32,6 +48,6 @@ good-list-spec =
     (λ c κs. search needs) div-n
     returns
     rem-result
-    (λ c κs. search needs)
+    (λ c κs. search needs) (λ c κs. search needs)
     distinct-requires
     returns-2)

@@ -1,26 +1,44 @@
--- `defaults::with_aces`: the list and then zeros are the table with the rows.
-use mathlib.Core.Path.{_≡_, refl}
+-- `defaults::with_aces`: a good list over zeros is the table with its rows; of another list there are none.
+use mathlib.Core.Path.{_≡_, refl, sym, _∙_}
 use native.Mathlib.Omega.{arith}
 use denote.Ref.{now}
+use Rattle.rows.specs.Rows.{joined, packed}
 use Rattle.rules.specs.declared.Table.the-variants.{Aces}
+use Rattle.rules.specs.Defaults.{defaultRows}
 use Rattle.rules.proofs.TableLaws.{aces-are}
-use Rattle.rules.proofs.SoundKept.{default-sound}
-use Rattle.tables.proofs.DefaultLaws.{default-count, default-packed}
+use Rattle.tables.proofs.DefaultLaws.{good-few, listed-count, listed-packed}
 use borrow.Author.Needs.{needs}
 use Rattle.tables.proofs.defaults.with_aces.Statement.{statement}
 use Rattle.tables.proofs.defaults.with_aces.Tie as tie
 
+good-list-requires : tie.Need-good-list-requires
+good-list-requires c κs = c .before .before .put-listed .ensures .buffer
+
 cast-next : tie.Need-cast-next
-cast-next c = let list = c .before .before .before .default-rows .ensures in omega (arith, default-count Aces _ _ list, default-sound Aces (now (c .before .before .before .before .before .args .list)) .few)
+cast-next c = omega (arith, good-few Aces _ (sym (c .before .good-list .ensures) ∙ c .if1 .taken))
 
 returns : tie.Need-returns
+unfolding defaultRows
 returns c =
-    let list = c .before .before .before .default-rows .ensures in
-    aces-are (c .before .before .before .before .before .args .t) _ _ _ _ (default-count Aces _ _ list) (default-packed Aces _ _ _ _ list (c .before .put .ensures)) refl
+    let call = c .before in
+    let put = call .before .before .before in
+    let s = put .before .before .before in
+    let good = sym (call .good-list .ensures) ∙ c .if1 .taken in
+    rw good
+    (aces-are (s .args .t) _ _ 1152 _ (sym (listed-count Aces (now (s .args .list)))) (listed-packed Aces (now (s .args .list)) (put .put-listed .last .1 .0) (good-few Aces _ good) (put .put-listed .ensures .buffer)) refl)
+
+returns-2 : tie.Need-returns-2
+unfolding defaultRows packed joined
+returns-2 c =
+    let call = c .before .before in
+    let s = call .before .before .before .before .before .before in
+    rw (sym (call .good-list .ensures) ∙ c .before .if1 .left) refl
 
 pub with-aces-spec : {M : Type 1} → statement M
 with-aces-spec =
     tie.close
     (tie.spec
-    (λ c κs. search needs) (λ c. search needs) (λ c κs. search needs) cast-next
-    returns)
+    (λ c. search needs) (λ c κs. search needs) (λ c. search needs) good-list-requires
+    cast-next
+    returns
+    returns-2)

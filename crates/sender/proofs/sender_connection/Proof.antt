@@ -3,8 +3,8 @@ use mathlib.Core.Path.{sym, ap, _∙_}
 use borrow.Author.Needs.{needs}
 use Rattle.rules.specs.Permission.{connectionOf}
 use Rattle.rules.proofs.RecordLaws.{sender-short, connection-is}
-use Rattle.permission.proofs.sender_connection.Statement.{statement}
-use Rattle.permission.proofs.sender_connection.Tie as tie
+use Rattle.sender.proofs.sender_connection.Statement.{statement}
+use Rattle.sender.proofs.sender_connection.Tie as tie
 
 pub sender-connection-spec : {M : Type 1} → statement M
 sender-connection-spec =

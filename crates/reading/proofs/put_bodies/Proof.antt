@@ -1,0 +1,58 @@
+-- `put_bodies`: the bodies of the rows that are left are still to be put.
+use Prim.Native.Nat.{_*_, _≤_}
+use native.Mathlib.Omega.{arith}
+use lib.ListN.{length, length-drop}
+use Rattle.text.proofs.Buffers.{Writing, writing-start, writing-step, writing-end, writing-length}
+use Rattle.rows.proofs.Laws.{a-row, take-rest}
+use Rattle.reading.proofs.RowBytes.{bodies, bodies-take, bodies-end}
+use borrow.Author.Needs.{needs}
+use Rattle.reading.proofs.put_bodies.Statement.{statement}
+use Rattle.reading.proofs.put_bodies.Tie as tie
+
+abbrev Inv-loop : tie.InvT-loop
+Inv-loop out₀ at creds count p₀ rest₀ left₀ out p rest left = (left * 39 ≤ length rest) × Writing out₀ at (bodies count creds) (bodies left rest) out p
+
+abbrev μ-loop : tie.MeasureT-loop
+μ-loop out₀ at creds count p₀ rest₀ left₀ out p rest left = left
+
+loop-holds : tie.Need-loop-holds Inv-loop μ-loop
+loop-holds c = (c .before .before .pre, writing-start _ _ _ (omega arith) (omega arith))
+
+-- a turn has a row
+row-here : (c : tie.In-loop Inv-loop μ-loop) → 39 ≤ length (c .before .loop .rest .now)
+row-here c = a-row 39 _ (c .before .loop .rest .now) (c .loop-test .taken) (c .before .loop .inv .0)
+
+sub-rest : tie.Need-sub-rest Inv-loop μ-loop
+sub-rest c = row-here (c .before .before .before .before .before)
+
+part-rest-start : tie.Need-part-rest-start Inv-loop μ-loop
+part-rest-start c = row-here (c .before .before .before .before .before)
+
+loop-again : tie.Need-loop-again Inv-loop μ-loop
+loop-again c =
+    let put = c .before .before .before in
+    let row = put .before in
+    let turn = row .before .before in
+    let l = turn .before .loop in (
+      simp (take-rest, length-drop) (omega (arith, l .inv .0, turn .loop-test .taken)),
+      writing-step _ _ (l .inv .1) (bodies-take (l .left) (l .rest .now) (turn .loop-test .taken)) (rw (row .part .ensures) at (put .put .ensures)),
+    )
+
+same-length : tie.Need-same-length Inv-loop μ-loop
+same-length c = writing-length (c .before .loop .inv .1)
+
+returns : tie.Need-returns Inv-loop μ-loop
+returns c = writing-end (c .before .loop .inv .1) (bodies-end (c .before .loop .left) _ (c .loop-test .left))
+
+pub put-bodies-spec : {M : Type 1} → statement M
+put-bodies-spec =
+    tie.close
+    (tie.spec
+    Inv-loop
+    μ-loop
+    loop-holds
+    (λ c κs. search needs) (λ c κs. search needs) sub-rest
+    part-rest-start
+    (λ c. search needs) (λ c. search needs) (λ c. search needs) loop-again
+    same-length
+    returns)

@@ -1,0 +1,32 @@
+-- `roles_length`: the two places together.
+use native.Mathlib.Omega.{arith}
+use mathlib.Core.Path.{_≡_, sym, ap, _∙_}
+use Prim.Native.Nat.{_≤_}
+use denote.Ref.{now}
+use lib.ListN.{length, length-append, length-take}
+use Rattle.roles.proofs.PlaceBytes.{joined-both}
+use borrow.Author.Needs.{needs}
+use Rattle.roles.proofs.roles_length.Statement.{statement}
+use Rattle.roles.proofs.roles_length.Tie as tie
+
+-- a place has 8 bytes at most
+first-short : (c : tie.After-first-role) → length (now (c .first-role .result)) ≤ 8
+first-short c = rw (c .first-role .ensures, length-take) (omega arith)
+
+second-short : (c : tie.After-second-role) → length (now (c .second-role .result)) ≤ 8
+second-short c = rw (c .second-role .ensures, length-take) (omega arith)
+
+returns : tie.Need-returns
+returns c =
+    let second = c .before in
+    let first = second .before .before in (
+      rw (joined-both _ _ _ _ (first .first-role .ensures) (second .second-role .ensures), length-append, ← c .place-length2 .ensures .0, ← second .before .place-length .ensures .0),
+      omega (arith, first-short first, second-short second, c .place-length2 .ensures .1, second .before .place-length .ensures .1),
+    )
+
+pub roles-length-spec : {M : Type 1} → statement M
+roles-length-spec =
+    tie.close
+    (tie.spec
+    (λ c κs. search needs) (λ c κs. search needs) (λ c κs. search needs) (λ c κs. search needs)
+    (λ c. omega (arith, first-short (c .before .before .before), second-short (c .before), c .place-length2 .ensures .1, c .before .before .place-length .ensures .1)) returns)

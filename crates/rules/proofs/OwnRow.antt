@@ -1,0 +1,116 @@
+-- Laws of the sender's own credential row, the first with its number.
+-- A permitted assertion has one: it came over connection 1, and check 7 found the row.
+use Prim.Native.Nat.{ℕ, _/_, _%_, _<_}
+use native.Mathlib.Omega.{arith}
+use mathlib.Core.Path.{_≡_, refl, sym, ap, _∙_}
+use mathlib.Core.Bool.{Bool, true, false, _||_, cond}
+use mathlib.Core.List.{List, [], _∷_}
+use lib.Dec.{eqb}
+use lib.ListN.{length, take, getD}
+use lib.Seq.{getD-take, take-take}
+use borrow.Author.Tests.{eqb-true, not-false}
+use Rattle.rows.specs.Rows.{Row, same, hasKey, numberedAs, firstRow, some, every, stored}
+use Rattle.rows.proofs.Kept.{same-true, length-stored}
+use Rattle.rules.specs.declared.Tables.{Tables}
+use Rattle.rules.specs.declared.Table.the-variants.{Creds}
+use Rattle.rules.specs.declared.Action.the-variants.{Assert}
+use Rattle.rules.specs.Bits.{word}
+use Rattle.rules.specs.Record.{partner, sender, connection, credential, body}
+use Rattle.rules.specs.Bodies.{rowNumber}
+use Rattle.rules.specs.Roles.{credHeld, asserted}
+use Rattle.rules.specs.Tables.{rows, sound}
+use Rattle.rules.specs.Permission.{numbered, ownRow}
+use Rattle.rules.specs.Checks.{badLength, noRow, noCredential}
+use Rattle.rules.specs.States.{stateAllows}
+use Rattle.rules.proofs.Bools.{contradiction, and-left, and-right}
+use Rattle.rules.proofs.BitLaws.{bits-word, bits-small}
+use Rattle.rules.proofs.RecordLaws.{sender-partner}
+use Rattle.rules.proofs.Answers.{long-enough, table-parts}
+use Rattle.rules.proofs.BodyLaws.{Valid}
+use Rattle.rules.proofs.RoleLaws.{Held, held-parts, asserted-body}
+
+-- ---- the first row that passes a test
+
+module _ (p : Row → Bool) where
+  pub first-passes : (ws : List Row) → some p ws ≡ true → p (firstRow p ws) ≡ true
+  unfolding some firstRow
+  first-passes [] h = contradiction h refl
+  first-passes (w ∷ ws) h = go (p w) refl h (first-passes ws)
+    where
+      go : (b : Bool) → p w ≡ b → (b || some p ws) ≡ true → (some p ws ≡ true → p (firstRow p ws) ≡ true) → p (cond b w (firstRow p ws)) ≡ true
+      go true e h ih = e
+      go false e h ih = ih h
+
+  pub first-every : (e : Row → Bool) (ws : List Row) → some p ws ≡ true → every e ws ≡ true → e (firstRow p ws) ≡ true
+  unfolding some firstRow every
+  first-every e [] h a = contradiction h refl
+  first-every e (w ∷ ws) h a = go (p w) h (λ s. first-every e ws s (and-right (e w) _ a))
+    where
+      go : (b : Bool) → (b || some p ws) ≡ true → (some p ws ≡ true → e (firstRow p ws) ≡ true) → e (cond b w (firstRow p ws)) ≡ true
+      go true h ih = and-left (e w) _ a
+      go false h ih = ih h
+
+-- ---- a row's number
+
+pub number-is : (w : Row) (n : ℕ) → n < 65536 → take 2 w ≡ word n → rowNumber w ≡ n
+unfolding word
+number-is w n l e =
+    let a : getD w 0 0 ≡ n / 256 = sym (getD-take 2 w 0 0 (omega arith)) ∙ ap (λ (k : List ℕ). getD k 0 0) e in
+    let b : getD w 1 0 ≡ n % 256 = sym (getD-take 2 w 1 0 (omega arith)) ∙ ap (λ (k : List ℕ). getD k 1 0) e in
+    bits-word w 0 (omega arith) (omega arith) ∙ omega arith
+
+pub numbered-two : (n : ℕ) (w : Row) → numbered n w ≡ true → take 2 w ≡ word n
+unfolding hasKey word
+numbered-two n w h = same-true (take 2 w) (word n) h
+
+-- a row with the number n takes the place of the one that has it
+pub same-number : (n : ℕ) (new : Row) (ws : List Row) → take 2 new ≡ word n → some (numberedAs new) ws ≡ some (numbered n) ws
+unfolding numberedAs hasKey word
+same-number n new ws e = ap (λ (k : List ℕ). some (λ w. same (take 2 w) k) ws) e
+
+-- ---- a permitted assertion
+
+pub record Asserts (t : Tables) (r : List ℕ) : Type 0 where
+  pub number : ℕ
+  pub small : number < 65536
+  pub is : sender r ≡ partner number
+  pub held : some (numbered number) (rows Creds t) ≡ true
+
+pub asserts : (t : Tables) (r : List ℕ) (c : ℕ) → Valid (connection r) (body r) (Assert c) → stateAllows (t .state) (Assert c) ≡ true → badLength r ≡ false → noCredential t r ≡ false → Asserts t r
+unfolding noCredential
+asserts t r c v s l n =
+    let one : connection r ≡ 1 = sym (v .0) ∙ eqb-true c 1 (and-right (eqb (t .state) 3) _ s) in
+    let is = sender-partner r (long-enough r l) one in
+    record { number = credential r; small = bits-small r 16 16; is = is; held = not-false _ (sym (ap (noRow t) is) ∙ n) }
+
+module _ (t : Tables) (r : List ℕ) (h : sound t ≡ true) (a : Asserts t r) where
+  own-is : ownRow t (sender r) ≡ firstRow (numbered (a .number)) (rows Creds t)
+  own-is = ap (ownRow t) (a .is)
+
+  pub own-storable : credHeld (ownRow t (sender r)) ≡ true
+  own-storable = rw own-is (first-every (numbered (a .number)) _ (rows Creds t) (a .held) (table-parts Creds t h .stores))
+
+  pub own-held : Held (ownRow t (sender r))
+  own-held = held-parts _ own-storable
+
+  pub own-two : take 2 (ownRow t (sender r)) ≡ word (a .number)
+  own-two = rw own-is (numbered-two (a .number) _ (first-passes (numbered (a .number)) (rows Creds t) (a .held)))
+
+  -- the row that is stored has the sender's number, which is held
+  module _ (clock : ℕ) (b : List ℕ) where
+    pub asserted-two : take 2 (asserted clock b (ownRow t (sender r))) ≡ word (a .number)
+    asserted-two =
+        sym (take-take 2 23 (asserted clock b (ownRow t (sender r))) (omega arith))
+        ∙ ap (take 2) (asserted-body clock b (ownRow t (sender r)) own-held)
+        ∙ take-take 2 23 (ownRow t (sender r)) (omega arith)
+        ∙ own-two
+
+    pub asserted-number : some (numberedAs (asserted clock b (ownRow t (sender r)))) (rows Creds t) ≡ true
+    asserted-number = same-number (a .number) _ (rows Creds t) asserted-two ∙ a .held
+
+    pub asserted-count : length (stored (asserted clock b (ownRow t (sender r))) (rows Creds t)) ≡ length (rows Creds t)
+    asserted-count = length-stored (asserted clock b (ownRow t (sender r))) (rows Creds t) ∙ rw asserted-number
+
+    pub asserted-first : firstRow (numberedAs (asserted clock b (ownRow t (sender r)))) (rows Creds t) ≡ ownRow t (sender r)
+    unfolding numberedAs hasKey word
+    asserted-first = ap (λ (k : List ℕ). firstRow (λ w. same (take 2 w) k) (rows Creds t)) asserted-two ∙ sym own-is

@@ -1,0 +1,264 @@
+-- Theorems over examples of U11: roles asserted on the day, withRole, over, and dropped; who may assert, where and when; what is read, and what the links see.
+-- And a run in which a chosen partner asserts: what is compared is the same, and more is not.
+use Prim.Native.Nat.{ℕ}
+use mathlib.Core.Path.{_≡_, refl}
+use mathlib.Core.Bool.{true, false}
+use mathlib.Core.List.{List, [], _∷_, _++_, map}
+use lib.ListN.{take, replicate}
+use Rattle.rows.specs.Rows.{Row}
+use Rattle.rules.specs.declared.Tables.{Tables}
+use Rattle.rules.specs.declared.Table.the-variants.{Creds, Aces}
+use Rattle.rules.specs.Directory.{someSecurity}
+use Rattle.rules.specs.Record.{Request, asked, unauthenticated, partner}
+use Rattle.rules.specs.Bodies.{nil}
+use Rattle.rules.specs.Roles.{unasserted, rolesInForce, credHeld}
+use Rattle.rules.specs.Tables.{rows, withRows}
+use Rattle.rules.specs.Defaults.{noDefaults, fresh}
+use Rattle.rules.specs.Permission.{ownRow, effective}
+use Rattle.rules.specs.Links.{ownRecord, permits, setOf}
+use Rattle.rules.specs.Outcome.{withState, replyTo, tablesAfter}
+use Rattle.rules.specs.Run.{replies, final, Along, kept, keptOf}
+use Rattle.rules.specs.Isolation.{Premise, isOthers, namesOwner, rowAlters, mayFit, mayAlter, compared}
+use Rattle.rules.proofs.Examples.{definitions, uuid, credRow, withCreds, owned5, serving, aceBody, aceRow, weight, connected, haulierRow, foreman, haulier, yard, chosen7, calm, calm-harmless}
+use Rattle.rules.proofs.Isolated.{isolation}
+
+-- state 3, the owner in row 5, a haulier in row 7; role 7 of authority 1 may read /tare and read and update /yard
+pub today : Tables
+today = withCreds (serving (aceRow 1 1 2 0 (0 ∷ 0x40 ∷ replicate 6 0) (foreman 1) ∷ aceRow 2 1 6 0 (0 ∷ 0 ∷ 0x80 ∷ replicate 5 0) (foreman 1) ∷ [])) (credRow 5 ∷ haulierRow 7 ∷ [])
+
+-- a body of 8 bytes
+pub role : ℕ → ℕ → ℕ → List ℕ
+role authority n last = 0 ∷ authority ∷ 0 ∷ n ∷ 0 ∷ 0 ∷ 0 ∷ last ∷ []
+
+-- UPDATE of roles by the haulier, and RETRIEVE of /tare, at a clock
+pub asserts : ℕ → List ℕ → Request
+asserts clock b = asked clock (0x51 ∷ 0x00 ∷ 0x00 ∷ 0x07 ∷ b) 0
+
+pub tare : ℕ → Request
+tare clock = asked clock (0x32 ∷ 0x40 ∷ 0x00 ∷ 0x07 ∷ []) 0
+
+-- the haulier's row with these roles
+pub haulierWith : List ℕ → Row
+haulierWith roles = haulierRow 7 ++ roles
+
+pub rolesAfter : List Request → List Row
+rolesAfter qs = rows Creds (final (tablesAfter noDefaults) today qs)
+
+pub answers : List Request → List ℕ
+answers qs = replies (λ t q. replyTo noDefaults t q .answer) (tablesAfter noDefaults) today qs
+
+-- `unfolding the-day` opens all that these examples say
+the-day : Unit {0}
+unfolding definitions permits ownRecord setOf rowAlters mayFit mayAlter someSecurity today role asserts tare haulierWith rolesAfter answers haulierRow foreman owned5 serving aceBody aceRow weight connected uuid credRow withCreds haulier yard chosen7
+the-day = tt
+
+-- ---- before it is asserted, while it holds, on its last second and after
+
+pub held-today : answers (tare 40 ∷ asserts 50 (role 1 7 100) ∷ tare 50 ∷ tare 100 ∷ tare 101 ∷ tare 0 ∷ []) ≡ 8 ∷ 0 ∷ 0 ∷ 0 ∷ 8 ∷ 0 ∷ []
+unfolding the-day
+held-today = refl
+
+-- it fits with its authority alone
+pub other-authority : answers (asserts 50 (role 2 7 100) ∷ tare 50 ∷ []) ≡ 0 ∷ 8 ∷ []
+unfolding the-day
+other-authority = refl
+
+-- ---- the haulier has two roles
+
+pub two-roles : Tables
+two-roles = withRows Creds today (unasserted (credRow 5) ∷ haulierWith (role 1 7 100 ++ role 0 3 90) ∷ [])
+
+-- ---- added at the end; an equal role is withRole in its place, also with an earlier second
+
+pub added : final (tablesAfter noDefaults) today (asserts 50 (role 1 7 100) ∷ asserts 50 (role 0 3 90) ∷ []) ≡ two-roles
+unfolding the-day two-roles
+added = refl
+
+pub renewed-in-place : rows Creds (tablesAfter noDefaults two-roles (asserts 60 (role 1 7 80))) ≡ unasserted (credRow 5) ∷ haulierWith (role 1 7 80 ++ role 0 3 90) ∷ []
+unfolding the-day two-roles
+renewed-in-place = refl
+
+-- ---- a third gets 22 while both are in force, their last seconds included; then what is over goes first, and the order is that of arrival
+
+pub third : map (λ clock. replyTo noDefaults two-roles (asserts clock (role 0 4 200)) .answer) (90 ∷ 91 ∷ 101 ∷ []) ≡ 22 ∷ 0 ∷ 0 ∷ []
+unfolding the-day two-roles
+third = refl
+
+pub closed-up :
+    map (λ clock. rows Creds (tablesAfter noDefaults two-roles (asserts clock (role 0 4 200)))) (91 ∷ 101 ∷ [])
+    ≡ (unasserted (credRow 5) ∷ haulierWith (role 1 7 100 ++ role 0 4 200) ∷ []) ∷ (unasserted (credRow 5) ∷ haulierWith (role 0 4 200 ++ replicate 8 0) ∷ []) ∷ []
+unfolding the-day two-roles
+closed-up = refl
+
+-- the first is over before the second: the second comes to the first place
+pub moved-up : rolesAfter (asserts 50 (role 1 7 80) ∷ asserts 50 (role 0 3 90) ∷ asserts 81 (role 0 4 200) ∷ []) ≡ unasserted (credRow 5) ∷ haulierWith (role 0 3 90 ++ role 0 4 200) ∷ []
+unfolding the-day
+moved-up = refl
+
+-- a role that is over goes first, so that its equal arrives at the end
+pub arrives-anew : rolesAfter (asserts 50 (role 1 7 80) ∷ asserts 50 (role 0 3 90) ∷ asserts 81 (role 1 7 200) ∷ []) ≡ unasserted (credRow 5) ∷ haulierWith (role 0 3 90 ++ role 1 7 200) ∷ []
+unfolding the-day
+arrives-anew = refl
+
+-- a role whose last second is over can be asserted, and is never in force
+pub already-over : answers (asserts 50 (role 1 7 40) ∷ tare 50 ∷ []) ≡ 0 ∷ 8 ∷ []
+unfolding the-day
+already-over = refl
+
+-- ---- refusals
+
+-- outside RFNOP; over connection 0 while there is no owner, in RFOTM; role 0; 16 bytes; 7 bytes; DELETE, by a partner and by the owner; UPDATE over connection 0; a partner without a row
+pub refused-today :
+    map (λ (e : Tables × List ℕ). replyTo noDefaults (e .0) (asked 50 (e .1) 0) .answer)
+    ((withState today 2, 0x51 ∷ 0x00 ∷ 0x00 ∷ 0x07 ∷ role 1 7 100)
+    ∷ (fresh noDefaults, 0x41 ∷ 0x00 ∷ 0x00 ∷ 0x00 ∷ role 1 7 100)
+    ∷ (today, 0x51 ∷ 0x00 ∷ 0x00 ∷ 0x07 ∷ role 1 0 100)
+    ∷ (today, 0x51 ∷ 0x00 ∷ 0x00 ∷ 0x05 ∷ uuid)
+    ∷ (today, 0x51 ∷ 0x00 ∷ 0x00 ∷ 0x07 ∷ replicate 7 1)
+    ∷ (today, 0x71 ∷ 0x00 ∷ 0x00 ∷ 0x07 ∷ [])
+    ∷ (today, 0x71 ∷ 0x00 ∷ 0x00 ∷ 0x05 ∷ [])
+    ∷ (today, 0x41 ∷ 0x00 ∷ 0x00 ∷ 0x00 ∷ role 1 7 100)
+    ∷ (today, 0x51 ∷ 0x00 ∷ 0x00 ∷ 0x09 ∷ role 1 7 100)
+    ∷ [])
+    ≡ 11 ∷ 11 ∷ 10 ∷ 10 ∷ 10 ∷ 8 ∷ 9 ∷ 8 ∷ 7 ∷ []
+unfolding the-day
+refused-today = refl
+
+-- permission on roles: a partner, the device owner, nobody in particular, and anybody while there is no owner
+pub permitted-today : effective 0 today (partner 7) 4 ∷ effective 0 today (partner 5) 4 ∷ effective 0 today unauthenticated 4 ∷ effective 0 (fresh noDefaults) unauthenticated 4 ∷ [] ≡ 6 ∷ 31 ∷ 0 ∷ 31 ∷ []
+unfolding the-day
+permitted-today = refl
+
+-- ---- reading
+
+pub read-as : ℕ → ℕ → List ℕ → List ℕ
+read-as clock room r = let o = replyTo noDefaults two-roles (asked clock r room) in o .answer ∷ o .contents
+
+-- both; one; none; another partner; a buffer that is too short; OBSERVE; connection 0 while there is no owner; and the reply of cred, in which no role stands
+pub read-today :
+    read-as 90 16 (0x31 ∷ 0x00 ∷ 0x00 ∷ 0x07 ∷ [])
+    ∷ read-as 91 16 (0x31 ∷ 0x00 ∷ 0x00 ∷ 0x07 ∷ [])
+    ∷ read-as 101 16 (0x31 ∷ 0x00 ∷ 0x00 ∷ 0x07 ∷ [])
+    ∷ read-as 90 16 (0x31 ∷ 0x00 ∷ 0x00 ∷ 0x05 ∷ [])
+    ∷ read-as 90 15 (0x31 ∷ 0x00 ∷ 0x00 ∷ 0x07 ∷ [])
+    ∷ read-as 90 0 (0x91 ∷ 0x00 ∷ 0x00 ∷ 0x07 ∷ [])
+    ∷ (replyTo noDefaults (fresh noDefaults) (asked 90 (0x21 ∷ 0x00 ∷ 0x00 ∷ 0x00 ∷ []) 0) .answer ∷ replyTo noDefaults (fresh noDefaults) (asked 90 (0x21 ∷ 0x00 ∷ 0x00 ∷ 0x00 ∷ []) 0) .contents)
+    ∷ read-as 90 62 (0x30 ∷ 0x80 ∷ 0x00 ∷ 0x05 ∷ [])
+    ∷ []
+    ≡ (0 ∷ (role 1 7 100 ++ role 0 3 90)) ∷ (0 ∷ role 1 7 100) ∷ (0 ∷ []) ∷ (0 ∷ []) ∷ (15 ∷ []) ∷ (0 ∷ []) ∷ (0 ∷ []) ∷ (0 ∷ (nil ++ credRow 5 ++ haulierRow 7)) ∷ []
+unfolding the-day two-roles read-as
+read-today = refl
+
+-- ---- replacing or deleting the credential row drops them, and RESET
+
+-- records of the owner, in RFPRO
+pub owner-does : List ℕ → List ℕ → Tables
+owner-does header b = tablesAfter noDefaults (withState two-roles 2) (asked 60 (header ++ b) 0)
+
+-- the same body again; by number; by subject; all rows; a body for another row keeps them
+pub dropped :
+    rows Creds (owner-does (0x50 ∷ 0x80 ∷ 0x00 ∷ 0x05 ∷ []) (haulierRow 7))
+    ∷ rows Creds (owner-does (0x70 ∷ 0x80 ∷ 0x00 ∷ 0x05 ∷ []) (0x00 ∷ 0x07 ∷ []))
+    ∷ rows Creds (owner-does (0x70 ∷ 0x80 ∷ 0x00 ∷ 0x05 ∷ []) (replicate 16 0x22))
+    ∷ rows Creds (owner-does (0x70 ∷ 0x80 ∷ 0x00 ∷ 0x05 ∷ []) [])
+    ∷ rows Creds (owner-does (0x50 ∷ 0x80 ∷ 0x00 ∷ 0x05 ∷ []) (credRow 5))
+    ∷ []
+    ≡ (unasserted (credRow 5) ∷ unasserted (haulierRow 7) ∷ []) ∷ (unasserted (credRow 5) ∷ []) ∷ (unasserted (credRow 5) ∷ []) ∷ [] ∷ (unasserted (credRow 5) ∷ haulierWith (role 1 7 100 ++ role 0 3 90) ∷ []) ∷ []
+unfolding the-day two-roles owner-does
+dropped = refl
+
+pub dropped-by-reset : owner-does (0x50 ∷ 0x40 ∷ 0x00 ∷ 0x05 ∷ []) (0x00 ∷ []) ≡ fresh noDefaults
+unfolding the-day two-roles owner-does
+dropped-by-reset = refl
+
+-- ---- what sound tables hold: nothing; one role; two; not the second place alone; not a role twice; no role 0 with an authority; no byte in a place that is not used
+
+pub roles-held :
+    map (λ roles. credHeld (haulierWith roles))
+    (replicate 16 0
+    ∷ (role 1 7 100 ++ replicate 8 0)
+    ∷ (role 1 7 100 ++ role 0 7 100)
+    ∷ (replicate 8 0 ++ role 1 7 100)
+    ∷ (role 1 7 100 ++ role 1 7 90)
+    ∷ (role 1 0 0 ++ replicate 8 0)
+    ∷ (role 1 7 100 ++ role 0 0 9)
+    ∷ [])
+    ≡ true ∷ true ∷ true ∷ false ∷ false ∷ false ∷ false ∷ []
+unfolding the-day
+roles-held = refl
+
+-- ---- the links of /yard: /tare while the role holds; RETRIEVE of /yard itself is permitted by the same role
+
+pub yard-today :
+    map (λ clock. let o = replyTo noDefaults two-roles (asked clock (0x34 ∷ 0x00 ∷ 0x00 ∷ 0x07 ∷ []) 0) in o .answer ∷ o .links .set ∷ []) (100 ∷ 101 ∷ [])
+    ≡ (0 ∷ 0x0040000000000000 ∷ []) ∷ (8 ∷ 0 ∷ []) ∷ []
+unfolding the-day two-roles
+yard-today = refl
+
+-- ---- the premise of demand 3 counts every role as a chosen partner's: one that may update acl2 counts for partner 7, who has none, and not for the unauthenticated
+
+pub role-grant : Tables
+role-grant = withRows Aces today (aceRow 1 1 4 0 (0x10 ∷ replicate 7 0) (foreman 9) ∷ [])
+
+pub every-role : mayAlter role-grant (partner 7) ∷ mayAlter role-grant unauthenticated ∷ mayAlter today (partner 7) ∷ [] ≡ true ∷ false ∷ false ∷ []
+unfolding the-day role-grant
+every-role = refl
+
+-- without this part of the premise the claim is false: role 7 may update pstat, and partner 7 asserts it and leaves RFNOP; what the owner reads then is another state
+pub openedRun : List Request
+openedRun =
+    map (λ r. asked 50 r 17)
+    ((0x51 ∷ 0x00 ∷ 0x00 ∷ 0x07 ∷ role 1 7 100)
+    ∷ (0x50 ∷ 0x40 ∷ 0x00 ∷ 0x07 ∷ 0x40 ∷ [])
+    ∷ (0x30 ∷ 0x40 ∷ 0x00 ∷ 0x05 ∷ [])
+    ∷ [])
+
+pub opened : Tables
+opened = withRows Aces today (aceRow 1 1 4 0 (0x40 ∷ replicate 7 0) (foreman 1) ∷ [])
+
+pub role-opens :
+    replies (λ t q. let o = replyTo noDefaults t q in o .answer ∷ take 1 (o .contents)) (tablesAfter noDefaults) opened openedRun
+    ∷ replies (λ t q. let o = replyTo noDefaults t q in o .answer ∷ take 1 (o .contents)) (tablesAfter noDefaults) opened (kept (isOthers chosen7) openedRun)
+    ∷ []
+    ≡ ((0 ∷ []) ∷ (0 ∷ []) ∷ (0 ∷ 0x40 ∷ []) ∷ []) ∷ ((0 ∷ 0x60 ∷ []) ∷ []) ∷ []
+unfolding the-day openedRun opened
+role-opens = refl
+
+-- and the premise does rule these tables out
+pub opened-ruled-out : mayAlter opened (partner 7) ≡ true
+unfolding the-day opened
+opened-ruled-out = refl
+
+-- ---- demand 3: partner 7 is chosen, and asserts; the owner reads cred and its own roles, and goes to state 2
+
+pub roleRun : List Request
+roleRun =
+    map (λ r. asked 50 r 1168)
+    ((0x51 ∷ 0x00 ∷ 0x00 ∷ 0x07 ∷ role 1 7 100)
+    ∷ (0x30 ∷ 0x80 ∷ 0x00 ∷ 0x05 ∷ [])
+    ∷ (0x31 ∷ 0x00 ∷ 0x00 ∷ 0x07 ∷ [])
+    ∷ (0x31 ∷ 0x00 ∷ 0x00 ∷ 0x05 ∷ [])
+    ∷ (0x50 ∷ 0x40 ∷ 0x00 ∷ 0x05 ∷ 0x40 ∷ [])
+    ∷ [])
+
+pub role-answers : replies (λ t q. replyTo noDefaults t q .answer) (tablesAfter noDefaults) yard roleRun ≡ 0 ∷ 0 ∷ 0 ∷ 0 ∷ 0 ∷ []
+unfolding the-day roleRun
+role-answers = refl
+
+role-premise : Along (tablesAfter noDefaults) (Premise chosen7) yard (kept (isOthers chosen7) roleRun)
+unfolding the-day calm namesOwner roleRun
+role-premise = (λ _. calm-harmless _ refl, (λ _. calm-harmless _ refl, (λ _. calm-harmless _ refl, λ _. calm-harmless _ refl)))
+
+pub role-isolated :
+    (keptOf (isOthers chosen7) roleRun (replies (replyTo noDefaults) (tablesAfter noDefaults) yard roleRun) ≡ replies (replyTo noDefaults) (tablesAfter noDefaults) yard (kept (isOthers chosen7) roleRun))
+    × (compared chosen7 (final (tablesAfter noDefaults) yard roleRun) ≡ compared chosen7 (final (tablesAfter noDefaults) yard (kept (isOthers chosen7) roleRun)))
+role-isolated = isolation noDefaults chosen7 yard roleRun role-premise
+
+-- the tables themselves are not the same
+pub role-left-out :
+    rolesInForce 50 (ownRow (final (tablesAfter noDefaults) yard roleRun) (partner 7))
+    ∷ rolesInForce 50 (ownRow (final (tablesAfter noDefaults) yard (kept (isOthers chosen7) roleRun)) (partner 7))
+    ∷ []
+    ≡ (role 1 7 100 ∷ []) ∷ [] ∷ []
+unfolding the-day roleRun
+role-left-out = refl
