@@ -1,7 +1,8 @@
 /* A weighbridge yard: the owner sets a terminal up and reads it back, the office gets the access list as text and polls
  * the whole yard; a haulier, two foremen, a harvest contractor, a stranger and a broken sender call, and a foreman stands
- * in for another on one day. Then the owner tests a list that another firm's program wrote, and loads it. Before all that the program sees that its structs are laid out
- * as the library's.
+ * in for another on one day. Then the owner tests a list that another firm's program wrote, and loads it, and a second
+ * terminal takes over the list of an older one. Before all that the program sees that its structs are laid out as the
+ * library's.
  *
  *     rt staticlib terminal
  *     cc -std=c11 -Wall -Wextra -Werror -Iinclude examples/yard.c target/staticlib/libterminal.a -o target/yard
@@ -70,6 +71,9 @@ static const char *const ANSWERS[] = {
     "row not storable, or its number again",
     "row gives a role or a connection too much",
     "no place for another role",
+    [TILLERCLOVER_CONVERT_BAD_FILE] = "no file of old rows",
+    [TILLERCLOVER_CONVERT_TOO_MANY] = "too many rows",
+    [TILLERCLOVER_CONVERT_NO_ROOM] = "buffer too short for the rows",
 };
 
 static const char *const STATES[] = {"RESET", "RFOTM", "RFPRO", "RFNOP", "SRESET"};
@@ -283,6 +287,28 @@ static struct record store_row(unsigned sender, const struct list *l, size_t pla
     struct record r = header(TILLERCLOVER_UPDATE, TILLERCLOVER_ACL2, sender);
     add(&r, l->rows + place * TILLERCLOVER_ACE_LENGTH, TILLERCLOVER_ACE_LENGTH);
     return r;
+}
+
+/* ---- Lists of the older terminals */
+
+/* In an old row the nil UUID stands for anybody. */
+static const uint8_t ANYBODY[TILLERCLOVER_UUID_LENGTH] = {0};
+
+struct old_list {
+    uint8_t bytes[TILLERCLOVER_ACE_CAPACITY * TILLERCLOVER_OLD_ROW_LENGTH];
+    size_t length;
+};
+
+static void add_old_row(struct old_list *list, const uint8_t uuid[TILLERCLOVER_UUID_LENGTH], unsigned permission, uint64_t set)
+{
+    uint8_t *row = list->bytes + list->length;
+    memcpy(row, uuid, TILLERCLOVER_UUID_LENGTH);
+    /* five bits of permission, three zero bits */
+    row[16] = (uint8_t)(permission << 3);
+    for (unsigned i = 0; i < 8; i++) {
+        row[17 + i] = (uint8_t)(set >> (56 - 8 * i));
+    }
+    list->length += TILLERCLOVER_OLD_ROW_LENGTH;
 }
 
 /* ---- What is asked of the library */
@@ -525,6 +551,48 @@ static void tested_lists(void)
     expect_tested(&l, TILLERCLOVER_TEST_NOT_STORABLE, 1);
 }
 
+/* Sixteen rows for anybody in a buffer that just fits, in one that just does not and in none; one row more, and a bad one. */
+static void conversions(void)
+{
+    struct old_list list = {.length = 0};
+    uint8_t buffer[TILLERCLOVER_CONVERTED_MAX + 1], before[sizeof buffer];
+    memset(buffer, 0xA5, sizeof buffer);
+    memset(before, 0xA5, sizeof before);
+    tillerclover_converted c = tillerclover_convert_list(NULL, 0, NULL, 0);
+    expect(c.answer == TILLERCLOVER_PERMITTED && c.length == 0, "no file gave rows");
+    for (unsigned i = 0; i < TILLERCLOVER_ACE_CAPACITY / 2; i++) {
+        add_old_row(&list, ANYBODY, TILLERCLOVER_MAY_RETRIEVE, TILLERCLOVER_SET_BIT(TILLERCLOVER_WEIGHT));
+    }
+    c = tillerclover_convert_list(list.bytes, list.length, buffer, TILLERCLOVER_CONVERTED_MAX - 1);
+    expect(c.answer == TILLERCLOVER_CONVERT_NO_ROOM && c.length == 0, "rows were put into a buffer that is too short");
+    c = tillerclover_convert_list(list.bytes, list.length, NULL, 0);
+    expect(c.answer == TILLERCLOVER_CONVERT_NO_ROOM && c.length == 0, "rows were put into no buffer");
+    c = tillerclover_convert_list(list.bytes, list.length - 1, buffer, sizeof buffer);
+    expect(c.answer == TILLERCLOVER_CONVERT_BAD_FILE && c.length == 0, "half a row was converted");
+    add_old_row(&list, ANYBODY, TILLERCLOVER_MAY_RETRIEVE, TILLERCLOVER_SET_BIT(TILLERCLOVER_WEIGHT));
+    c = tillerclover_convert_list(list.bytes, list.length, buffer, sizeof buffer);
+    expect(c.answer == TILLERCLOVER_CONVERT_TOO_MANY && c.length == 0, "more rows were made than the tables hold");
+    list.bytes[list.length - 1] = 1;
+    c = tillerclover_convert_list(list.bytes, list.length, buffer, sizeof buffer);
+    expect(c.answer == TILLERCLOVER_CONVERT_BAD_FILE && c.length == 0, "an unknown resource was converted");
+    expect(memcmp(buffer, before, sizeof buffer) == 0, "a refusal wrote into the buffer");
+
+    list.length -= TILLERCLOVER_OLD_ROW_LENGTH;
+    c = tillerclover_convert_list(list.bytes, list.length, buffer, TILLERCLOVER_CONVERTED_MAX);
+    expect(c.answer == TILLERCLOVER_PERMITTED && c.length == TILLERCLOVER_CONVERTED_MAX, "answer or length stands elsewhere in what is converted");
+    for (unsigned i = 0; i < TILLERCLOVER_ACE_CAPACITY; i++) {
+        uint8_t *row = before + i * TILLERCLOVER_ACE_LENGTH;
+        memset(row, 0, TILLERCLOVER_ACE_LENGTH);
+        row[1] = (uint8_t)(i + 1);
+        /* a connection, with permission to RETRIEVE, on WEIGHT */
+        row[2] = 2 << 6 | TILLERCLOVER_MAY_RETRIEVE << 1;
+        row[5] = 0x80;
+        row[27] = i % 2 ? TILLERCLOVER_ANON_CLEAR : TILLERCLOVER_AUTH_CRYPT;
+        memset(row + 32, 0xFF, 4);
+    }
+    expect(memcmp(buffer, before, sizeof buffer) == 0, "the rows have other bytes");
+}
+
 /* The clock is read as it is handed in: a row fits from its first second to its last. */
 static void clocks(void)
 {
@@ -764,6 +832,35 @@ static void maker(tillerclover_tables t)
     printf("with half a row in the first list: %u and %u\n", t.ncreds, t.naces);
 }
 
+/* A terminal that takes the place of an older one gets its list: converted, tested, and loaded by its owner. */
+static void older(void)
+{
+    struct old_list old = {.length = 0};
+    struct list l;
+    add_old_row(&old, ANYBODY, TILLERCLOVER_MAY_RETRIEVE, TILLERCLOVER_SET_BIT(TILLERCLOVER_WEIGHT));
+    add_old_row(&old, HAULIER_UUID, TILLERCLOVER_MAY_UPDATE,
+                TILLERCLOVER_SET_BIT(TILLERCLOVER_WEIGHT) | TILLERCLOVER_SET_BIT(TILLERCLOVER_TARE));
+    tillerclover_converted c = tillerclover_convert_list(old.bytes, old.length, l.rows, sizeof l.rows);
+    l.length = c.length;
+    printf("%-44s %2u %s, %zu rows\n", "an older terminal's list of two rows", c.answer,
+           c.answer == TILLERCLOVER_PERMITTED ? "converted" : ANSWERS[c.answer], l.length / TILLERCLOVER_ACE_LENGTH);
+    print_tested("is tested", &l);
+
+    tillerclover_tables t = tillerclover_fresh(NONE, 0, NONE, 0);
+    t = after(t, store_cred(0, OWNER, OWNER_UUID));
+    t = after(t, store_cred(0, HAULIER, HAULIER_UUID));
+    t = after(t, set_owner(0, OWNER_UUID));
+    t = after(t, set_state(OWNER, TILLERCLOVER_RFPRO));
+    for (size_t i = 0; i < l.length / TILLERCLOVER_ACE_LENGTH; i++) {
+        t = after(t, store_row(OWNER, &l, i));
+    }
+    t = after(t, set_state(OWNER, TILLERCLOVER_RFNOP));
+    call(&t, "and loaded; a stranger reads the weight", header(TILLERCLOVER_RETRIEVE, TILLERCLOVER_WEIGHT, 0));
+    call(&t, "the haulier reads it", header(TILLERCLOVER_RETRIEVE, TILLERCLOVER_WEIGHT, HAULIER));
+    call(&t, "and writes the tare", header(TILLERCLOVER_UPDATE, TILLERCLOVER_TARE, HAULIER));
+    call(&t, "but does not read it", header(TILLERCLOVER_RETRIEVE, TILLERCLOVER_TARE, HAULIER));
+}
+
 int main(void)
 {
     whole_tables();
@@ -773,6 +870,7 @@ int main(void)
     buffers();
     lists();
     tested_lists();
+    conversions();
     clocks();
     roles();
     no_bytes();
@@ -867,5 +965,6 @@ int main(void)
     call(&t, "also with the spare credential", tare);
     provision(&t);
     maker(t);
+    older();
     return 0;
 }

@@ -3,7 +3,7 @@
  * Link libterminal.a, which `rt staticlib terminal` writes to target/staticlib/. It is code for
  * x86-64 with the System V calling convention and needs nothing but memcpy, memmove and memset.
  *
- * What the five functions return, and what a reply or a text holds, depends on their arguments alone. They
+ * What the functions return and write into a lent buffer depends on their arguments alone. They
  * keep no state between calls, allocate nothing, do no input or output, never fail and always
  * return. So any number of threads may call them at once, each with a buffer of its own. A thread
  * needs 24 KiB of free stack for a call; docs/BENCHMARKS.md has the measured depth.
@@ -52,7 +52,11 @@ enum {
     /* the longest reply: a row owner and all access rows */
     TILLERCLOVER_REPLY_MAX = 1168,
     /* the longest text of tillerclover_access_list */
-    TILLERCLOVER_TEXT_MAX = 13069
+    TILLERCLOVER_TEXT_MAX = 13069,
+    /* a row of an older terminal's list */
+    TILLERCLOVER_OLD_ROW_LENGTH = 25,
+    /* the longest result of tillerclover_convert_list: as many access rows as the tables hold */
+    TILLERCLOVER_CONVERTED_MAX = 1152
 };
 
 /* ---- Numbers in tables and records */
@@ -115,7 +119,8 @@ enum tillerclover_permission {
 
 /* Answers. 1 to 16 and 22 are refusals of a record. The checks are made in this order, and the first
  * that applies is given: 1 to 7, then 16, then 8 to 14, then 22, then 15. 17 and 18 are
- * tillerclover_access_list's, 19 to 21 tillerclover_test_list's. */
+ * tillerclover_access_list's, 19 to 21 tillerclover_test_list's, 23 to 25
+ * tillerclover_convert_list's. */
 enum tillerclover_answer {
     TILLERCLOVER_PERMITTED = 0,
     /* the tables are not sound */
@@ -161,7 +166,14 @@ enum tillerclover_answer {
     /* a row that gives a role or a connection create, update or delete on a security resource */
     TILLERCLOVER_TEST_EXCESSIVE = 21,
     /* a role is asserted, and the sender's row holds two others in force */
-    TILLERCLOVER_ROLES_FULL = 22
+    TILLERCLOVER_ROLES_FULL = 22,
+    /* no rows: the file's length is no multiple of TILLERCLOVER_OLD_ROW_LENGTH, or a row of it has a zero
+     * bit set or an unknown resource in its set */
+    TILLERCLOVER_CONVERT_BAD_FILE = 23,
+    /* no rows: there would be more than TILLERCLOVER_ACE_CAPACITY */
+    TILLERCLOVER_CONVERT_TOO_MANY = 24,
+    /* no rows: they are longer than the buffer lent for them */
+    TILLERCLOVER_CONVERT_NO_ROOM = 25
 };
 
 /* ---- Structs */
@@ -254,6 +266,15 @@ typedef struct tillerclover_tested {
     size_t row;
 } tillerclover_tested;
 
+/* What becomes of a call for the conversion of a list. */
+typedef struct tillerclover_converted {
+    /* TILLERCLOVER_PERMITTED, TILLERCLOVER_CONVERT_BAD_FILE, TILLERCLOVER_CONVERT_TOO_MANY or
+     * TILLERCLOVER_CONVERT_NO_ROOM */
+    uint8_t answer;
+    /* the rows are the first `length` bytes of the caller's own buffer; 0 without rows */
+    size_t length;
+} tillerclover_converted;
+
 /* ---- Functions */
 
 /* The build's default rows.
@@ -332,6 +353,25 @@ tillerclover_listed tillerclover_access_list(tillerclover_tables tables, uint8_t
  */
 tillerclover_tested tillerclover_test_list(const uint8_t *rows, size_t length);
 
+/* A list of an older terminal, `length` bytes in the earlier /oic/sec/acl form, as access rows.
+ *
+ * An old row has TILLERCLOVER_OLD_ROW_LENGTH bytes: subject UUID (128 bits), permission (5), three zero
+ * bits, set of resources (64). The nil UUID stands for anybody, over either connection; that row becomes
+ * two, for AUTH_CRYPT and then for ANON_CLEAR, and any other becomes one. The access rows have
+ * TILLERCLOVER_ACE_LENGTH bytes each, are numbered 1, 2, .. and hold for every second; each is one that an
+ * UPDATE of ACL2 could store. Every sender has the same from them as from the old ones, on every resource.
+ * A file that is bad in any row is answered before rows that are too many, and those before a buffer that
+ * is too short. An empty file gives no rows.
+ *
+ * file    points to at least `length` bytes that nothing changes during the call, of any content. With
+ *         length 0 the pointer is treated as that of a record of length 0.
+ * rows    points to at least `room` bytes that nothing else reads or writes during the call, none of them
+ *         a byte of the file. TILLERCLOVER_CONVERTED_MAX fits every result. The bytes behind the rows keep
+ *         their contents, and so do all of them where there are none. With room 0 the pointer is treated
+ *         as that of a record of length 0.
+ */
+tillerclover_converted tillerclover_convert_list(const uint8_t *file, size_t length, uint8_t *rows, size_t room);
+
 /* ---- The layout that the library has */
 
 TILLERCLOVER_ASSERT(sizeof(tillerclover_tables) == 2172, "tables have 2,172 bytes");
@@ -364,6 +404,10 @@ TILLERCLOVER_ASSERT(offsetof(tillerclover_listed, length) == 8, "length");
 TILLERCLOVER_ASSERT(sizeof(tillerclover_tested) == 16, "what is said of a tested list has 16 bytes");
 TILLERCLOVER_ASSERT(offsetof(tillerclover_tested, answer) == 0, "answer");
 TILLERCLOVER_ASSERT(offsetof(tillerclover_tested, row) == 8, "row");
+
+TILLERCLOVER_ASSERT(sizeof(tillerclover_converted) == 16, "what is said of a conversion has 16 bytes");
+TILLERCLOVER_ASSERT(offsetof(tillerclover_converted, answer) == 0, "answer");
+TILLERCLOVER_ASSERT(offsetof(tillerclover_converted, length) == 8, "length");
 
 #ifdef __cplusplus
 }

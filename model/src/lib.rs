@@ -10,6 +10,7 @@ pub mod bits;
 pub mod defaults;
 pub mod directory;
 pub mod office;
+pub mod older;
 pub mod provisioning;
 pub mod record;
 pub mod rules;
@@ -18,6 +19,7 @@ pub mod tables;
 
 // What is put to them.
 pub mod examples;
+pub mod files;
 pub mod generate;
 pub mod lists;
 pub mod random;

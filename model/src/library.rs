@@ -6,6 +6,7 @@ use std::ops::Range;
 use crate::case::{Case, Seen, BEHIND};
 use crate::defaults::Defaults;
 use crate::office::Listed;
+use crate::older::{Converted, File};
 use crate::provisioning::Tested;
 use crate::tables::{self, Stored};
 
@@ -36,6 +37,7 @@ pub struct Outcome {
     pub tables: Tables,
 }
 
+/// What is said of a text, and of a conversion.
 #[repr(C)]
 pub struct Listing {
     pub answer: u8,
@@ -76,6 +78,7 @@ extern "C" {
     ) -> Outcome;
     fn tillerclover_access_list(t: Tables, text: *mut u8, room: usize) -> Listing;
     fn tillerclover_test_list(rows: *const u8, length: usize) -> Verdict;
+    fn tillerclover_convert_list(file: *const u8, length: usize, rows: *mut u8, room: usize) -> Listing;
 }
 
 impl Tables {
@@ -194,4 +197,18 @@ pub fn test(list: &[u8]) -> Verdict {
 pub fn tested(list: &[u8]) -> Tested {
     let Verdict { answer, row } = test(list);
     Tested { answer, row }
+}
+
+/// One call for the conversion of a file, as a C program makes it.
+#[inline]
+pub fn convert(file: &[u8], rows: &mut [u8]) -> Listing {
+    unsafe { tillerclover_convert_list(file.as_ptr(), file.len(), rows.as_mut_ptr(), rows.len()) }
+}
+
+/// The same in the model's terms.
+pub fn converted(file: &File) -> Converted {
+    // The buffer is longer than what is lent of it.
+    let mut buffer = Case::pattern(file.room + BEHIND);
+    let Listing { answer, length } = convert(&file.bytes, &mut buffer[..file.room]);
+    Converted { answer, length, buffer }
 }

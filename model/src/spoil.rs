@@ -1,7 +1,8 @@
-//! Ways to break things: forbidden rows and bodies, lists that are not accepted,
-//! tables that are not sound, damaged records.
+//! Ways to break things: forbidden rows and bodies, lists that are not accepted or
+//! not converted, tables that are not sound, damaged records.
 
 use crate::directory;
+use crate::older::OldRow;
 use crate::random::Random;
 use crate::record::{CREATE_BIT, DELETE_BIT, UPDATE_BIT};
 use crate::tables::{
@@ -171,6 +172,35 @@ pub const LOAD_FAULTS: [LoadFault; 6] = [
     }),
     ("opened security resource", 21, |list, random| any_row(list, random).map(|row| open(row, random)).is_some()),
 ];
+
+/// A fault of a file to convert. It says whether it could be made; a good file is
+/// then bad.
+pub type FileFault = (&'static str, fn(&mut Vec<u8>, &mut Random) -> bool);
+
+pub const FILE_FAULTS: [FileFault; 3] = [
+    ("bytes that make no row", |file, random| {
+        let bytes = random.between(1, OldRow::LENGTH - 1);
+        if random.chance(50) && !file.is_empty() {
+            file.truncate(file.len() - bytes);
+        } else {
+            file.extend(random.bytes(bytes));
+        }
+        true
+    }),
+    ("zero bit", |file, random| {
+        let zeros = 1 << random.below(3);
+        any_old_row(file, random).map(|row| row[16] |= zeros).is_some()
+    }),
+    ("unknown resource", |file, random| {
+        let number = unknown_resource(random);
+        any_old_row(file, random).map(|row| set_bit(&mut row[17..], number)).is_some()
+    }),
+];
+
+fn any_old_row<'a>(file: &'a mut [u8], random: &mut Random) -> Option<&'a mut [u8]> {
+    let rows = file.len() / OldRow::LENGTH;
+    (rows > 0).then(|| &mut file[random.below(rows) * OldRow::LENGTH..][..OldRow::LENGTH])
+}
 
 fn any_row<'a>(list: &'a mut [u8], random: &mut Random) -> Option<&'a mut [u8]> {
     let rows = list.len() / Access::LENGTH;
@@ -419,7 +449,9 @@ pub fn damage(record: &mut Vec<u8>, random: &mut Random) {
 #[cfg(test)]
 mod tests {
     use super::*;
+    use crate::files;
     use crate::generate;
+    use crate::older::{self, NotConverted};
     use crate::tables::{Fault, Tables};
     use std::collections::BTreeSet;
 
@@ -451,6 +483,21 @@ mod tests {
                 let mut body = generate::access(&mut random, &[]).short_body();
                 fault(&mut body, &mut random);
                 assert_eq!(Access::from_body(&body), None, "{name}, no period");
+            }
+        }
+    }
+
+    #[test]
+    fn every_file_fault_is_seen() {
+        let mut random = Random::new(3);
+        for rows in (0..=16).cycle().take(500) {
+            let good = files::good_file(&mut random, rows);
+            assert!(older::convert(&good).is_ok());
+            for (name, fault) in FILE_FAULTS {
+                let mut file = good.clone();
+                if fault(&mut file, &mut random) {
+                    assert_eq!(older::convert(&file), Err(NotConverted::BadFile), "{name}");
+                }
             }
         }
     }

@@ -15,21 +15,26 @@
 //! 3: default lists, of credentials and of accesses, each behind its length (a
 //!    byte), from now on the current ones. Both are empty at first;
 //! 4: a list to load behind its length (16 bits), then what is said of it: answer
-//!    and row (a byte each).
+//!    and row (a byte each);
+//! 5: a list of an older terminal behind its length (16 bits), the length of the
+//!    lent buffer (16 bits), then the answer (a byte), the length of the result (16
+//!    bits) and the result.
 //! Numbers of 16, 32 and 64 bits have their high byte first.
 
 use crate::case::Case;
 use crate::defaults::Defaults;
 use crate::directory::{DIRECTORY, LINKS, ROLES, YARD};
 use crate::examples;
+use crate::files;
 use crate::generate::{self, Style};
 use crate::histogram::Histogram;
 use crate::lists;
+use crate::older::{self, OldRow};
 use crate::provisioning::{test, Tested};
 use crate::random::Random;
 use crate::record::{compose, target_body, Verb};
 use crate::rules::{judge, Refusal, LONGEST_REPLY};
-use crate::spoil::{ACCESS_FAULTS, CREDENTIAL_FAULTS, LOAD_FAULTS, PLACE_FAULTS, TABLE_FAULTS};
+use crate::spoil::{ACCESS_FAULTS, CREDENTIAL_FAULTS, FILE_FAULTS, LOAD_FAULTS, PLACE_FAULTS, TABLE_FAULTS};
 use crate::tables::{Access, Credential, Period, Row, State, Stored, Subject, Tables, ACCESSES, CREDENTIALS, SIZE};
 
 pub const TABLES: u8 = 0;
@@ -37,6 +42,7 @@ pub const RECORD: u8 = 1;
 pub const CHECK: u8 = 2;
 pub const DEFAULTS: u8 = 3;
 pub const LIST: u8 = 4;
+pub const OLDER: u8 = 5;
 
 /// Fewest bytes that leave room for random sessions.
 pub const LEAST: usize = 200_000;
@@ -49,6 +55,7 @@ pub struct Vectors {
     pub checks: usize,
     pub lists: usize,
     pub tested: usize,
+    pub converted: usize,
     pub histogram: Histogram,
     current: Option<Stored>,
     defaults: Defaults,
@@ -66,6 +73,7 @@ impl Vectors {
             checks: 0,
             lists: 0,
             tested: 0,
+            converted: 0,
             histogram: Histogram::new(),
             current: None,
             defaults: Defaults::none(),
@@ -86,6 +94,7 @@ impl Vectors {
         vectors.default_lists(&mut random);
         vectors.faults(&mut random);
         vectors.lists_to_load(&mut Random::part(seed, 7));
+        vectors.older_lists(&mut Random::part(seed, 9));
         vectors.sessions(&mut random, limit);
         vectors
     }
@@ -404,6 +413,55 @@ impl Vectors {
         }
     }
 
+    fn older_list(&mut self, bytes: &[u8], room: usize) {
+        let mut rows = vec![0; room];
+        let (answer, length) = match older::write(bytes, &mut rows) {
+            Ok(length) => (0, length),
+            Err(reason) => (reason as u8, 0),
+        };
+        self.bytes.push(OLDER);
+        self.bytes.extend((bytes.len() as u16).to_be_bytes());
+        self.bytes.extend(bytes);
+        self.bytes.extend((room as u16).to_be_bytes());
+        self.bytes.push(answer);
+        self.bytes.extend((length as u16).to_be_bytes());
+        self.bytes.extend(&rows[..length]);
+        self.converted += 1;
+    }
+
+    /// Lists of older terminals: rows of either kind, the borders of each check,
+    /// and every fault.
+    fn older_lists(&mut self, random: &mut Random) {
+        for rows in [0, 1, 2, 3, 5] {
+            for _ in 0..3 {
+                let file = files::good_file(random, rows);
+                let fits = older::convert(&file).expect("few rows").len() * Access::LENGTH;
+                for room in [fits, fits.saturating_sub(1), fits + 9] {
+                    self.older_list(&file, room);
+                }
+            }
+        }
+        let row = |subject| OldRow { subject, permission: 21, set: DIRECTORY[5].bit() }.bytes();
+        let (theirs, anybodys) = (row(Some(examples::uuid(0x22))), row(None));
+        for (uuids, stars) in [(32, 0), (33, 0), (0, 16), (0, 17), (31, 1), (30, 1)] {
+            let file = [theirs.repeat(uuids), anybodys.repeat(stars)].concat();
+            self.older_list(&file, older::LONGEST_RESULT);
+        }
+        self.older_list(&theirs.repeat(32), older::LONGEST_RESULT - 1);
+        self.older_list(&theirs.repeat(33), 0);
+        for rows in [3, 33] {
+            for (_, fault) in FILE_FAULTS {
+                let mut file = files::good_file(random, rows);
+                fault(&mut file, random);
+                self.older_list(&file, if rows == 3 { 300 } else { 0 });
+            }
+        }
+        for resource in 0..64 {
+            let old = OldRow { subject: None, permission: resource % 32, set: 1 << (63 - resource) };
+            self.older_list(&old.bytes(), 2 * Access::LENGTH);
+        }
+    }
+
     /// Random sessions from fresh, sound and full tables in turn.
     fn sessions(&mut self, random: &mut Random, limit: usize) {
         // For new tables, a longest record and reply, and a last check.
@@ -472,13 +530,14 @@ fn rows(random: &mut Random) -> (Vec<Credential>, Vec<Access>) {
 #[cfg(test)]
 mod tests {
     use super::*;
+    use crate::older::{Converted, File};
     use crate::rules::ANSWERS;
 
     /// Reads the file as another program would.
-    fn replay(mut bytes: &[u8]) -> (usize, usize, usize) {
+    fn replay(mut bytes: &[u8]) -> [usize; 4] {
         let mut current: Option<Stored> = None;
         let mut defaults = Defaults::none();
-        let (mut records, mut checks, mut tested) = (0, 0, 0);
+        let (mut records, mut checks, mut tested, mut converted) = (0, 0, 0, 0);
         let mut take = |count: usize| {
             let (taken, rest) = bytes.split_at_checked(count)?;
             bytes = rest;
@@ -535,10 +594,20 @@ mod tests {
                     assert_eq!(take(2).unwrap(), [answer, row as u8]);
                     tested += 1;
                 }
+                OLDER => {
+                    let length = number(take(2).unwrap());
+                    let bytes = take(length).unwrap().to_vec();
+                    let room = number(take(2).unwrap());
+                    let made = Converted::expected(&File { bytes, room });
+                    assert_eq!(take(1).unwrap(), [made.answer]);
+                    assert_eq!(number(take(2).unwrap()), made.length);
+                    assert_eq!(take(made.length).unwrap(), &made.buffer[..made.length]);
+                    converted += 1;
+                }
                 tag => panic!("tag {tag}"),
             }
         }
-        (records, checks, tested)
+        [records, checks, tested, converted]
     }
 
     #[test]
@@ -546,7 +615,8 @@ mod tests {
         for (seed, limit, often) in [(1, 399_999, 15), (2, LEAST, 1), (3, LEAST, 1)] {
             let vectors = Vectors::build(seed, limit);
             assert!(vectors.bytes.len() <= limit, "{}", vectors.bytes.len());
-            assert_eq!(replay(&vectors.bytes), (vectors.records, vectors.checks, vectors.tested));
+            let Vectors { records, checks, tested, converted, .. } = vectors;
+            assert_eq!(replay(&vectors.bytes), [records, checks, tested, converted]);
             assert_eq!(Vectors::build(seed, limit).bytes, vectors.bytes);
             for answer in ANSWERS {
                 let count = vectors.histogram.answers[answer as usize];

@@ -4,9 +4,11 @@ use model::case::{Case, Seen};
 use model::defaults::{Defaults, ListFault};
 use model::directory::{find, set_bit, LINKS, ROLES, YARD};
 use model::examples::{access, ANON, AUTH};
+use model::files;
 use model::generate::{walk_groups, walk_sessions};
 use model::lists;
 use model::office::{text, Listed};
+use model::older::{convert, Converted, File, OldRow, LONGEST_RESULT};
 use model::provisioning::{opens_security, test, Tested};
 use model::record::{Header, Verb, ALL_BITS, CREATE_BIT, DELETE_BIT, UPDATE_BIT};
 use model::rules::{effective_permission, Sender};
@@ -1405,3 +1407,224 @@ const TESTERS: [(&str, Tester); 40] = [
         })
     }),
 ];
+
+#[test]
+fn poor_converters_are_found() {
+    let mut found = [0; CONVERTERS.len()];
+    for file in files::cases(1) {
+        let right = Converted::expected(&file);
+        for (count, (_, converter)) in found.iter_mut().zip(CONVERTERS).filter(|(count, _)| **count < ENOUGH) {
+            *count += usize::from(converter(&file, right.clone()) != right);
+        }
+    }
+    for (count, (name, _)) in found.iter().zip(CONVERTERS) {
+        assert!(*count >= ENOUGH, "a converter that {name}: {count}");
+    }
+}
+
+/// What a program makes of a file, given what is right.
+type Converter = fn(&File, Converted) -> Converted;
+
+fn not_converted(answer: u8, file: &File) -> Converted {
+    Converted { answer, length: 0, buffer: Case::pattern(file.room + model::case::BEHIND) }
+}
+
+/// Other rows in the place of the right ones; 25 when they do not fit.
+fn other_result(file: &File, rows: &[Access]) -> Converted {
+    let bytes: Vec<u8> = rows.iter().flat_map(Row::bytes).collect();
+    if bytes.len() > file.room {
+        return not_converted(25, file);
+    }
+    let mut converted = Converted { length: bytes.len(), ..not_converted(0, file) };
+    converted.buffer[..bytes.len()].copy_from_slice(&bytes);
+    converted
+}
+
+/// The right rows, changed.
+fn converted_otherwise(file: &File, right: Converted, change: impl Fn(&mut Vec<Access>)) -> Converted {
+    match convert(&file.bytes) {
+        Ok(mut rows) => {
+            change(&mut rows);
+            other_result(file, &rows)
+        }
+        Err(_) => right,
+    }
+}
+
+/// The result of another file.
+fn of_other(file: &File, change: impl Fn(&mut Vec<u8>)) -> Converted {
+    let mut other = file.clone();
+    change(&mut other.bytes);
+    Converted::expected(&other)
+}
+
+/// Numbered from 1 again.
+fn renumbered(rows: &mut [Access]) {
+    (1..).zip(rows).for_each(|(number, row)| row.number = number);
+}
+
+const CONVERTERS: [(&str, Converter); 30] = [
+    ("converts nothing", |file, _| not_converted(23, file)),
+    ("never says 23", |file, right| match right.answer {
+        23 => of_other(file, |bytes| {
+            let rows = bytes.chunks(OldRow::LENGTH).filter(|row| OldRow::read(row).is_some());
+            *bytes = rows.flatten().copied().collect();
+        }),
+        _ => right,
+    }),
+    ("looks at whole rows only", |file, _| of_other(file, |bytes| bytes.truncate(bytes.len() / 25 * 25))),
+    ("does not mind zero bits", |file, _| {
+        of_other(file, |bytes| bytes.chunks_exact_mut(25).for_each(|row| row[16] &= 0xF8))
+    }),
+    ("does not mind the last zero bit", |file, _| {
+        of_other(file, |bytes| bytes.chunks_exact_mut(25).for_each(|row| row[16] &= 0xFE))
+    }),
+    ("does not mind unknown resources", |file, _| {
+        let known = model::directory::known().to_be_bytes();
+        of_other(file, |bytes| {
+            for row in bytes.chunks_exact_mut(25) {
+                row[17..].iter_mut().zip(known).for_each(|(byte, known)| *byte &= known);
+            }
+        })
+    }),
+    ("does not know the yard", |file, right| {
+        let names_it = |row: &[u8]| row.len() == 25 && row[19] & 0x80 != 0;
+        if file.bytes.chunks(25).any(names_it) {
+            not_converted(23, file)
+        } else {
+            right
+        }
+    }),
+    ("never says 24", |file, right| match right.answer {
+        24 => of_other(file, |bytes| {
+            while convert(bytes).is_err() {
+                bytes.truncate(bytes.len() - 25);
+            }
+        }),
+        _ => right,
+    }),
+    ("makes 33 rows", |file, right| match right.answer {
+        24 if made_of(&file.bytes) == 33 => Converted { answer: 0, length: 33 * 36, ..right },
+        _ => right,
+    }),
+    ("makes 31 rows at most", |file, right| if made_of(&file.bytes) > 31 { not_converted(24, file) } else { right }),
+    ("counts old rows for 24", |file, right| match right.answer {
+        24 if file.bytes.len() / 25 <= 32 => not_converted(0, file),
+        _ => right,
+    }),
+    ("says 24 before 23", |file, right| match right.answer {
+        23 if file.bytes.len() / 25 > 32 => not_converted(24, file),
+        _ => right,
+    }),
+    ("says 25 before 24", |file, right| match right.answer {
+        24 if file.room < LONGEST_RESULT => not_converted(25, file),
+        _ => right,
+    }),
+    ("says 25 before 23", |file, right| match right.answer {
+        23 if file.room == 0 => not_converted(25, file),
+        _ => right,
+    }),
+    ("says 25 when the rows just fit", |file, right| {
+        if right.length > 0 && right.length == file.room {
+            not_converted(25, file)
+        } else {
+            right
+        }
+    }),
+    ("writes the rows that fit", |file, mut right| {
+        if let (25, Ok(rows)) = (right.answer, convert(&file.bytes)) {
+            let bytes: Vec<u8> = rows.iter().take(file.room / 36).flat_map(Row::bytes).collect();
+            right.buffer[..bytes.len()].copy_from_slice(&bytes);
+        }
+        right
+    }),
+    ("writes the rows before a bad one", |file, mut right| {
+        if right.answer == 23 {
+            let good = file.bytes.chunks(25).take_while(|row| OldRow::read(row).is_some()).count();
+            let rows = convert(&file.bytes[..good * 25]).unwrap_or_default();
+            let bytes: Vec<u8> = rows.iter().take(file.room / 36).flat_map(Row::bytes).collect();
+            right.buffer[..bytes.len()].copy_from_slice(&bytes);
+        }
+        right
+    }),
+    ("reports the length it would need", |file, right| match right.answer {
+        25 => Converted { length: made_of(&file.bytes) * 36, ..right },
+        _ => right,
+    }),
+    ("reports the number of rows", |_, right| Converted { length: right.length / 36, ..right }),
+    ("clears the buffer behind the rows", |file, mut right| {
+        right.buffer[right.length..file.room].fill(0);
+        right
+    }),
+    ("numbers rows from 0", |file, right| {
+        converted_otherwise(file, right, |rows| rows.iter_mut().for_each(|row| row.number -= 1))
+    }),
+    ("gives both rows of anybody one number", |file, right| {
+        converted_otherwise(file, right, |rows| {
+            for place in 1..rows.len() {
+                if rows[place].subject == ANON {
+                    rows[place].number = rows[place - 1].number;
+                }
+            }
+        })
+    }),
+    ("puts anon-clear first", |file, right| {
+        converted_otherwise(file, right, |rows| {
+            for row in rows {
+                row.subject = match row.subject {
+                    AUTH => ANON,
+                    ANON => AUTH,
+                    subject => subject,
+                };
+            }
+        })
+    }),
+    ("makes one row of anybody", |file, right| {
+        converted_otherwise(file, right, |rows| {
+            rows.retain(|row| row.subject != ANON);
+            renumbered(rows);
+        })
+    }),
+    ("puts the rows of anybody last", |file, right| {
+        converted_otherwise(file, right, |rows| {
+            rows.sort_by_key(|row| !matches!(row.subject, Subject::Uuid(_)));
+            renumbered(rows);
+        })
+    }),
+    ("joins the rows of a subject", |file, right| {
+        converted_otherwise(file, right, |rows| {
+            let mut joined: Vec<Access> = Vec::new();
+            for row in rows.drain(..) {
+                match joined.iter_mut().find(|held| held.subject == row.subject && held.set == row.set) {
+                    Some(held) => held.permission |= row.permission,
+                    None => joined.push(row),
+                }
+            }
+            *rows = joined;
+            renumbered(rows);
+        })
+    }),
+    ("leaves rows without permission out", |file, right| {
+        converted_otherwise(file, right, |rows| {
+            rows.retain(|row| row.permission != 0);
+            renumbered(rows);
+        })
+    }),
+    ("gives a season that ends", |file, right| {
+        converted_otherwise(file, right, |rows| rows.iter_mut().for_each(|row| row.period.last -= 1))
+    }),
+    ("gives wildcards to all resources", |file, right| {
+        converted_otherwise(file, right, |rows| rows.iter_mut().for_each(|row| row.wildcards.star = true))
+    }),
+    ("has resource 0 at the low end", |file, right| {
+        converted_otherwise(file, right, |rows| {
+            rows.iter_mut().for_each(|row| row.set = row.set.reverse_bits() & model::directory::known())
+        })
+    }),
+];
+
+/// How many rows a file would make, were there room for all.
+fn made_of(file: &[u8]) -> usize {
+    let rows = file.chunks(25).map(|row| if row.iter().take(16).all(|&byte| byte == 0) { 2 } else { 1 });
+    rows.sum()
+}

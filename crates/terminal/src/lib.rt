@@ -1,5 +1,6 @@
 // The C interface: one call each of the library, declared in include/tillerclover.h.
 // Tables pass by value, a record and a buffer as a pointer and a length each; the payload goes out as a start and a length within the record.
+use conversion::Converted;
 use listing::Listed;
 use lists::Tested;
 use rules::Tables;
@@ -12,6 +13,7 @@ ghost use Rattle.rules.specs.Checks.{numberOf};
 ghost use Rattle.rules.specs.Outcome.{outcome, replyTo};
 ghost use Rattle.office.specs.Office.{officeVerdict, officeReply};
 ghost use Rattle.lists.specs.Lists.{listTested};
+ghost use Rattle.legacy.specs.Conversion.{conversionVerdict, conversionReply};
 ghost use Rattle.terminal.specs.Interface.{exported, startOf};
 
 // What becomes of a record. Without a payload both its start and its length are 0; `reply` is the length written to the lent buffer;
@@ -107,4 +109,15 @@ pub extern "C" fn tillerclover_test_list(rows: &[u8]) -> Tested
     ensures { λ r. ⌜ r ≡ listTested (now (rows .entry)) ⌝ }
 {
     provisioning::test_list(rows)
+}
+
+// An access list of an older terminal as access rows.
+// Rules out: a byte written on 23, 24 or 25; a byte changed behind the rows; a length that is not that of the rows.
+#[no_mangle]
+pub extern "C" fn tillerclover_convert_list(file: &[u8], rows: &mut [u8]) -> Converted
+    ensures answer { λ r. ⌜ r .answer ≡ numberOf (conversionVerdict (now (file .entry)) (length (now (rows .entry)))) ⌝ }
+    ensures length { λ r. ⌜ r .length ≡ length (conversionReply (now (file .entry)) (length (now (rows .entry)))) ⌝ }
+    ensures buffer { λ _. ⌜ now (rows .exit) ≡ filled (now (rows .entry)) (conversionReply (now (file .entry)) (length (now (rows .entry)))) ⌝ }
+{
+    conversion::convert(file, rows)
 }

@@ -1,5 +1,6 @@
 // Judges the records of vectors.bin, which the second model wrote, and compares what comes of each.
-// The file's form stands in model/src/vectors.rs: tables to take, records with their outcome, tables that must be reached, default lists, lists to load.
+// The file's form stands in model/src/vectors.rs: tables to take, records with their outcome, tables that must be reached, default lists, lists to load, older lists.
+use conversion::Converted;
 use fields::after;
 use fields::double_word;
 use fields::word;
@@ -20,6 +21,7 @@ struct Progress {
     entry: u64,
     records: u64,
     tested: u64,
+    converted: u64,
     differences: u64,
 }
 
@@ -47,6 +49,8 @@ fn print_result(p: Progress) {
     io::write_all(1, b" records, ");
     io::print_decimal(1, p.tested);
     io::write_all(1, b" lists, ");
+    io::print_decimal(1, p.converted);
+    io::write_all(1, b" older lists, ");
     io::print_decimal(1, p.differences);
     io::write_all(1, b" differences\n");
 }
@@ -60,6 +64,7 @@ fn walk(bytes: &[u8]) -> Progress {
         entry: 0,
         records: 0,
         tested: 0,
+        converted: 0,
         differences: 0,
     };
     let mut rest = bytes;
@@ -119,6 +124,7 @@ fn entry_size(s: &[u8]) -> usize {
         2 => tables_size(s),
         3 => 3 + byte_at(s, 1) as usize + second_length(s) as usize,
         4 => list_size(s),
+        5 => older_size(s),
         _ => 0,
     }
 }
@@ -140,6 +146,13 @@ fn record_size(s: &[u8]) -> usize {
 // Tag, length and bytes of a list to load, answer, row.
 fn list_size(s: &[u8]) -> usize {
     5 + word(after(s, 1)) as usize
+}
+
+// Tag, length and bytes of an older list, room, answer, length and bytes of the result.
+fn older_size(s: &[u8]) -> usize {
+    let length = word(after(s, 1)) as usize;
+    let made = word(after(after(s, 6), length)) as usize;
+    8 + length + made
 }
 
 // Of an entry with default lists: the length of the second, the first, and the second.
@@ -184,7 +197,8 @@ fn entry_done(p: Progress, s: &[u8], lists: &[u8]) -> Progress {
         1 => judged(p, after(s, 1), lists),
         2 => reached(p, after(s, 1)),
         3 => listed(p),
-        _ => tested(p, after(s, 1)),
+        4 => tested(p, after(s, 1)),
+        _ => converted(p, after(s, 1)),
     }
 }
 
@@ -218,6 +232,29 @@ fn tested(p: Progress, s: &[u8]) -> Progress {
     } else {
         differing(next)
     }
+}
+
+// Converts the older list behind its length with a buffer of the room behind it, and compares the result with the one that follows.
+fn converted(p: Progress, s: &[u8]) -> Progress {
+    let length = word(s) as usize;
+    let behind = after(after(s, 2), length);
+    let expected = after(behind, 2);
+    let made = part(expected, 3, word(after(expected, 1)) as usize);
+    let mut buffer = [165u8; 1300];
+    let found = convert_within(part(s, 2, length), &mut buffer, word(behind) as usize);
+    let mut next = p;
+    next.converted = more(p.converted);
+    if (found.answer == byte_at(expected, 0)) & same_filled(found.length, &buffer, made) {
+        next
+    } else {
+        differing(next)
+    }
+}
+
+// Converts an older list with the first `room` bytes of the buffer, or all where it has fewer.
+fn convert_within(file: &[u8], buffer: &mut [u8], room: usize) -> Converted {
+    let n = smaller(room, buffer.len());
+    conversion::convert(file, &mut buffer[..n])
 }
 
 // Judges the record behind its clock and its length with a buffer of the room behind it, and compares the outcome with the one that follows.
@@ -279,10 +316,14 @@ fn smaller(a: usize, b: usize) -> usize
 
 // Whether the reply is the one behind its length, the places and the links, and the buffer is as before behind it.
 fn same_reply(length: usize, buffer: &[u8], expected: &[u8]) -> bool {
-    let reply = part(expected, 13, word(expected) as usize);
+    same_filled(length, buffer, part(expected, 13, word(expected) as usize))
+}
+
+// Whether so many bytes are those of the result, and the buffer is as before behind them.
+fn same_filled(length: usize, buffer: &[u8], result: &[u8]) -> bool {
     let mut filled = [165u8; 1300];
-    fill(&mut filled, reply);
-    (length == reply.len()) & rows::same_bytes(buffer, &filled)
+    fill(&mut filled, result);
+    (length == result.len()) & rows::same_bytes(buffer, &filled)
 }
 
 // Whether the first place to store and how many are those of these bytes.

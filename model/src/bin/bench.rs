@@ -10,11 +10,12 @@ use std::time::Instant;
 
 use model::case::{shrink, Case as Put};
 use model::defaults::{join, Defaults};
-use model::directory::{ROLES, YARD};
+use model::directory::{set_bit, ROLES, YARD};
 use model::examples::{access, asserted, credential, role, uuid, AUTH};
 use model::generate::{clock, record, session, walk};
 use model::library::{self, Outcome, Tables as Given};
 use model::office::{self, LONGEST_TEXT};
+use model::older::{self, Converted, File, OldRow, LONGEST_RESULT};
 use model::options::{Options, Program};
 use model::provisioning::test;
 use model::random::Random;
@@ -31,8 +32,8 @@ bench --only CASE --rows ROWS --side SIDE [--calls N]
 Measures the time of a decision through the library, and through the model on
 the same tables and records. Each time is the least of several repetitions, in
 which the two take turns. Then come the growth with the rows, the office text of
-the access rows, the test of lists to load, the yardstick, the stack of one call
-and the size of the library.
+the access rows, the test of lists to load, the conversion of older lists, the
+yardstick, the stack of one call and the size of the library.
 
 The yardstick is the decision on an application resource in C by hand,
 bench/yardstick.c. It is compared with the library over random records and
@@ -355,6 +356,7 @@ fn main() {
         growth(repetitions);
         texts(repetitions);
         lists(repetitions);
+        older(repetitions);
     }
     yardstick(5 * repetitions);
     stack();
@@ -532,6 +534,40 @@ fn lists(repetitions: u64) {
             format!("{:.1} ns", (time.library - times[place - 1].library) / 8.0)
         };
         println!("{rows:4}  {name:14}  {:6.0} ns  {:6.0} ns  {:5.2}  {more}", time.library, time.other, time.ratio());
+    }
+}
+
+/// A list of an older terminal that becomes so many rows, all for one UUID each or all for anybody.
+fn older_list(made: usize, anybody: bool) -> File {
+    let rows = if anybody { made / 2 } else { made };
+    let row = OldRow { subject: (!anybody).then_some(uuid(1)), permission: RETRIEVE_BIT, set: set_bit(WEIGHT) };
+    File { bytes: row.bytes().repeat(rows), room: LONGEST_RESULT }
+}
+
+/// The conversion of older lists.
+fn older(repetitions: u64) {
+    println!("\ntime of the conversion of an older list\n");
+    println!("made  subjects    library      model  ratio");
+    let cases: Vec<(usize, &str, File)> = [("UUIDs", false), ("anybody", true)]
+        .iter()
+        .flat_map(|&(name, anybody)| [0, 16, 32].map(|made| (made, name, older_list(made, anybody))))
+        .collect();
+    for (_, _, file) in &cases {
+        let (expected, found) = (Converted::expected(file), library::converted(file));
+        if expected.answer != 0 || expected != found {
+            PROGRAM.stop("an older list is to be converted, and the library does not do so");
+        }
+    }
+    let library = |(_, _, file): &(usize, &str, File), reply: &mut Reply| {
+        black_box(library::convert(black_box(&file.bytes), black_box(reply)));
+    };
+    let model = |(_, _, file): &(usize, &str, File)| {
+        let mut rows = EMPTY;
+        let _ = black_box(older::write(black_box(&file.bytes), black_box(&mut rows)));
+    };
+    let times = measure(&cases, repetitions, library, model);
+    for ((made, name, _), time) in cases.iter().zip(&times) {
+        println!("{made:4}  {name:8}  {:6.0} ns  {:6.0} ns  {:5.2}", time.library, time.other, time.ratio());
     }
 }
 
@@ -771,6 +807,11 @@ fn stack() {
         black_box(library::test(black_box(&full)));
     });
     println!("stack of the test of a full list: {tested} bytes");
+    let full = older_list(Access::CAPACITY, true);
+    let converted = depth(&|buffer| {
+        black_box(library::convert(black_box(&full.bytes), black_box(&mut buffer[..])));
+    });
+    println!("stack of the conversion of an older list: {converted} bytes");
 }
 
 fn size() {

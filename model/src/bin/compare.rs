@@ -1,12 +1,14 @@
 //! Compares the proved library with the model, record by record and list by list.
 
 use model::case::{field, first_change, shrink, Case, Seen};
+use model::files;
 use model::generate::{any_bytes, defaults, walk};
 use model::hex;
 use model::histogram::Histogram;
 use model::library;
 use model::lists;
 use model::office::Listed;
+use model::older::{Converted, File};
 use model::options::Program;
 use model::provisioning::{test, Tested};
 use model::random::Random;
@@ -20,6 +22,7 @@ const PROGRAM: Program = Program {
 compare [--records N] [--seed S] [--trace]
 compare --replay TABLES:CLOCK:RECORD:ROOM:CREDENTIALS:ACCESSES
 compare --replay-list LIST
+compare --replay-older FILE:ROOM
 
 Judges the same records on the same tables at the same clock by the library and
 by the model, and compares answer, permission, payload, length of the reply,
@@ -27,7 +30,8 @@ every byte of the lent buffer (and some behind it), the places to store after a
 delete, the set of the yard and its size, and every byte of the tables; fresh
 tables and the clear button too. Default lists, good and bad, are drawn with the
 cases. The office text of many of the tables, and of some for it alone, is
-compared in the same way, and so is what both say of lists to load.
+compared in the same way, and so are what both say of lists to load, and the
+rows that they make of lists from older terminals.
 
   --records N   so many records (default 300000)
   --seed S      another choice of records (default 1)
@@ -39,11 +43,14 @@ compared in the same way, and so is what both say of lists to load.
   --replay-list LIST
                 test this one list, rows in hexadecimal digits, and show what
                 both say of it
+  --replay-older FILE:ROOM
+                convert this one list of an older terminal, hexadecimal digits
+                and the length of the buffer in decimal, and show both results
   --help        this text
 
 Ends with 0 when all are equal, with 1 when one is not.
 ",
-    valued: &["--records", "--seed", "--replay", "--replay-list"],
+    valued: &["--records", "--seed", "--replay", "--replay-list", "--replay-older"],
     flags: &["--trace"],
     free: 0,
 };
@@ -54,7 +61,7 @@ const CLEARED: usize = 5000;
 
 fn main() {
     let options = PROGRAM.options();
-    for replay in ["--replay", "--replay-list"] {
+    for replay in ["--replay", "--replay-list", "--replay-older"] {
         for name in ["--records", "--seed"] {
             if options.text(replay).is_some() && options.text(name).is_some() {
                 PROGRAM.stop(format!("{name} has no meaning with {replay}"));
@@ -73,6 +80,14 @@ fn main() {
         let (expected, found) = said(&list);
         let differences = u64::from(expected != found);
         println!("compare: 1 lists, {differences} differences");
+        finish(differences);
+    }
+    if let Some(line) = options.text("--replay-older") {
+        let file = File::from_line(line).unwrap_or_else(|fault| PROGRAM.stop(fault));
+        show_file(&file);
+        let (expected, found) = made(&file);
+        let differences = u64::from(expected != found);
+        println!("compare: 1 older lists, {differences} differences");
         finish(differences);
     }
     let records = PROGRAM.number(&options, "--records", 300_000);
@@ -120,6 +135,8 @@ fn compare(records: u64, seed: u64, trace: bool) -> u64 {
 
     let mut lists = Lists { trace, ..Lists::default() };
     lists::cases(seed).for_each(|list| lists.compare(&list));
+    let mut files = Files { trace, ..Files::default() };
+    files::cases(seed).for_each(|file| files.compare(&file));
     let mut texts = Texts { trace, ..Texts::default() };
     texts::cases().for_each(|case| texts.compare(&case));
     let mut picks = Picks::new(seed);
@@ -154,7 +171,12 @@ fn compare(records: u64, seed: u64, trace: bool) -> u64 {
     println!("fresh tables: {begun}, tables cleared: {cleared}");
     println!("{}", texts.counts);
     println!("{}", lists.counts);
-    elsewhere + differences.count + texts.differences.count + lists.differences.count
+    println!("{}", files.counts);
+    elsewhere
+        + [differences, texts.differences, lists.differences, files.differences]
+            .map(|kind| kind.count)
+            .iter()
+            .sum::<u64>()
 }
 
 /// Differences of one kind, and the pairs of answers of which one was shown.
@@ -243,6 +265,52 @@ fn show_list(list: &[u8]) {
     println!("{}", hex::write(list));
     println!("  by the model:   answer {}, row {}", expected.answer, expected.row);
     println!("  by the library: answer {}, row {}", found.answer, found.row);
+}
+
+/// The files of older terminals compared so far.
+#[derive(Default)]
+struct Files {
+    trace: bool,
+    counts: files::Counts,
+    differences: Differences,
+}
+
+impl Files {
+    fn compare(&mut self, file: &File) {
+        if self.trace {
+            println!("older {}", file.line());
+        }
+        let (expected, found) = made(file);
+        self.counts.add(file, &expected);
+        let pair = (expected.answer, found.answer);
+        if expected != found && self.differences.add(pair) {
+            let small = files::shrink(file.clone(), |file| file_differs_so(file, pair));
+            println!("a difference in the conversion of an older list, made as small as it goes:");
+            show_file(&small);
+            show_command("--replay-older", &small.line());
+        }
+    }
+}
+
+/// What both make of a file.
+fn made(file: &File) -> (Converted, Converted) {
+    (Converted::expected(file), library::converted(file))
+}
+
+/// Whether what they make of it differs with just these two answers.
+fn file_differs_so(file: &File, pair: (u8, u8)) -> bool {
+    let (expected, found) = made(file);
+    (expected.answer, found.answer) == pair && expected != found
+}
+
+fn show_file(file: &File) {
+    let (expected, found) = made(file);
+    println!("{}", file.line());
+    println!("  by the model:   {}", expected.describe());
+    println!("  by the library: {}", found.describe());
+    if let Some(place) = first_change(&expected.buffer, &found.buffer) {
+        println!("  the buffers afterwards differ first at byte {place}");
+    }
 }
 
 /// Where fresh tables differ.

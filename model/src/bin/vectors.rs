@@ -38,12 +38,13 @@ fn main() {
     }
     print!("{}", vectors.histogram);
     println!(
-        "vectors: {} records, {} tables, {} checks, {} pairs of default lists, {} lists to load, {} bytes",
+        "vectors: {} records, {} tables, {} checks, {} pairs of default lists, {} lists to load, {} older lists, {} bytes",
         vectors.records,
         vectors.tables,
         vectors.checks,
         vectors.lists,
         vectors.tested,
+        vectors.converted,
         vectors.bytes.len()
     );
 }

@@ -1,0 +1,16 @@
+-- `convert_within` is safe and ends: the lent part is as long as its room.
+use mathlib.Core.Path.{sym}
+use borrow.Author.Needs.{needs}
+use lib.Seq.{length-take-le}
+use Rattle.vectors.proofs.convert_within.Statement.{statement}
+use Rattle.vectors.proofs.convert_within.Tie as tie
+
+slice-aggregate-convert : tie.Need-slice-aggregate-convert
+slice-aggregate-convert c = let n = c .before in sym (length-take-le (n .smaller .result) _ (n .smaller .ensures))
+
+pub convert-within-spec : {M : Type 1} → statement M
+convert-within-spec =
+    tie.close
+    (tie.spec
+    (λ c κs. search needs) (λ c. search needs) slice-aggregate-convert
+    (λ c κs. search needs) (λ c. search needs) (λ c. search needs))
