@@ -1,8 +1,8 @@
 /* A weighbridge yard: the owner sets a terminal up and reads it back, the office gets the access list as text and polls
  * the whole yard; a haulier, two foremen, a harvest contractor, a stranger and a broken sender call, and a foreman stands
- * in for another on one day. Then the owner tests a list that another firm's program wrote, and loads it, and a second
- * terminal takes over the list of an older one. Before all that the program sees that its structs are laid out as the
- * library's.
+ * in for another on one day. In a busy hour they hand their records in and wait for their turns, and the haulier floods.
+ * Then the owner tests a list that another firm's program wrote, and loads it, and a second terminal takes over the list
+ * of an older one. Before all that the program sees that its structs are laid out as the library's.
  *
  *     rt staticlib terminal
  *     cc -std=c11 -Wall -Wextra -Werror -Iinclude examples/yard.c target/staticlib/libterminal.a -o target/yard
@@ -74,6 +74,8 @@ static const char *const ANSWERS[] = {
     [TILLERCLOVER_CONVERT_BAD_FILE] = "no file of old rows",
     [TILLERCLOVER_CONVERT_TOO_MANY] = "too many rows",
     [TILLERCLOVER_CONVERT_NO_ROOM] = "buffer too short for the rows",
+    [TILLERCLOVER_OCCUPIED] = "a record of this sender waits already",
+    [TILLERCLOVER_NOTHING_WAITING] = "nothing waits",
 };
 
 static const char *const STATES[] = {"RESET", "RFOTM", "RFPRO", "RFNOP", "SRESET"};
@@ -327,9 +329,27 @@ static uint8_t reply[TILLERCLOVER_REPLY_MAX];
 /* What the terminal's clock shows. */
 static uint32_t now;
 
+/* The memory of waiting records that belongs to the terminal's tables. */
+static tillerclover_waiting waiting;
+
+static tillerclover_tables fresh(void)
+{
+    return tillerclover_fresh(&waiting, NONE, 0, NONE, 0);
+}
+
 static tillerclover_outcome judge(tillerclover_tables t, struct record r)
 {
-    return tillerclover_judge(t, NONE, 0, NONE, 0, now, r.bytes, r.length, reply, sizeof reply);
+    return tillerclover_judge(t, &waiting, NONE, 0, NONE, 0, now, r.bytes, r.length, reply, sizeof reply);
+}
+
+static tillerclover_outcome hand_in(tillerclover_tables t, struct record r)
+{
+    return tillerclover_hand_in(t, &waiting, r.bytes, r.length);
+}
+
+static tillerclover_taken take(tillerclover_tables t)
+{
+    return tillerclover_take(t, &waiting, NONE, 0, NONE, 0, now, reply, sizeof reply);
 }
 
 /* The tables after a record that must be permitted. */
@@ -360,14 +380,19 @@ static tillerclover_tables pattern(void)
 
 static void whole_tables(void)
 {
-    tillerclover_tables worn, cleared, fresh, expected;
+    static const tillerclover_waiting nothing;
+    tillerclover_tables worn, cleared, new, expected;
     memset(&worn, 0xFF, sizeof worn);
-    cleared = tillerclover_clear(worn, NONE, 0, NONE, 0);
-    fresh = tillerclover_fresh(NONE, 0, NONE, 0);
+    memset(&waiting, 0xFF, sizeof waiting);
+    cleared = tillerclover_clear(worn, &waiting, NONE, 0, NONE, 0);
+    expect(memcmp(&waiting, &nothing, sizeof waiting) == 0, "the memory is not fresh after clearing");
+    memset(&waiting, 0x01, sizeof waiting);
+    new = fresh();
+    expect(memcmp(&waiting, &nothing, sizeof waiting) == 0, "fresh memory has other bytes");
     memset(&expected, 0, sizeof expected);
     expected.state = TILLERCLOVER_RFOTM;
     expect(same(&cleared, &expected), "tables are not fresh after clearing");
-    expect(same(&fresh, &expected), "fresh tables have other bytes");
+    expect(same(&new, &expected), "fresh tables have other bytes");
 }
 
 static void refused_tables(void)
@@ -384,7 +409,7 @@ static void refused_tables(void)
 /* Each field is written by the library and read here by its name. */
 static void each_field(void)
 {
-    tillerclover_tables expected = tillerclover_fresh(NONE, 0, NONE, 0);
+    tillerclover_tables expected = fresh();
     tillerclover_tables t = expected;
     struct record r;
     for (unsigned i = 0; i < TILLERCLOVER_ROW_OWNERS; i++) {
@@ -450,7 +475,7 @@ static void each_field(void)
 /* The set of the yard and its size: a link more for each row that is stored. DISPLAY has no secure endpoint. */
 static void sets(void)
 {
-    tillerclover_tables t = tillerclover_fresh(NONE, 0, NONE, 0);
+    tillerclover_tables t = fresh();
     uint64_t expected = 0;
     size_t size = 0;
     t = after(t, store_cred(0, OWNER, OWNER_UUID));
@@ -476,7 +501,7 @@ static void sets(void)
 /* The longest reply in a buffer that just fits, and in one that just does not; the bytes behind it stay. */
 static void buffers(void)
 {
-    tillerclover_tables t = tillerclover_fresh(NONE, 0, NONE, 0);
+    tillerclover_tables t = fresh();
     uint8_t buffer[TILLERCLOVER_REPLY_MAX + 1], before[sizeof buffer];
     struct record r;
     for (unsigned i = 0; i < TILLERCLOVER_ACE_CAPACITY; i++) {
@@ -485,10 +510,10 @@ static void buffers(void)
     r = header(TILLERCLOVER_RETRIEVE, TILLERCLOVER_ACL2, 0);
     memset(buffer, 0xA5, sizeof buffer);
     memset(before, 0xA5, sizeof before);
-    tillerclover_outcome o = tillerclover_judge(t, NONE, 0, NONE, 0, 0, r.bytes, r.length, buffer, TILLERCLOVER_REPLY_MAX - 1);
+    tillerclover_outcome o = tillerclover_judge(t, &waiting, NONE, 0, NONE, 0, 0, r.bytes, r.length, buffer, TILLERCLOVER_REPLY_MAX - 1);
     expect(o.answer == TILLERCLOVER_NO_ROOM && o.reply == 0, "a reply was put into a buffer that is too short");
     expect(memcmp(buffer, before, sizeof buffer) == 0, "a refusal wrote into the buffer");
-    o = tillerclover_judge(t, NONE, 0, NONE, 0, 0, r.bytes, r.length, buffer, TILLERCLOVER_REPLY_MAX);
+    o = tillerclover_judge(t, &waiting, NONE, 0, NONE, 0, 0, r.bytes, r.length, buffer, TILLERCLOVER_REPLY_MAX);
     expect(o.answer == TILLERCLOVER_PERMITTED && o.reply == TILLERCLOVER_REPLY_MAX, "the longest reply has another length");
     memcpy(before, t.rowners + TILLERCLOVER_ACL2 * TILLERCLOVER_UUID_LENGTH, TILLERCLOVER_UUID_LENGTH);
     memcpy(before + TILLERCLOVER_UUID_LENGTH, t.aces, sizeof t.aces);
@@ -498,22 +523,22 @@ static void buffers(void)
 /* The access list in a buffer that just fits, in one that just does not, in none, and of tables that are not sound. */
 static void lists(void)
 {
-    tillerclover_tables t = after(tillerclover_fresh(NONE, 0, NONE, 0), store_ace(0, 1, TILLERCLOVER_MAY_RETRIEVE, TILLERCLOVER_WEIGHT, OWNER_UUID));
+    tillerclover_tables t = after(fresh(), store_ace(0, 1, TILLERCLOVER_MAY_RETRIEVE, TILLERCLOVER_WEIGHT, OWNER_UUID));
     static const char expected[] = "{\"aclist2\":[{\"aceid\":1,\"subject\":{\"uuid\":\"5b0d3a64-9c21-4e7f-8a15-3de290c74618\"},"
                                    "\"resources\":[{\"href\":\"/weight\"}],\"permission\":2}]}";
     enum { LENGTH = sizeof expected - 1 };
     uint8_t buffer[LENGTH + 1], before[sizeof buffer];
     memset(buffer, 0xA5, sizeof buffer);
     memset(before, 0xA5, sizeof before);
-    tillerclover_listed l = tillerclover_access_list(t, buffer, LENGTH - 1);
+    tillerclover_listed l = tillerclover_access_list(t, &waiting, buffer, LENGTH - 1);
     expect(l.answer == TILLERCLOVER_LIST_NO_ROOM && l.length == 0, "a list was put into a buffer that is too short");
     expect(memcmp(buffer, before, sizeof buffer) == 0, "a list that does not fit wrote into the buffer");
-    l = tillerclover_access_list(t, NULL, 0);
+    l = tillerclover_access_list(t, &waiting, NULL, 0);
     expect(l.answer == TILLERCLOVER_LIST_NO_ROOM && l.length == 0, "a list was put into no buffer");
-    l = tillerclover_access_list(pattern(), buffer, sizeof buffer);
+    l = tillerclover_access_list(pattern(), &waiting, buffer, sizeof buffer);
     expect(l.answer == TILLERCLOVER_LIST_NOT_SOUND && l.length == 0, "tables of any bytes were listed");
     expect(memcmp(buffer, before, sizeof buffer) == 0, "tables that are not sound wrote into the buffer");
-    l = tillerclover_access_list(t, buffer, LENGTH);
+    l = tillerclover_access_list(t, &waiting, buffer, LENGTH);
     expect(l.answer == TILLERCLOVER_PERMITTED && l.length == LENGTH, "answer or length stands elsewhere in what is listed");
     memcpy(before, expected, LENGTH);
     expect(memcmp(buffer, before, sizeof buffer) == 0, "the list has another text");
@@ -598,7 +623,7 @@ static void clocks(void)
 {
     static const uint32_t first = 0x01020304, last = 0xA0B0C0D0;
     const uint32_t clock[] = {0, first - 1, first, last, last + 1, UINT32_MAX};
-    tillerclover_tables t = tillerclover_fresh(NONE, 0, NONE, 0);
+    tillerclover_tables t = fresh();
     t = after(t, store_cred(0, OWNER, OWNER_UUID));
     t = after(t, store_season_ace(0, 1, TILLERCLOVER_MAY_RETRIEVE, TILLERCLOVER_WEIGHT, OWNER_UUID, first, last));
     t = after(t, set_owner(0, OWNER_UUID));
@@ -618,7 +643,7 @@ static void clocks(void)
 static void roles(void)
 {
     enum { FIRST = TILLERCLOVER_CRED_ROW_LENGTH + TILLERCLOVER_CRED_LENGTH };
-    tillerclover_tables t = tillerclover_fresh(NONE, 0, NONE, 0), expected;
+    tillerclover_tables t = fresh(), expected;
     struct record one = assert_role(HAULIER, FOREMAN_ROLE, HAULIER_AUTHORITY, 0x01020304);
     struct record two = assert_role(HAULIER, FOREMAN_ROLE, OTHER_AUTHORITY, UINT32_MAX);
     struct record three = assert_role(HAULIER, GATE_ROLE, WORKS, UINT32_MAX);
@@ -647,17 +672,57 @@ static void roles(void)
     now = 0;
 }
 
+/* A record handed in stands in the memory, and a take hands it out by value; spoilt memory is answered and stays. */
+static void waiting_records(void)
+{
+    enum { HEAD = 4, SLOT = 260 };
+    tillerclover_tables t = after(fresh(), store_cred(0, 0x0102, OWNER_UUID));
+    tillerclover_waiting expected = {{0}}, before;
+    struct record r = header(TILLERCLOVER_UPDATE, TILLERCLOVER_TARE, 0x0102);
+    memset(r.bytes + r.length, 0x33, TILLERCLOVER_RECORD_MAX - r.length);
+    r.length = TILLERCLOVER_RECORD_MAX;
+    tillerclover_taken taken = take(t);
+    expect(taken.outcome.answer == TILLERCLOVER_NOTHING_WAITING && taken.size == 0 && same(&taken.outcome.tables, &t),
+           "something was taken where nothing waits");
+    tillerclover_outcome o = hand_in(t, r);
+    expect(o.answer == TILLERCLOVER_PERMITTED && o.permission == 0 && o.length == 0 && same(&o.tables, &t), "a record was not kept");
+    expected.bytes[0] = 1;
+    expected.bytes[HEAD] = 1;
+    expected.bytes[HEAD + 1] = 2;
+    expected.bytes[HEAD + 2] = 1;
+    memcpy(expected.bytes + HEAD + 4, r.bytes, r.length);
+    expect(memcmp(&waiting, &expected, sizeof waiting) == 0, "a waiting record stands elsewhere");
+    before = waiting;
+    expect(hand_in(t, r).answer == TILLERCLOVER_OCCUPIED, "a second record of one sender was kept");
+    waiting.bytes[sizeof waiting - 1] = 1;
+    taken = take(t);
+    expect(taken.outcome.answer == TILLERCLOVER_NOT_SOUND && taken.size == 0, "memory of any bytes was taken for sound");
+    expect(judge(t, r).answer == TILLERCLOVER_NOT_SOUND, "a record was judged beside memory that is not sound");
+    expect(tillerclover_access_list(t, &waiting, reply, sizeof reply).answer == TILLERCLOVER_LIST_NOT_SOUND, "a list beside such memory");
+    waiting.bytes[sizeof waiting - 1] = 0;
+    expect(memcmp(&waiting, &before, sizeof waiting) == 0, "a refusal changed the memory");
+    taken = take(t);
+    expect(taken.outcome.answer == TILLERCLOVER_NOT_PERMITTED && taken.outcome.length == 0, "a record was let through");
+    expect(taken.size == r.length && memcmp(taken.record, r.bytes, r.length) == 0, "size or record stands elsewhere");
+    memset(&expected, 0, sizeof expected);
+    expected.bytes[1] = 1;
+    expected.bytes[2] = 1;
+    expected.bytes[3] = 2;
+    expect(memcmp(&waiting, &expected, sizeof waiting) == 0, "a place was not emptied, or the round stands elsewhere");
+    expect(SLOT * 25 + HEAD == sizeof waiting, "the memory has another size");
+}
+
 /* A record of no bytes and a buffer of none, with pointers and without. */
 static void no_bytes(void)
 {
     static const uint8_t nothing[1];
     uint8_t empty[1];
-    tillerclover_outcome o = tillerclover_judge(tillerclover_fresh(NONE, 0, NONE, 0), NONE, 0, NONE, 0, 0, nothing, 0, empty, 0);
+    tillerclover_outcome o = tillerclover_judge(fresh(), &waiting, NONE, 0, NONE, 0, 0, nothing, 0, empty, 0);
     expect(o.answer == TILLERCLOVER_BAD_LENGTH, "an empty record was not refused for its length");
-    o = tillerclover_judge(tillerclover_fresh(NONE, 0, NONE, 0), NONE, 0, NONE, 0, 0, NULL, 0, NULL, 0);
+    o = tillerclover_judge(fresh(), &waiting, NONE, 0, NONE, 0, 0, NULL, 0, NULL, 0);
     expect(o.answer == TILLERCLOVER_BAD_LENGTH, "a null record was not refused for its length");
     struct record r = header(TILLERCLOVER_RETRIEVE, TILLERCLOVER_CRED, 0);
-    o = tillerclover_judge(tillerclover_fresh(NONE, 0, NONE, 0), NONE, 0, NONE, 0, 0, r.bytes, r.length, NULL, 0);
+    o = tillerclover_judge(fresh(), &waiting, NONE, 0, NONE, 0, 0, r.bytes, r.length, NULL, 0);
     expect(o.answer == TILLERCLOVER_NO_ROOM, "a reply was put into no buffer");
 }
 
@@ -703,6 +768,48 @@ static size_t call(tillerclover_tables *t, const char *what, struct record r)
     return o.reply;
 }
 
+static void print_handed(tillerclover_tables t, const char *what, struct record r)
+{
+    tillerclover_outcome o = hand_in(t, r);
+    printf("%-44s %2u %s\n", what, o.answer, o.answer == TILLERCLOVER_PERMITTED ? "kept" : ANSWERS[o.answer]);
+}
+
+/* Takes the record whose turn it is, and keeps the tables that were handed back. */
+static void print_taken(tillerclover_tables *t)
+{
+    tillerclover_taken taken = take(*t);
+    const tillerclover_outcome *o = &taken.outcome;
+    *t = o->tables;
+    printf("    take: ");
+    if (taken.size != 0) {
+        printf("credential %u, ", taken.record[2] << 8 | taken.record[3]);
+    }
+    printf("%u %s", o->answer, ANSWERS[o->answer]);
+    if (o->length != 0) {
+        printf(", payload \"%.*s\"", (int)o->length, (const char *)taken.record + o->start);
+    }
+    printf("\n");
+}
+
+/* A busy hour: the haulier's gateway sends without a pause, and the others get their turns all the same. */
+static void busy_hour(tillerclover_tables *t, struct record tare, struct record lamp, struct record load)
+{
+    print_handed(*t, "the haulier hands a tare in", tare);
+    print_handed(*t, "and another", tare);
+    print_handed(*t, "and another", tare);
+    print_handed(*t, "the contractor hands one in", load);
+    print_handed(*t, "the haulier's foreman the lamp", lamp);
+    print_handed(*t, "a stranger reads the weight", header(TILLERCLOVER_RETRIEVE, TILLERCLOVER_WEIGHT, 0));
+    print_handed(*t, "one without a credential row", header(TILLERCLOVER_UPDATE, TILLERCLOVER_TARE, UNKNOWN));
+    print_taken(t);
+    print_taken(t);
+    print_handed(*t, "the haulier again, at once", tare);
+    print_handed(*t, "the stranger too", header(TILLERCLOVER_RETRIEVE, TILLERCLOVER_WEIGHT, 0));
+    for (int i = 0; i < 5; i++) {
+        print_taken(t);
+    }
+}
+
 static void print_uuid(const uint8_t uuid[TILLERCLOVER_UUID_LENGTH])
 {
     for (size_t i = 0; i < TILLERCLOVER_UUID_LENGTH; i++) {
@@ -742,7 +849,7 @@ static void print_roles(size_t length)
 static void print_list(tillerclover_tables t)
 {
     static uint8_t text[TILLERCLOVER_TEXT_MAX];
-    tillerclover_listed l = tillerclover_access_list(t, text, sizeof text);
+    tillerclover_listed l = tillerclover_access_list(t, &waiting, text, sizeof text);
     printf("%-44s %2u %s\n    %.*s\n", "the office gets the access list", l.answer,
            l.answer == TILLERCLOVER_PERMITTED ? "listed" : ANSWERS[l.answer], (int)l.length, (const char *)text);
 }
@@ -826,9 +933,9 @@ static void maker(tillerclover_tables t)
     struct record ace = store_ace(0, 1, TILLERCLOVER_MAY_RETRIEVE, TILLERCLOVER_WEIGHT, OWNER_UUID);
     const uint8_t *creds = cred.bytes + TILLERCLOVER_HEADER_LENGTH;
     const uint8_t *aces = ace.bytes + TILLERCLOVER_HEADER_LENGTH;
-    t = tillerclover_clear(t, creds, TILLERCLOVER_CRED_LENGTH, aces, TILLERCLOVER_ACE_LENGTH);
+    t = tillerclover_clear(t, &waiting, creds, TILLERCLOVER_CRED_LENGTH, aces, TILLERCLOVER_ACE_LENGTH);
     printf("the maker's clear: %u credential and %u access row\n", t.ncreds, t.naces);
-    t = tillerclover_clear(t, creds, TILLERCLOVER_CRED_LENGTH - 1, aces, TILLERCLOVER_ACE_LENGTH);
+    t = tillerclover_clear(t, &waiting, creds, TILLERCLOVER_CRED_LENGTH - 1, aces, TILLERCLOVER_ACE_LENGTH);
     printf("with half a row in the first list: %u and %u\n", t.ncreds, t.naces);
 }
 
@@ -846,7 +953,7 @@ static void older(void)
            c.answer == TILLERCLOVER_PERMITTED ? "converted" : ANSWERS[c.answer], l.length / TILLERCLOVER_ACE_LENGTH);
     print_tested("is tested", &l);
 
-    tillerclover_tables t = tillerclover_fresh(NONE, 0, NONE, 0);
+    tillerclover_tables t = fresh();
     t = after(t, store_cred(0, OWNER, OWNER_UUID));
     t = after(t, store_cred(0, HAULIER, HAULIER_UUID));
     t = after(t, set_owner(0, OWNER_UUID));
@@ -873,12 +980,13 @@ int main(void)
     conversions();
     clocks();
     roles();
+    waiting_records();
     no_bytes();
     printf("layout: %zu bytes of tables in an outcome of %zu, as in the library\n", sizeof(tillerclover_tables),
            sizeof(tillerclover_outcome));
 
     now = HARVEST_FIRST - 86400;
-    tillerclover_tables t = tillerclover_fresh(NONE, 0, NONE, 0);
+    tillerclover_tables t = fresh();
     call(&t, "a new terminal takes the owner's credential", store_cred(0, OWNER, OWNER_UUID));
     call(&t, "and gets its owner", set_owner(0, OWNER_UUID));
     call(&t, "the owner moves it to RFPRO", set_state(OWNER, TILLERCLOVER_RFPRO));
@@ -934,6 +1042,10 @@ int main(void)
     call(&t, "in its last", load);
     now = HARVEST_LAST + 1;
     call(&t, "a second later", load);
+
+    now = HARVEST_LAST;
+    lamp.bytes[3] = FOREMAN;
+    busy_hour(&t, tare, lamp, load);
 
     print_creds(call(&t, "the owner's service tool reads cred back", header(TILLERCLOVER_RETRIEVE, TILLERCLOVER_CRED, OWNER)));
 

@@ -3,13 +3,15 @@
  * Link libterminal.a, which `rt staticlib terminal` writes to target/staticlib/. It is code for
  * x86-64 with the System V calling convention and needs nothing but memcpy, memmove and memset.
  *
- * What the functions return and write into a lent buffer depends on their arguments alone. They
- * keep no state between calls, allocate nothing, do no input or output, never fail and always
- * return. So any number of threads may call them at once, each with a buffer of its own. A thread
- * needs 24 KiB of free stack for a call; docs/BENCHMARKS.md has the measured depth.
+ * What the functions return, write into a lent buffer and leave in the memory of waiting records
+ * depends on their arguments alone. They keep no state between calls, allocate nothing, do no input or
+ * output, never fail and always return. So any number of threads may call them at once, each with a
+ * buffer and a memory of its own. A thread needs 24 KiB of free stack for a call; docs/BENCHMARKS.md has
+ * the measured depth.
  *
  * Tables go in and come out by value: the caller owns every copy, and keeps the one that was
- * handed back. A caller that shares its tables between threads holds its own lock from reading
+ * handed back. The memory of waiting records belongs to the tables: it is lent with them to each call,
+ * which changes it in place. A caller that shares both between threads holds its own lock from reading
  * them to storing what came back, or one record's change is lost.
  */
 #ifndef TILLERCLOVER_H
@@ -56,7 +58,9 @@ enum {
     /* a row of an older terminal's list */
     TILLERCLOVER_OLD_ROW_LENGTH = 25,
     /* the longest result of tillerclover_convert_list: as many access rows as the tables hold */
-    TILLERCLOVER_CONVERTED_MAX = 1152
+    TILLERCLOVER_CONVERTED_MAX = 1152,
+    /* the memory of waiting records */
+    TILLERCLOVER_WAITING_LENGTH = 6504
 };
 
 /* ---- Numbers in tables and records */
@@ -118,12 +122,13 @@ enum tillerclover_permission {
 };
 
 /* Answers. 1 to 16 and 22 are refusals of a record. The checks are made in this order, and the first
- * that applies is given: 1 to 7, then 16, then 8 to 14, then 22, then 15. 17 and 18 are
+ * that applies is given: 1 to 7, then 16, then 8 to 14, then 22, then 15. Handing in makes 1 to 7 and
+ * then 26; a take makes 1 and then 27, and then those of the record taken. 17 and 18 are
  * tillerclover_access_list's, 19 to 21 tillerclover_test_list's, 23 to 25
  * tillerclover_convert_list's. */
 enum tillerclover_answer {
     TILLERCLOVER_PERMITTED = 0,
-    /* the tables are not sound */
+    /* the tables are not sound, or the memory of waiting records is not */
     TILLERCLOVER_NOT_SOUND = 1,
     /* the record has under 4 or over 256 bytes */
     TILLERCLOVER_BAD_LENGTH = 2,
@@ -155,7 +160,7 @@ enum tillerclover_answer {
     /* this application resource has no endpoint for the connection: none that is secure for
      * AUTH_CRYPT, none that is unsecure for ANON_CLEAR */
     TILLERCLOVER_NO_ENDPOINT = 16,
-    /* no text: the tables are not sound */
+    /* no text: the tables are not sound, or the memory of waiting records is not */
     TILLERCLOVER_LIST_NOT_SOUND = 17,
     /* no text: it is longer than the buffer lent for it */
     TILLERCLOVER_LIST_NO_ROOM = 18,
@@ -173,7 +178,11 @@ enum tillerclover_answer {
     /* no rows: there would be more than TILLERCLOVER_ACE_CAPACITY */
     TILLERCLOVER_CONVERT_TOO_MANY = 24,
     /* no rows: they are longer than the buffer lent for them */
-    TILLERCLOVER_CONVERT_NO_ROOM = 25
+    TILLERCLOVER_CONVERT_NO_ROOM = 25,
+    /* not kept: a record of this sender waits already */
+    TILLERCLOVER_OCCUPIED = 26,
+    /* nothing taken: no record waits */
+    TILLERCLOVER_NOTHING_WAITING = 27
 };
 
 /* ---- Structs */
@@ -215,6 +224,19 @@ typedef struct tillerclover_tables {
     uint8_t aces[TILLERCLOVER_ACE_CAPACITY * TILLERCLOVER_ACE_LENGTH];
 } tillerclover_tables;
 
+/* The records that wait, one for each credential row and one for all unauthenticated senders, and whose turn it is.
+ *
+ * All zero is fresh: nothing waits. Any content is allowed; memory that is not sound beside the tables gets
+ * TILLERCLOVER_NOT_SOUND, and tillerclover_clear takes it. The bytes: how many records wait (8 bits); where the
+ * round stands (24), zeros or 1 and the credential number of the last record taken; 25 slots of 260 bytes, the
+ * used ones first, each with its sender's credential number (16, 0 for unauthenticated senders), the record's
+ * length (16) and the record, zeros behind it. Keep it with the tables: each call that takes it leaves in it what
+ * belongs to the tables that it hands back.
+ */
+typedef struct tillerclover_waiting {
+    uint8_t bytes[TILLERCLOVER_WAITING_LENGTH];
+} tillerclover_waiting;
+
 /* What becomes of a record.
  *
  * Compare outcomes field by field: the padding between them has no set content.
@@ -249,6 +271,19 @@ typedef struct tillerclover_outcome {
     tillerclover_tables tables;
 } tillerclover_outcome;
 
+/* What becomes of a take: the record whose turn it was, by value, and its outcome.
+ *
+ * The payload is the outcome's `length` bytes from record + start on, in this struct.
+ */
+typedef struct tillerclover_taken {
+    tillerclover_outcome outcome;
+    /* how many bytes the record has; 0 with TILLERCLOVER_NOT_SOUND before it was judged and with
+     * TILLERCLOVER_NOTHING_WAITING */
+    size_t size;
+    /* zeros behind the record */
+    uint8_t record[TILLERCLOVER_RECORD_MAX];
+} tillerclover_taken;
+
 /* What becomes of a call for the access list. */
 typedef struct tillerclover_listed {
     /* TILLERCLOVER_PERMITTED, TILLERCLOVER_LIST_NOT_SOUND or TILLERCLOVER_LIST_NO_ROOM */
@@ -279,8 +314,8 @@ typedef struct tillerclover_converted {
 
 /* The build's default rows.
  *
- * tillerclover_fresh, tillerclover_clear and tillerclover_judge take them as two lists: `creds`, of
- * TILLERCLOVER_CRED_LENGTH bytes for a row, one after the other, and `aces`, of TILLERCLOVER_ACE_LENGTH
+ * tillerclover_fresh, tillerclover_clear, tillerclover_judge and tillerclover_take take them as two lists:
+ * `creds`, of TILLERCLOVER_CRED_LENGTH bytes for a row, one after the other, and `aces`, of TILLERCLOVER_ACE_LENGTH
  * bytes, each the longest body that stores the row, with the length of the list in bytes. A list has at
  * most TILLERCLOVER_DEFAULTS_MAX rows. One with more, with a row that no record could store, with a
  * number twice or with half a row counts as none, by itself and wholly. Hand all calls of a terminal
@@ -288,16 +323,21 @@ typedef struct tillerclover_converted {
  * that of a record of length 0.
  */
 
-/* The tables of a new terminal: state RFOTM, no owner, the default rows. */
-tillerclover_tables tillerclover_fresh(const uint8_t *creds, size_t creds_length, const uint8_t *aces,
-                                       size_t aces_length);
-
-/* The clear button: the tables of a new terminal, whatever the content of `tables`. */
-tillerclover_tables tillerclover_clear(tillerclover_tables tables, const uint8_t *creds, size_t creds_length,
+/* The tables of a new terminal: state RFOTM, no owner, the default rows. Nothing waits in `waiting` then. */
+tillerclover_tables tillerclover_fresh(tillerclover_waiting *waiting, const uint8_t *creds, size_t creds_length,
                                        const uint8_t *aces, size_t aces_length);
 
-/* Judges a record of `length` bytes on `tables`, with a buffer of `room` bytes for a reply.
+/* The clear button: the tables of a new terminal, whatever the content of `tables`, and nothing waits. */
+tillerclover_tables tillerclover_clear(tillerclover_tables tables, tillerclover_waiting *waiting,
+                                       const uint8_t *creds, size_t creds_length, const uint8_t *aces,
+                                       size_t aces_length);
+
+/* Judges a record of `length` bytes on `tables` at once, with a buffer of `room` bytes for a reply. It waits
+ * in no queue and leaves those that do where they are, but for these: with a deleted credential row its
+ * waiting record goes, and after a RESET none waits.
  *
+ * waiting is the memory that belongs to the tables. Nothing else reads or writes it during the call. It stays
+ *         byte for byte unless a credential row is added or removed or the tables are cleared.
  * clock   is the terminal's clock as the record comes, in the seconds that the access rows' periods
  *         count. Any value is allowed, also one before that of an earlier call: it is kept nowhere.
  * record  points to at least `length` bytes that nothing changes during the call. They are read,
@@ -322,9 +362,28 @@ tillerclover_tables tillerclover_clear(tillerclover_tables tables, const uint8_t
  * Who sent the record is believed: the session layer vouches for the connection bit and the
  * credential number, and hands over no record whose number is another sender's.
  */
-tillerclover_outcome tillerclover_judge(tillerclover_tables tables, const uint8_t *creds, size_t creds_length,
-                                        const uint8_t *aces, size_t aces_length, uint32_t clock,
-                                        const uint8_t *record, size_t length, uint8_t *reply, size_t room);
+tillerclover_outcome tillerclover_judge(tillerclover_tables tables, tillerclover_waiting *waiting,
+                                        const uint8_t *creds, size_t creds_length, const uint8_t *aces,
+                                        size_t aces_length, uint32_t clock, const uint8_t *record, size_t length,
+                                        uint8_t *reply, size_t room);
+
+/* Hands a record of `length` bytes in: it waits in its sender's place, byte for byte, until its turn comes.
+ * TILLERCLOVER_PERMITTED says no more than that it is kept; whether it may pass is decided at its take. The
+ * outcome's other fields are empty, and its tables are those that were handed in. A sender whose record waits
+ * gets TILLERCLOVER_OCCUPIED. On a refusal the memory stays byte for byte.
+ */
+tillerclover_outcome tillerclover_hand_in(tillerclover_tables tables, tillerclover_waiting *waiting,
+                                          const uint8_t *record, size_t length);
+
+/* Takes the record whose turn it is, and judges it as tillerclover_judge does, at this clock. Turns go round
+ * from the unauthenticated senders' place through the credential rows in table order, starting after the last
+ * place taken, so that in sound tables a record waits for 25 takes at most while no credential row is added or
+ * removed and the tables are not cleared. The place is emptied also where the record is refused. With
+ * TILLERCLOVER_NOTHING_WAITING, and where the tables or the memory are not sound, nothing changes.
+ */
+tillerclover_taken tillerclover_take(tillerclover_tables tables, tillerclover_waiting *waiting,
+                                     const uint8_t *creds, size_t creds_length, const uint8_t *aces,
+                                     size_t aces_length, uint32_t clock, uint8_t *reply, size_t room);
 
 /* The access list of `tables` as the office's JSON, `{"aclist2":[..]}` with the rows in table order: ASCII
  * with no white space and no byte 0 at its end. Rows with a shorter period than 0 to 4,294,967,295 are left
@@ -336,7 +395,8 @@ tillerclover_outcome tillerclover_judge(tillerclover_tables tables, const uint8_
  *         do all of them where there is none. With room 0 the pointer is treated as that of a record
  *         of length 0.
  */
-tillerclover_listed tillerclover_access_list(tillerclover_tables tables, uint8_t *text, size_t room);
+tillerclover_listed tillerclover_access_list(tillerclover_tables tables, const tillerclover_waiting *waiting,
+                                             uint8_t *text, size_t room);
 
 /* Tests a list of access rows before it is loaded: rows of TILLERCLOVER_ACE_LENGTH bytes one after the
  * other, each as the tables hold it. The size comes first, then row by row TILLERCLOVER_TEST_NOT_STORABLE
@@ -396,6 +456,12 @@ TILLERCLOVER_ASSERT(offsetof(tillerclover_outcome, many) == 40, "many");
 TILLERCLOVER_ASSERT(offsetof(tillerclover_outcome, set) == 48, "set");
 TILLERCLOVER_ASSERT(offsetof(tillerclover_outcome, size) == 56, "size");
 TILLERCLOVER_ASSERT(offsetof(tillerclover_outcome, tables) == 64, "tables");
+
+TILLERCLOVER_ASSERT(sizeof(tillerclover_waiting) == 6504, "the memory of waiting records has 6,504 bytes");
+TILLERCLOVER_ASSERT(sizeof(tillerclover_taken) == 2504, "what a take gives has 2,504 bytes");
+TILLERCLOVER_ASSERT(offsetof(tillerclover_taken, outcome) == 0, "outcome");
+TILLERCLOVER_ASSERT(offsetof(tillerclover_taken, size) == 2240, "size");
+TILLERCLOVER_ASSERT(offsetof(tillerclover_taken, record) == 2248, "record");
 
 TILLERCLOVER_ASSERT(sizeof(tillerclover_listed) == 16, "what is said of a list has 16 bytes");
 TILLERCLOVER_ASSERT(offsetof(tillerclover_listed, answer) == 0, "answer");

@@ -1,5 +1,6 @@
 //! The proved library, as C sees it. include/tillerclover.h declares the same.
 
+use std::cell::RefCell;
 use std::mem::offset_of;
 use std::ops::Range;
 
@@ -56,9 +57,16 @@ const _: () = assert!(size_of::<Outcome>() == 2240);
 
 #[link(name = "terminal", kind = "static")]
 extern "C" {
-    fn tillerclover_fresh(creds: *const u8, creds_length: usize, aces: *const u8, aces_length: usize) -> Tables;
+    fn tillerclover_fresh(
+        waiting: *mut Waiting,
+        creds: *const u8,
+        creds_length: usize,
+        aces: *const u8,
+        aces_length: usize,
+    ) -> Tables;
     fn tillerclover_clear(
         t: Tables,
+        waiting: *mut Waiting,
         creds: *const u8,
         creds_length: usize,
         aces: *const u8,
@@ -66,6 +74,7 @@ extern "C" {
     ) -> Tables;
     fn tillerclover_judge(
         t: Tables,
+        waiting: *mut Waiting,
         creds: *const u8,
         creds_length: usize,
         aces: *const u8,
@@ -76,9 +85,28 @@ extern "C" {
         reply: *mut u8,
         room: usize,
     ) -> Outcome;
-    fn tillerclover_access_list(t: Tables, text: *mut u8, room: usize) -> Listing;
+    fn tillerclover_access_list(t: Tables, waiting: *const Waiting, text: *mut u8, room: usize) -> Listing;
     fn tillerclover_test_list(rows: *const u8, length: usize) -> Verdict;
     fn tillerclover_convert_list(file: *const u8, length: usize, rows: *mut u8, room: usize) -> Listing;
+}
+
+/// The memory of waiting records.
+#[repr(C)]
+pub struct Waiting {
+    bytes: [u8; Waiting::SIZE],
+}
+
+impl Waiting {
+    pub const SIZE: usize = 6504;
+
+    /// Nothing waits, and the round begins anew.
+    pub const fn fresh() -> Waiting {
+        Waiting { bytes: [0; Waiting::SIZE] }
+    }
+
+    pub fn is_fresh(&self) -> bool {
+        self.bytes.iter().all(|&byte| byte == 0)
+    }
 }
 
 impl Tables {
@@ -112,34 +140,59 @@ impl Tables {
     }
 }
 
+thread_local! {
+    static NOTHING_WAITS: RefCell<Waiting> = const { RefCell::new(Waiting::fresh()) };
+}
+
+/// What is done with one fresh memory, again and again: records judged at once leave it fresh.
+pub fn beside_fresh<R>(run: impl FnOnce(&mut Waiting) -> R) -> R {
+    NOTHING_WAITS.with(|waiting| run(&mut waiting.borrow_mut()))
+}
+
 // Each call takes and gives bytes, any of which are allowed; the pointers and lengths are those of living slices.
 
 pub fn fresh(defaults: &Defaults) -> Stored {
     let Defaults { credentials, accesses } = defaults;
-    unsafe { tillerclover_fresh(credentials.as_ptr(), credentials.len(), accesses.as_ptr(), accesses.len()) }.bytes()
+    let mut waiting = Waiting { bytes: [0x5A; Waiting::SIZE] };
+    let tables = unsafe {
+        tillerclover_fresh(&mut waiting, credentials.as_ptr(), credentials.len(), accesses.as_ptr(), accesses.len())
+    };
+    assert!(waiting.is_fresh(), "fresh tables beside memory that is not fresh");
+    tables.bytes()
 }
 
 pub fn clear(case: &Case) -> Stored {
     let Defaults { credentials, accesses } = &case.defaults;
-    unsafe {
+    let mut waiting = Waiting { bytes: [0x5A; Waiting::SIZE] };
+    let tables = unsafe {
         tillerclover_clear(
             Tables::from_bytes(&case.tables),
+            &mut waiting,
             credentials.as_ptr(),
             credentials.len(),
             accesses.as_ptr(),
             accesses.len(),
         )
-    }
-    .bytes()
+    };
+    assert!(waiting.is_fresh(), "the button left memory that is not fresh");
+    tables.bytes()
 }
 
 /// One call, as a C program makes it.
 #[inline]
-pub fn decide(tables: &Tables, defaults: &Defaults, clock: u32, record: &[u8], reply: &mut [u8]) -> Outcome {
+pub fn decide(
+    tables: &Tables,
+    waiting: &mut Waiting,
+    defaults: &Defaults,
+    clock: u32,
+    record: &[u8],
+    reply: &mut [u8],
+) -> Outcome {
     let Defaults { credentials, accesses } = defaults;
     unsafe {
         tillerclover_judge(
             *tables,
+            waiting,
             credentials.as_ptr(),
             credentials.len(),
             accesses.as_ptr(),
@@ -158,7 +211,9 @@ pub fn judge(case: &Case) -> Seen {
     // The buffer is longer than what is lent of it.
     let mut buffer = Case::pattern(case.room + BEHIND);
     let tables = Tables::from_bytes(&case.tables);
-    let outcome = decide(&tables, &case.defaults, case.clock, &case.record, &mut buffer[..case.room]);
+    let mut waiting = Waiting::fresh();
+    let outcome = decide(&tables, &mut waiting, &case.defaults, case.clock, &case.record, &mut buffer[..case.room]);
+    assert!(waiting.is_fresh(), "a record that was judged at once left something in the memory");
     Seen {
         answer: outcome.answer,
         permission: outcome.permission,
@@ -175,15 +230,16 @@ pub fn judge(case: &Case) -> Seen {
 
 /// One call for the office text, as a C program makes it.
 #[inline]
-pub fn write_list(tables: &Tables, text: &mut [u8]) -> Listing {
-    unsafe { tillerclover_access_list(*tables, text.as_mut_ptr(), text.len()) }
+pub fn write_list(tables: &Tables, waiting: &Waiting, text: &mut [u8]) -> Listing {
+    unsafe { tillerclover_access_list(*tables, waiting, text.as_mut_ptr(), text.len()) }
 }
 
 /// The same in the model's terms.
 pub fn list(case: &Case) -> Listed {
     // The buffer is longer than what is lent of it.
     let mut buffer = Case::pattern(case.room + BEHIND);
-    let Listing { answer, length } = write_list(&Tables::from_bytes(&case.tables), &mut buffer[..case.room]);
+    let Listing { answer, length } =
+        write_list(&Tables::from_bytes(&case.tables), &Waiting::fresh(), &mut buffer[..case.room]);
     Listed { answer, length, buffer }
 }
 

@@ -12,7 +12,8 @@ use Rattle.text.proofs.Buffers.{puts-then, written-start}
 use Rattle.rows.specs.Rows.{Row, rowsOf, without, joined}
 use Rattle.rows.proofs.Laws.{take-rest}
 use Rattle.rules.specs.declared.Tables.{Tables}
-use Rattle.rules.specs.Tables.{sound, rowsIn}
+use Rattle.rules.specs.Tables.{rowsIn}
+use Rattle.waiting.specs.Terminal.{Terminal, soundTerminal}
 use Rattle.rules.specs.Reading.{filled}
 use Rattle.rules.specs.Checks.{verdict, numberOf}
 use Rattle.office.specs.Office.{comma, separated, rowText, rowsText, listText, seasonal, rowsWritten, officeText, officeVerdict, officeReply}
@@ -59,29 +60,29 @@ list-puts t n h e p q r =
 
 -- ---- the three ends
 
-pub record Ends (t : Tables) (o o′ : List ℕ) (answer n : ℕ) : Type 0 where
-  pub says : answer ≡ numberOf (officeVerdict t (length o))
-  pub size : n ≡ length (officeReply t (length o))
-  pub buffer : o′ ≡ filled o (officeReply t (length o))
+pub record Ends (x : Terminal) (o o′ : List ℕ) (answer n : ℕ) : Type 0 where
+  pub says : answer ≡ numberOf (officeVerdict x (length o))
+  pub size : n ≡ length (officeReply x (length o))
+  pub buffer : o′ ≡ filled o (officeReply x (length o))
 
-module _ (t : Tables) (o : List ℕ) where
-  pub not-sound : sound t ≡ false → Ends t o o 17 0
+module _ (x : Terminal) (o : List ℕ) where
+  pub not-sound : soundTerminal x ≡ false → Ends x o o 17 0
   unfolding officeReply officeVerdict verdict filled
   not-sound e = record { says = rw e; size = rw e; buffer = rw e }
 
   -- the length that was measured is the text's
-  measured : (n : ℕ) → n ≡ min (0 + length (officeText t)) largest → n ≡ length (officeText t)
-  measured n e = omega (arith, text-short t)
+  measured : (n : ℕ) → n ≡ min (0 + length (officeText (x .tables))) largest → n ≡ length (officeText (x .tables))
+  measured n e = omega (arith, text-short (x .tables))
 
-  pub too-short : (n : ℕ) → sound t ≡ true → n ≡ min (0 + length (officeText t)) largest → length o < n → Ends t o o 18 0
+  pub too-short : (n : ℕ) → soundTerminal x ≡ true → n ≡ min (0 + length (officeText (x .tables))) largest → length o < n → Ends x o o 18 0
   unfolding officeReply officeVerdict verdict filled
   too-short n e m h =
-      let l = lt-ltb (length o) (length (officeText t)) (omega (arith, measured n m)) in
+      let l = lt-ltb (length o) (length (officeText (x .tables))) (omega (arith, measured n m)) in
       record { says = rw (e, l); size = rw (e, l); buffer = rw (e, l) }
 
-  pub all-written : {o′ : List ℕ} (n r : ℕ) → sound t ≡ true → n ≡ min (0 + length (officeText t)) largest → n ≤ length o → Puts o 0 (officeText t) o′ r → Ends t o o′ 0 r
+  pub all-written : {o′ : List ℕ} (n r : ℕ) → soundTerminal x ≡ true → n ≡ min (0 + length (officeText (x .tables))) largest → n ≤ length o → Puts o 0 (officeText (x .tables)) o′ r → Ends x o o′ 0 r
   unfolding officeReply officeVerdict verdict filled
   all-written {o′} n r e m h p =
-      let f : length (officeText t) ≤ length o = omega (arith, measured n m) in
-      let l = le-ltb (length o) (length (officeText t)) f in
-      record { says = rw (e, l); size = rw (e, l) (measured r (p .next)); buffer = rw (e, l) (p .buffer ∙ written-start o (officeText t) f) }
+      let f : length (officeText (x .tables)) ≤ length o = omega (arith, measured n m) in
+      let l = le-ltb (length o) (length (officeText (x .tables))) f in
+      record { says = rw (e, l); size = rw (e, l) (measured r (p .next)); buffer = rw (e, l) (p .buffer ∙ written-start o (officeText (x .tables)) f) }

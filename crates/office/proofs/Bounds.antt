@@ -17,7 +17,8 @@ use Rattle.rules.specs.declared.Tables.{Tables}
 use Rattle.rules.specs.Bits.{bits}
 use Rattle.rules.specs.Bodies.{aceKind, aceSubject, aceConnection, acePermission}
 use Rattle.rules.specs.declared.Check.the-variants.{Pass}
-use Rattle.rules.specs.Tables.{rowsIn, sound}
+use Rattle.rules.specs.Tables.{rowsIn}
+use Rattle.waiting.specs.Terminal.{Terminal, soundTerminal}
 use Rattle.rules.specs.Checks.{verdict}
 use Rattle.rules.proofs.Bools.{cond-cases}
 use Rattle.rules.proofs.BitLaws.{bits-below}
@@ -134,6 +135,6 @@ text-short t =
     let few : length ws ≤ 32 = rw (length-rowsOf 36 (min (t .naces) 32) (t .aces)) (min-le-right (t .naces) 32) in
     list-length (rowsWritten ws) (omega (arith, length-without seasonal ws, few))
 
-pub never-18 : (t : Tables) → sound t ≡ true → officeVerdict t 13069 ≡ Pass
+pub never-18 : (x : Terminal) → soundTerminal x ≡ true → officeVerdict x 13069 ≡ Pass
 unfolding officeVerdict verdict
-never-18 t h = rw (h, le-ltb 13069 (length (officeText t)) (text-short t))
+never-18 x h = rw (h, le-ltb 13069 (length (officeText (x .tables))) (text-short (x .tables)))

@@ -14,8 +14,9 @@ use Rattle.rules.specs.declared.Check.{Check}
 use Rattle.rules.specs.declared.Check.the-variants.{Pass, Refuse}
 use Rattle.rules.specs.Lookup.{lookup}
 use Rattle.rules.specs.Bodies.{rowNumber, aceKind, acePermission, acePlus, aceMinus, aceStar, inSet, aceSubject, aceAuthority, aceRole, aceConnection, aceFirst, aceLast}
-use Rattle.rules.specs.Tables.{rows, sound}
+use Rattle.rules.specs.Tables.{rows}
 use Rattle.rules.specs.Checks.{verdict}
+use Rattle.waiting.specs.Terminal.{Terminal, soundTerminal}
 
 -- ---- a UUID: lower case, 8-4-4-4-12
 
@@ -133,16 +134,17 @@ officeText t = listText (rowsWritten (rows Aces t))
 
 -- ---- the answer, the length and the lent buffer afterwards
 
-abbrev pub officeChecks : Tables → ℕ → List (ℕ × Bool)
-officeChecks t room = (17, not (sound t)) ∷ (18, ltb room (length (officeText t))) ∷ []
+-- 17 covers what waits too, as check 1 does (U13)
+abbrev pub officeChecks : Terminal → ℕ → List (ℕ × Bool)
+officeChecks x room = (17, not (soundTerminal x)) ∷ (18, ltb room (length (officeText (x .tables)))) ∷ []
 
 -- the text that is given after a verdict
-abbrev pub given : Tables → Check → List ℕ
-given t Pass = officeText t
-given t (Refuse n) = []
+abbrev pub given : Terminal → Check → List ℕ
+given x Pass = officeText (x .tables)
+given x (Refuse n) = []
 
-unfoldable pub officeVerdict : Tables → ℕ → Check
-officeVerdict t room = verdict (officeChecks t room)
+unfoldable pub officeVerdict : Terminal → ℕ → Check
+officeVerdict x room = verdict (officeChecks x room)
 
-unfoldable pub officeReply : Tables → ℕ → List ℕ
-officeReply t room = given t (officeVerdict t room)
+unfoldable pub officeReply : Terminal → ℕ → List ℕ
+officeReply x room = given x (officeVerdict x room)

@@ -50,12 +50,13 @@ fn start_tables() -> Tables
     tables::defaults::fresh(b"", b"")
 }
 
-// Judges a record with a buffer that fits any reply.
+// Judges a record with a buffer that fits any reply. Nothing waits in a run, so that the memory is fresh beside each record.
 fn judge_one(t: Tables, clock: u32, record: &[u8]) -> Judgement
     ensures { λ r. ⌜ r ≡ judgementOf (outcome noDefaults t (lent clock (now («record» .entry)))) ⌝ }
 {
+    let mut memory = [0u8; 6504];
     let mut reply = [0u8; 1168];
-    judge::judge(t, b"", b"", clock, record, &mut reply)
+    judge::judge(t, &mut memory, b"", b"", clock, record, &mut reply)
 }
 
 // The lines of a run, from fresh tables.

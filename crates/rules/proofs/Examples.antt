@@ -49,7 +49,7 @@ unfoldable pub uuid : List ℕ
 uuid = replicate 16 0x11
 
 -- a body of 21 bytes, as in the paper
-pub credBody : ℕ → List ℕ
+unfoldable pub credBody : ℕ → List ℕ
 credBody n = 0 ∷ n ∷ (uuid ++ (0 ∷ 0 ∷ 4 ∷ []))
 
 -- the body of 23 bytes that says the same

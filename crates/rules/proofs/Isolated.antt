@@ -138,9 +138,9 @@ module _ (d : Defaults) (chosen : Sender → Bool) where
 
   -- ---- the two sides: what is compared is the same, and both are sound or neither is
 
-  record Related (s b : Tables) : Type 0 where
-    same : compared chosen s ≡ compared chosen b
-    sound : sound s ≡ sound b
+  pub record Related (s b : Tables) : Type 0 where
+    pub same : compared chosen s ≡ compared chosen b
+    pub sound : sound s ≡ sound b
 
   -- sound tables
   module _ (s b : Tables) (e : Related s b) (h : sound s ≡ true) where
@@ -157,7 +157,7 @@ module _ (d : Defaults) (chosen : Sender → Bool) where
   compared-after : (t u : Tables) (q : Request) → sound t ≡ true → sound u ≡ true → hiddenIn chosen (tablesAfter d t q) ≡ hiddenIn chosen u → compared chosen (tablesAfter d t q) ≡ compared chosen u
   compared-after t u q h k e = compared-sound chosen (tablesAfter d t q) (sound-kept d t q h) ∙ e ∙ sym (compared-sound chosen u k)
 
-  silent : (s b : Tables) (q : Request) → isOthers chosen q ≡ false → Premise chosen b → Related s b → Related (tablesAfter d s q) b
+  pub silent : (s b : Tables) (q : Request) → isOthers chosen q ≡ false → Premise chosen b → Related s b → Related (tablesAfter d s q) b
   silent s b q o p e = record {
     same =
         bool-cases (sound s)
@@ -169,7 +169,7 @@ module _ (d : Defaults) (chosen : Sender → Bool) where
     sound = sound-same d s q ∙ e .sound;
   }
 
-  alike : (s b : Tables) (q : Request) → isOthers chosen q ≡ true → Premise chosen b → Related s b → (replyTo d s q ≡ replyTo d b q) × Related (tablesAfter d s q) (tablesAfter d b q)
+  pub alike : (s b : Tables) (q : Request) → isOthers chosen q ≡ true → Premise chosen b → Related s b → (replyTo d s q ≡ replyTo d b q) × Related (tablesAfter d s q) (tablesAfter d b q)
   alike s b q o p e =
       bool-cases (sound s)
       (λ h.

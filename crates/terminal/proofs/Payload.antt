@@ -2,23 +2,31 @@
 use Prim.Native.Nat.{ℕ, zero, suc, _≤_}
 use native.Mathlib.Omega.{arith}
 use mathlib.Core.Path.{_≡_, refl, sym, ap, _∙_}
-use mathlib.Core.Bool.{Bool, true, false, cond}
+use mathlib.Core.Bool.{Bool, true, false, cond, true≢false}
 use mathlib.Core.List.{List, [], _∷_}
 use lib.Dec.{eqb}
 use lib.ListN.{length, take, drop}
 use lib.Seq.{take-all}
 use borrow.Author.Tests.{ne-eqb}
-use Rattle.rules.specs.declared.Tables.{Tables}
+use Rattle.rules.specs.declared.Check.{Check}
+use Rattle.rules.specs.declared.Check.the-variants.{Pass, Refuse}
 use Rattle.rules.specs.Directory.{isSecurity}
-use Rattle.rules.specs.Record.{Request, resource, payloadOf}
+use Rattle.rules.specs.Record.{Request, asked, resource, payloadOf}
 use Rattle.rules.specs.Defaults.{Defaults}
-use Rattle.rules.specs.Outcome.{outcome, replyTo, payloadAt}
+use Rattle.rules.specs.Checks.{verdict}
+use Rattle.rules.specs.Outcome.{payloadAt}
 use Rattle.rules.proofs.Refusals.{payload-is}
+use Rattle.waiting.specs.Terminal.{Terminal, takeChecks, due, takeOf, taken, directChecks, directOf, judged}
+use Rattle.waiting.proofs.Refused.{among, refused-among}
 use Rattle.terminal.specs.Interface.{startOf, exported}
 
 -- the part with this start and length
 abbrev pub partAt : ℕ → ℕ → List ℕ → List ℕ
 partAt start n r = take n (drop start r)
+
+-- a refusal of a list without 0 has another number
+not-0 : (es : List (ℕ × Bool)) (n : ℕ) → among 0 es ≡ false → verdict es ≡ Refuse n → eqb n 0 ≡ false
+not-0 es n z e = ne-eqb n 0 (λ f. absurd (true≢false (sym (refused-among es n e) ∙ ap (λ (k : ℕ). among k es) f ∙ z)))
 
 -- of a payload that is empty or all that follows the header
 module _ (r : List ℕ) where
@@ -42,6 +50,33 @@ module _ (r : List ℕ) where
   of-answer true = of-record (isSecurity (resource r))
   of-answer false = none
 
-pub payload-found : (d : Defaults) (t : Tables) (q : Request) → let o = exported (outcome d t q) in partAt (o .start) (o .length) (q .bytes) ≡ replyTo d t q .payload
+-- ---- the payload goes with the answer
+
+pub judged-payload : (d : Defaults) (x : Terminal) (q : Request) → payloadAt (judged d x q .reply .answer) (q .bytes) ≡ judged d x q .reply .payload
+unfolding judged payloadAt
+judged-payload d x q = go (verdict (directChecks x)) refl
+  where
+    go : (c : Check) → verdict (directChecks x) ≡ c → payloadAt (directOf d x q c .reply .answer) (q .bytes) ≡ directOf d x q c .reply .payload
+    go Pass e = payload-is d (x .tables) q
+    go (Refuse n) e = rw (not-0 (directChecks x) n refl e)
+
+pub taken-payload : (d : Defaults) (x : Terminal) (clock room : ℕ) → payloadAt (taken d x clock room .reply .answer) (taken d x clock room .bytes) ≡ taken d x clock room .reply .payload
+unfolding taken payloadAt
+taken-payload d x clock room = go (verdict (takeChecks x)) refl
+  where
+    q : Request
+    q = asked clock (due x) room
+
+    go : (c : Check) → verdict (takeChecks x) ≡ c → payloadAt (takeOf d x q c .reply .answer) (takeOf d x q c .bytes) ≡ takeOf d x q c .reply .payload
+    go Pass e = payload-is d (x .tables) q
+    go (Refuse n) e = rw (not-0 (takeChecks x) n refl e)
+
+-- ---- so it is found: of a record judged at once, and of a record taken in the bytes that are handed out
+
+pub payload-found : (d : Defaults) (x : Terminal) (q : Request) → let o = exported (judged d x q) in partAt (o .start) (o .length) (q .bytes) ≡ judged d x q .reply .payload
 unfolding payloadAt
-payload-found d t q = rw (← payload-is d t q) (of-answer (q .bytes) (eqb (replyTo d t q .answer) 0))
+payload-found d x q = rw (← judged-payload d x q) (of-answer (q .bytes) (eqb (judged d x q .reply .answer) 0))
+
+pub payload-taken : (d : Defaults) (x : Terminal) (clock room : ℕ) → let o = exported (taken d x clock room) in partAt (o .start) (o .length) (taken d x clock room .bytes) ≡ taken d x clock room .reply .payload
+unfolding payloadAt
+payload-taken d x clock room = rw (← taken-payload d x clock room) (of-answer (taken d x clock room .bytes) (eqb (taken d x clock room .reply .answer) 0))

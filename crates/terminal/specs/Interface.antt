@@ -1,25 +1,36 @@
--- An outcome as C sees it: the payload as its start and length within the record.
+-- An answer as C sees it: the payload as its start and length within the record.
 -- A payload follows the header's four bytes; of none, both are 0. The reply's bytes stand in the lent buffer.
 use Prim.Native.Nat.{ℕ}
 use mathlib.Core.Bool.{cond}
 use lib.Dec.{eqb}
 use lib.ListN.{length}
-use Rattle.rules.specs.Outcome as rules
+use Rattle.rules.specs.declared.Judgement.{Judgement}
+use Rattle.waiting.specs.Slots.{padded}
+use Rattle.waiting.specs.Terminal.{Answered, said}
 use Rattle.terminal.specs.declared.Outcome.{Outcome}
+use Rattle.terminal.specs.declared.Turn.{Turn}
 
 unfoldable pub startOf : ℕ → ℕ
 startOf n = cond (eqb n 0) 0 4
 
-abbrev pub exported : rules.Outcome → Outcome
-exported o = record {
-  answer = o .reply .answer;
-  permission = o .reply .permission;
-  start = startOf (length (o .reply .payload));
-  length = length (o .reply .payload);
-  reply = length (o .reply .contents);
-  first = o .reply .places .first;
-  many = o .reply .places .many;
-  set = o .reply .links .set;
-  size = o .reply .links .size;
-  tables = o .tables;
+-- of a judgement, with a payload of n bytes
+abbrev pub outcomeIn : Judgement → ℕ → Outcome
+outcomeIn j n = record {
+  answer = j .answer;
+  permission = j .permission;
+  start = startOf n;
+  length = n;
+  reply = j .length;
+  first = j .places .first;
+  many = j .places .many;
+  set = j .links .set;
+  size = j .links .size;
+  tables = j .tables;
 }
+
+abbrev pub exported : Answered → Outcome
+exported a = outcomeIn (said a) (length (a .reply .payload))
+
+-- of a take: with it the record, and zeros behind it
+abbrev pub turnOf : Answered → Turn
+turnOf a = record { outcome = exported a; size = length (a .bytes); bytes = padded (a .bytes) }

@@ -1,20 +1,22 @@
 // The C interface: one call each of the library, declared in include/tillerclover.h.
-// Tables pass by value, a record and a buffer as a pointer and a length each; the payload goes out as a start and a length within the record.
+// Tables pass by value, a record and a buffer as a pointer and a length each, the memory of waiting records as a pointer;
+// the payload goes out as a start and a length within the record.
 use conversion::Converted;
 use listing::Listed;
 use lists::Tested;
+use rules::Judgement;
 use rules::Tables;
 ghost use mathlib.Core.Path.{_≡_};
-ghost use Rattle.rules.specs.Defaults.{defaults, fresh, cleared};
+ghost use Rattle.rules.specs.Defaults.{defaults};
 ghost use lib.ListN.{length};
 ghost use Rattle.rules.specs.Record.{asked};
 ghost use Rattle.rules.specs.Reading.{filled};
 ghost use Rattle.rules.specs.Checks.{numberOf};
-ghost use Rattle.rules.specs.Outcome.{outcome, replyTo};
+ghost use Rattle.waiting.specs.Terminal.{terminal, freshTerminal, clearedTerminal, handedIn, taken, judged};
 ghost use Rattle.office.specs.Office.{officeVerdict, officeReply};
 ghost use Rattle.lists.specs.Lists.{listTested};
 ghost use Rattle.legacy.specs.Conversion.{conversionVerdict, conversionReply};
-ghost use Rattle.terminal.specs.Interface.{exported, startOf};
+ghost use Rattle.terminal.specs.Interface.{startOf, outcomeIn, exported, turnOf};
 
 // What becomes of a record. Without a payload both its start and its length are 0; `reply` is the length written to the lent buffer;
 // `first` and `many` are the places of the table to store after a DELETE; `set` and `size` are the links of /yard.
@@ -32,21 +34,39 @@ pub struct Outcome {
     pub tables: Tables,
 }
 
-// The tables of a new terminal of a build with these default rows.
-// Rules out: tables that are not sound; tables with an owner.
+// What a take gives: the outcome of the record taken, and the record itself by value: its length, and its bytes with zeros behind.
+// With 1 and with 27 the length is 0.
+#[repr(C)]
+pub struct Turn {
+    pub outcome: Outcome,
+    pub size: usize,
+    pub bytes: [u8; 256],
+}
+
+// The tables of a new terminal of a build with these default rows; nothing waits.
+// Rules out: tables that are not sound; tables with an owner; a byte left in the memory.
 #[no_mangle]
-pub extern "C" fn tillerclover_fresh(creds: &[u8], aces: &[u8]) -> Tables
-    ensures { λ r. ⌜ r ≡ fresh (defaults (now (creds .entry)) (now (aces .entry))) ⌝ }
+pub extern "C" fn tillerclover_fresh(memory: &mut [u8; 6504], creds: &[u8], aces: &[u8]) -> Tables
+    ensures tables { λ r. ⌜ r ≡ freshTerminal (defaults (now (creds .entry)) (now (aces .entry))) .tables ⌝ }
+    ensures memory { λ _. ⌜ now (memory .exit) ≡ freshTerminal (defaults (now (creds .entry)) (now (aces .entry))) .memory ⌝ }
 {
+    queue::clear(memory);
     tables::defaults::fresh(creds, aces)
 }
 
-// The clear button.
-// Rules out: a button that keeps a row; one that asks for sound tables.
+// The clear button: tables and memory of any content.
+// Rules out: a button that keeps a row; one that keeps a waiting record; one that asks for sound tables.
 #[no_mangle]
-pub extern "C" fn tillerclover_clear(t: Tables, creds: &[u8], aces: &[u8]) -> Tables
-    ensures { λ r. ⌜ r ≡ cleared (defaults (now (creds .entry)) (now (aces .entry))) t ⌝ }
+pub extern "C" fn tillerclover_clear(
+    t: Tables,
+    memory: &mut [u8; 6504],
+    creds: &[u8],
+    aces: &[u8],
+) -> Tables
+    ensures tables { λ r. ⌜ r ≡ clearedTerminal (defaults (now (creds .entry)) (now (aces .entry))) (terminal t (now (memory .entry))) .tables ⌝ }
+    ensures memory { λ _. ⌜ now (memory .exit) ≡ clearedTerminal (defaults (now (creds .entry)) (now (aces .entry))) (terminal t (now (memory .entry))) .memory ⌝ }
 {
+    queue::clear(memory);
     tables::defaults::clear(t, creds, aces)
 }
 
@@ -57,28 +77,15 @@ fn start_of(length: usize) -> usize
     if length == 0 { 0 } else { 4 }
 }
 
-// Judges a record.
-// Rules out: the payload of a refused record; the tables of another record; a byte of the buffer changed behind the reply.
-#[no_mangle]
-pub extern "C" fn tillerclover_judge(
-    t: Tables,
-    creds: &[u8],
-    aces: &[u8],
-    clock: u32,
-    record: &[u8],
-    reply: &mut [u8],
-) -> Outcome
-    ensures said { λ r. ⌜ r ≡ exported (outcome (defaults (now (creds .entry)) (now (aces .entry))) t (asked clock (now («record» .entry)) (length (now (reply .entry))))) ⌝ }
-    ensures buffer { λ _. ⌜ now (reply .exit) ≡ filled (now (reply .entry)) (replyTo (defaults (now (creds .entry)) (now (aces .entry))) t (asked clock (now («record» .entry)) (length (now (reply .entry)))) .contents) ⌝ }
+// What C gets of a judgement whose payload has this length.
+fn export(j: Judgement, length: usize) -> Outcome
+    ensures { λ r. ⌜ r ≡ outcomeIn j length ⌝ }
 {
-    let j = judge::judge(t, creds, aces, clock, record, reply);
     let next = j.tables;
     let places = j.places;
     let links = j.links;
-    let answer = j.answer;
-    let length = outcome::payload(record, answer).len();
     Outcome {
-        answer: answer,
+        answer: j.answer,
         permission: j.permission,
         start: start_of(length),
         length: length,
@@ -91,15 +98,82 @@ pub extern "C" fn tillerclover_judge(
     }
 }
 
+// Judges a record at once.
+// Rules out: the payload of a refused record; the tables of another record; a byte of the buffer changed behind the reply; a record that outlives its credential row.
+#[no_mangle]
+pub extern "C" fn tillerclover_judge(
+    t: Tables,
+    memory: &mut [u8; 6504],
+    creds: &[u8],
+    aces: &[u8],
+    clock: u32,
+    record: &[u8],
+    reply: &mut [u8],
+) -> Outcome
+    ensures said { λ r. ⌜ r ≡ exported (judged (defaults (now (creds .entry)) (now (aces .entry))) (terminal t (now (memory .entry))) (asked clock (now («record» .entry)) (length (now (reply .entry))))) ⌝ }
+    ensures memory { λ _. ⌜ now (memory .exit) ≡ judged (defaults (now (creds .entry)) (now (aces .entry))) (terminal t (now (memory .entry))) (asked clock (now («record» .entry)) (length (now (reply .entry)))) .terminal .memory ⌝ }
+    ensures buffer { λ _. ⌜ now (reply .exit) ≡ filled (now (reply .entry)) (judged (defaults (now (creds .entry)) (now (aces .entry))) (terminal t (now (memory .entry))) (asked clock (now («record» .entry)) (length (now (reply .entry)))) .reply .contents) ⌝ }
+{
+    let j = judge::judge(t, memory, creds, aces, clock, record, reply);
+    let length = outcome::payload(record, j.answer).len();
+    export(j, length)
+}
+
+// Hands a record in.
+// Rules out: a payload, or a permission, of a record that is only kept; a byte of the memory changed on a refusal.
+#[no_mangle]
+pub extern "C" fn tillerclover_hand_in(
+    t: Tables,
+    memory: &mut [u8; 6504],
+    record: &[u8],
+) -> Outcome
+    ensures said { λ r. ⌜ r ≡ exported (handedIn (terminal t (now (memory .entry))) (now («record» .entry))) ⌝ }
+    ensures memory { λ _. ⌜ now (memory .exit) ≡ handedIn (terminal t (now (memory .entry))) (now («record» .entry)) .terminal .memory ⌝ }
+{
+    let j = intake::hand_in(t, memory, record);
+    export(j, 0)
+}
+
+// Takes the record whose turn it is, and judges it.
+// Rules out: the payload of a refused record; a record cut short; one that waits again after it was taken.
+#[no_mangle]
+pub extern "C" fn tillerclover_take(
+    t: Tables,
+    memory: &mut [u8; 6504],
+    creds: &[u8],
+    aces: &[u8],
+    clock: u32,
+    reply: &mut [u8],
+) -> Turn
+    ensures said { λ r. ⌜ r ≡ turnOf (taken (defaults (now (creds .entry)) (now (aces .entry))) (terminal t (now (memory .entry))) clock (length (now (reply .entry)))) ⌝ }
+    ensures memory { λ _. ⌜ now (memory .exit) ≡ taken (defaults (now (creds .entry)) (now (aces .entry))) (terminal t (now (memory .entry))) clock (length (now (reply .entry))) .terminal .memory ⌝ }
+    ensures buffer { λ _. ⌜ now (reply .exit) ≡ filled (now (reply .entry)) (taken (defaults (now (creds .entry)) (now (aces .entry))) (terminal t (now (memory .entry))) clock (length (now (reply .entry))) .reply .contents) ⌝ }
+{
+    let u = judge::take(t, memory, creds, aces, clock, reply);
+    let j = u.judgement;
+    let size = u.size;
+    let bytes = u.bytes;
+    let length = outcome::payload(&bytes[..size], j.answer).len();
+    Turn {
+        outcome: export(j, length),
+        size: size,
+        bytes: bytes,
+    }
+}
+
 // The access list as office text.
 // Rules out: a byte written on 17 or 18; another list's text; a length that is not the text's.
 #[no_mangle]
-pub extern "C" fn tillerclover_access_list(t: Tables, text: &mut [u8]) -> Listed
-    ensures answer { λ r. ⌜ r .answer ≡ numberOf (officeVerdict t (length (now (text .entry)))) ⌝ }
-    ensures length { λ r. ⌜ r .length ≡ length (officeReply t (length (now (text .entry)))) ⌝ }
-    ensures buffer { λ _. ⌜ now (text .exit) ≡ filled (now (text .entry)) (officeReply t (length (now (text .entry)))) ⌝ }
+pub extern "C" fn tillerclover_access_list(
+    t: Tables,
+    memory: &[u8; 6504],
+    text: &mut [u8],
+) -> Listed
+    ensures answer { λ r. ⌜ r .answer ≡ numberOf (officeVerdict (terminal t (now (memory .entry))) (length (now (text .entry)))) ⌝ }
+    ensures length { λ r. ⌜ r .length ≡ length (officeReply (terminal t (now (memory .entry))) (length (now (text .entry)))) ⌝ }
+    ensures buffer { λ _. ⌜ now (text .exit) ≡ filled (now (text .entry)) (officeReply (terminal t (now (memory .entry))) (length (now (text .entry)))) ⌝ }
 {
-    listing::access_list(t, text)
+    listing::access_list(t, memory, text)
 }
 
 // Tests a list of access rows that the provisioning program writes.

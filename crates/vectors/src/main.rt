@@ -291,7 +291,7 @@ fn judged(p: Progress, s: &[u8], lists: &[u8]) -> Progress {
     }
 }
 
-// Judges a record with the first `room` bytes of the buffer, or all where it has fewer.
+// Judges a record beside fresh memory with the first `room` bytes of the buffer, or all where it has fewer.
 fn judge_within(
     t: Tables,
     creds: &[u8],
@@ -302,7 +302,8 @@ fn judge_within(
     room: usize,
 ) -> Judgement {
     let n = smaller(room, buffer.len());
-    judge::judge(t, creds, aces, clock, record, &mut buffer[..n])
+    let mut memory = [0u8; 6504];
+    judge::judge(t, &mut memory, creds, aces, clock, record, &mut buffer[..n])
 }
 
 fn smaller(a: usize, b: usize) -> usize

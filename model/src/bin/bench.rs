@@ -162,13 +162,16 @@ impl Case {
     }
 
     fn ask_library(&self, reply: &mut Reply) {
-        black_box(library::decide(
-            black_box(&self.given),
-            &self.put.defaults,
-            black_box(self.put.clock),
-            black_box(&self.put.record),
-            black_box(reply),
-        ));
+        black_box(library::beside_fresh(|w| {
+            library::decide(
+                black_box(&self.given),
+                w,
+                &self.put.defaults,
+                black_box(self.put.clock),
+                black_box(&self.put.record),
+                black_box(reply),
+            )
+        }));
     }
 
     fn ask_model(&self) {
@@ -439,7 +442,9 @@ fn mixed(repetitions: u64) {
     let all = [cases];
     let library = |cases: &Vec<(Put, Given)>, reply: &mut Reply| {
         for (put, given) in cases {
-            black_box(library::decide(given, &put.defaults, put.clock, &put.record, reply));
+            black_box(library::beside_fresh(|w| {
+                library::decide(given, w, &put.defaults, put.clock, &put.record, reply)
+            }));
         }
     };
     let model = |cases: &Vec<(Put, Given)>| {
@@ -490,14 +495,14 @@ fn texts(repetitions: u64) {
     let times = measure(&cases, repetitions, library, model);
     for ((rows, stored), time) in cases.iter().zip(&times) {
         let mut text = [0; LONGEST_TEXT];
-        let length = library::write_list(&Given::from_bytes(stored), &mut text).length;
+        let length = library::beside_fresh(|w| library::write_list(&Given::from_bytes(stored), w, &mut text)).length;
         println!("{:6}  {:6}  {:6.0} ns  {:7.0} ns  {:5.2}", rows.name, length, time.library, time.other, time.ratio());
     }
 }
 
 fn ask_text(given: &Given) {
     let mut text = [0; LONGEST_TEXT];
-    black_box(library::write_list(black_box(given), black_box(&mut text)));
+    black_box(library::beside_fresh(|w| library::write_list(black_box(given), w, black_box(&mut text))));
 }
 
 /// A list to load that is accepted: rows whose numbers have one high byte, or one low byte.
@@ -625,7 +630,7 @@ fn both(put: &Put) -> [Outcome; 2] {
     let given = Given::from_bytes(&put.tables);
     let (mut one, mut other) = (EMPTY, EMPTY);
     [
-        library::decide(&given, &put.defaults, put.clock, &put.record, &mut one),
+        library::beside_fresh(|w| library::decide(&given, w, &put.defaults, put.clock, &put.record, &mut one)),
         yardstick::decide(&given, &put.defaults, put.clock, &put.record, &mut other),
     ]
 }
@@ -799,7 +804,7 @@ fn stack() {
     println!("the same by hand: at most {bytes} bytes (`{name}`)");
     let given = Given::from_bytes(&Rows::KINDS[2].serving().bytes());
     let text = depth(&|buffer| {
-        black_box(library::write_list(black_box(&given), black_box(&mut buffer[..])));
+        black_box(library::beside_fresh(|w| library::write_list(black_box(&given), w, black_box(&mut buffer[..]))));
     });
     println!("stack of an office text of full tables, tables included: {text} bytes");
     let full = list(Access::CAPACITY as u16, 1);

@@ -6,7 +6,7 @@ use Rattle.vectors.proofs.judge_within.Statement.{statement}
 use Rattle.vectors.proofs.judge_within.Tie as tie
 
 slice-aggregate-judge : tie.Need-slice-aggregate-judge
-slice-aggregate-judge c = let n = c .before in sym (length-take-le (n .smaller .result) _ (n .smaller .ensures))
+slice-aggregate-judge c = let n = c .before .before in sym (length-take-le (n .smaller .result) _ (n .smaller .ensures))
 
 pub judge-within-spec : {M : Type 1} → statement M
 judge-within-spec =

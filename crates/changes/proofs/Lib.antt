@@ -1,0 +1,2 @@
+-- The law of a loop that takes rows out.
+pub mod Going

@@ -1,0 +1,2 @@
+-- Laws of hand-in, as the code does it.
+mod Laws

@@ -1,0 +1,76 @@
+// Hand-in: a record that passes the checks 1 to 7 and 26 waits in its sender's seat.
+// It asks nothing of its caller.
+use form::check_sender;
+use outcome::refused;
+use rows::Found;
+use rules::CRED_ROWS;
+use rules::Check;
+use rules::Head;
+use rules::Judgement;
+use rules::Tables;
+use slots::check_terminal;
+ghost use mathlib.Core.Path.{_≡_};
+ghost use Prim.Native.Nat.{ℕ, _≤_};
+ghost use lib.ListN.{length, getD};
+ghost use Rattle.rules.specs.Tables.{tablesOf};
+ghost use Rattle.rules.specs.Checks.{refuseIf, verdict};
+ghost use Rattle.waiting.specs.Slots.{seatOf, waiting};
+ghost use Rattle.waiting.specs.Round.{occupied};
+ghost use Rattle.waiting.specs.Terminal.{terminal, handInChecks, handedIn, said};
+
+// Check 26: the sender's seat is occupied.
+fn check_free(memory: &[u8], record: &[u8]) -> Check
+    requires { ⌜ (length (now memory) ≡ 6504) × (getD (now memory) 0 0 ≤ 25) × (4 ≤ length (now «record»)) ⌝ }
+    ensures { λ c. ⌜ c ≡ refuseIf 26 (occupied (waiting (now (memory .entry))) (seatOf (now («record» .entry)))) ⌝ }
+{
+    let count = memory[0] as usize;
+    let Found::At(_) = rows::find(&memory[4..], 260, count, 0, &record[2..4]) else {
+        return Check::Pass;
+    };
+    Check::Refuse(26)
+}
+
+// The first of the checks 1 to 7 and 26 that applies.
+fn check_hand_in<'a>(
+    h: Head,
+    creds: &'a [u8; CRED_ROWS],
+    aces: &'a [u8; 1152],
+    memory: &[u8; 6504],
+    record: &[u8],
+) -> Check
+    ensures { λ c. ⌜ c ≡ verdict (handInChecks (terminal (tablesOf h (now (creds .entry)) (now (aces .entry))) (now (memory .entry))) (now («record» .entry))) ⌝ }
+{
+    let c = check_terminal(h, creds, aces, memory);
+    let Check::Pass = c else {
+        return c;
+    };
+    let c = check_sender(h, creds, aces, record);
+    let Check::Pass = c else {
+        return c;
+    };
+    check_free(memory, record)
+}
+
+// Hands a record in: the answer, with permission 0 and all else empty. The tables come back as they are.
+// Rules out: a record kept beside another of its sender; one that lost a byte; a byte of the memory changed on a refusal; an answer 0 that permits.
+pub fn hand_in(t: Tables, memory: &mut [u8; 6504], record: &[u8]) -> Judgement
+    ensures said { λ r. ⌜ r ≡ said (handedIn (terminal t (now (memory .entry))) (now («record» .entry))) ⌝ }
+    ensures memory { λ _. ⌜ now (memory .exit) ≡ handedIn (terminal t (now (memory .entry))) (now («record» .entry)) .terminal .memory ⌝ }
+{
+    let devowner = t.devowner;
+    let rowners = t.rowners;
+    let h = Head {
+        state: t.state,
+        owned: t.owned,
+        ncreds: t.ncreds,
+        naces: t.naces,
+        devowner: devowner,
+        rowners: rowners,
+    };
+    let c = check_hand_in(h, &t.creds, &t.aces, memory, record);
+    let Check::Pass = c else {
+        return refused(t, c);
+    };
+    queue::keep(memory, record);
+    refused(t, c)
+}

@@ -1,0 +1,130 @@
+-- Laws of a take, as the code does it: nothing taken, or the record that is due, handed out and judged, and its seat left.
+use Prim.Native.Nat.{ℕ, _-_, _≤_}
+use native.Mathlib.Omega.{arith}
+use mathlib.Core.Path.{_≡_, refl, sym, ap, ap₂, _∙_}
+use mathlib.Core.Bool.{Bool, true, false, not, _&&_}
+use mathlib.Core.List.{List, [], _∷_, _++_}
+use lib.Dec.{eqb}
+use lib.ListN.{length, take, getD, replicate, length-append}
+use lib.Seq.{take-at}
+use Rattle.rows.specs.Rows.{Row, hasKey, every, without, distinctNumbers}
+use Rattle.rows.proofs.Kept.{every-without, distinct-without}
+use Rattle.rules.specs.declared.Tables.{Tables}
+use Rattle.rules.specs.declared.Check.{Check}
+use Rattle.rules.specs.declared.Check.the-variants.{Pass, Refuse}
+use Rattle.rules.specs.declared.Judgement.{Judgement}
+use Rattle.rules.specs.Record.{Request, asked}
+use Rattle.rules.specs.Tables.{sound}
+use Rattle.rules.specs.Defaults.{Defaults}
+use Rattle.rules.specs.Reading.{filled}
+use Rattle.rules.specs.Checks.{verdict, numberOf}
+use Rattle.rules.specs.Outcome.{outcome, replyTo, judgementOf, refusal}
+use Rattle.waiting.specs.declared.Taken.{Taken}
+use Rattle.waiting.specs.Slots.{Seat, Round, after, padded, roundOf, waiting, memoryOf}
+use Rattle.waiting.specs.Terminal.{Terminal, terminal, Answered, slotSound, memorySound, soundTerminal, memoryAfter, takeChecks, turn, due, takeOf, taken, said, handedOut}
+use Rattle.waiting.proofs.SlotLaws.{memory-sound, waiting-back, round-back, slots-long}
+use Rattle.waiting.proofs.Held.{few-slots}
+use Rattle.waiting.proofs.Sound.{Sound, terminal-parts, turn-is, take-passed}
+use Rattle.queue.specs.Queue.{IsQueue}
+use Rattle.queue.proofs.Queues.{memory-queue, sound-queue}
+use Rattle.turns.specs.declared.Due.{Due}
+use Rattle.turns.specs.Turns.{dueOf}
+
+padded-back : (r : List ℕ) → take (length r) (padded r) ≡ r
+unfolding padded
+padded-back r = take-at r (replicate (256 - length r) 0) (length r) refl
+
+padded-long : (r : List ℕ) → length r ≤ length (padded r)
+unfolding padded
+padded-long r = omega (arith, length-append r (replicate (256 - length r) 0))
+
+-- ---- the record handed to the decision
+
+module _ (x : Terminal) (q : Due) (is : q ≡ dueOf x) where
+  pub prefix-fits : q .size ≤ length (q .bytes)
+  prefix-fits = rw is (padded-long (due x))
+
+  pub prefix-is : take (q .size) (q .bytes) ≡ due x
+  prefix-is = ap (λ (z : Due). take (z .size) (z .bytes)) is ∙ padded-back (due x)
+
+  pub prefix-long : q .size ≡ length (take (q .size) (q .bytes))
+  prefix-long = ap (λ (z : Due). z .size) is ∙ sym (ap length prefix-is)
+
+  pub seat-is : q .seat ≡ turn x
+  seat-is = ap (λ (z : Due). z .seat) is
+
+-- ---- the seat left
+
+module _ (t : Tables) (m : List ℕ) (h : soundTerminal (terminal t m) ≡ true) (w : eqb (length (waiting m)) 0 ≡ false) where
+  abbrev pub others : List Row
+  others = without (hasKey 0 (turn (terminal t m))) (waiting m)
+
+  s : Sound (terminal t m)
+  s = terminal-parts (terminal t m) h
+
+  two : length (turn (terminal t m)) ≡ 2
+  two = turn-is (terminal t m) h w .two
+
+  all : every (slotSound t) others ≡ true
+  all = every-without (slotSound t) (hasKey 0 (turn (terminal t m))) (waiting m) (s .keeps)
+
+  distinct : distinctNumbers others ≡ true
+  distinct = distinct-without (hasKey 0 (turn (terminal t m))) (waiting m) (s .apart)
+
+  few : length others ≤ 25
+  few = few-slots t others (s .tables) all distinct
+
+  pub can-leave : (p : Seat) → p ≡ turn (terminal t m) → IsQueue m × (length p ≡ 2)
+  can-leave p e = (sound-queue t m h, ap length e ∙ two)
+
+  pub left-queue : (m′ : List ℕ) → m′ ≡ memoryOf (after (turn (terminal t m))) others → IsQueue m′
+  left-queue m′ e = rw e (memory-queue t (memoryOf (after (turn (terminal t m))) others) (memory-sound t (after (turn (terminal t m))) others two few all distinct))
+
+  pub left-round : roundOf (memoryOf (after (turn (terminal t m))) others) ≡ after (turn (terminal t m))
+  left-round = round-back (after (turn (terminal t m))) others two
+
+  pub left-waiting : waiting (memoryOf (after (turn (terminal t m))) others) ≡ others
+  left-waiting = waiting-back (after (turn (terminal t m))) others two few (slots-long t others all)
+
+-- ---- the take
+
+module _ (d : Defaults) (t : Tables) (m : List ℕ) (clock room : ℕ) (c : Check) (told : c ≡ verdict (takeChecks (terminal t m))) where
+  -- what is handed out, the memory and the buffer
+  abbrev pub Ends : Taken → List ℕ → List ℕ → List ℕ → Type 0
+  Ends r m′ b b′ =
+      (r ≡ handedOut (taken d (terminal t m) clock room))
+      × ((m′ ≡ taken d (terminal t m) clock room .terminal .memory) × (b′ ≡ filled b (taken d (terminal t m) clock room .reply .contents)))
+
+  pub ready : c ≡ Pass → (soundTerminal (terminal t m) ≡ true) × (eqb (length (waiting m)) 0 ≡ false)
+  ready e = take-passed (terminal t m) (sym told ∙ e)
+
+  pub nothing-taken : (n : ℕ) → c ≡ Refuse n → (j : Judgement) → j ≡ refusal t (numberOf c) → (z : List ℕ) → z ≡ replicate 256 0 → (b : List ℕ) → Ends (record { judgement = j; size = 0; bytes = z }) m b b
+  unfolding taken padded filled
+  nothing-taken n e j f z i b =
+      let v : Refuse n ≡ verdict (takeChecks (terminal t m)) = sym e ∙ told in
+      let q = asked clock (due (terminal t m)) room in (
+        ap₂ (λ (k : Judgement) (l : List ℕ). record { judgement = k; size = 0; bytes = l }) (f ∙ ap (λ (k : Check). refusal t (numberOf k)) e) i ∙ ap (λ (k : Check). handedOut (takeOf d (terminal t m) q k)) v,
+        (ap (λ (k : Check). takeOf d (terminal t m) q k .terminal .memory) v, ap (λ (k : Check). filled b (takeOf d (terminal t m) q k .reply .contents)) v),
+      )
+
+  module _ (e : c ≡ Pass) (q : Due) (is : q ≡ dueOf (terminal t m)) where
+    abbrev pub handed : Request
+    handed = asked clock (take (q .size) (q .bytes)) room
+
+    handed-is : handed ≡ asked clock (due (terminal t m)) room
+    handed-is = ap (λ (r : List ℕ). asked clock r room) (prefix-is (terminal t m) q is)
+
+    -- by the memory that is left
+    pub one-taken : (j : Judgement) (m′ b b′ : List ℕ) → j ≡ judgementOf (outcome d t handed) → b′ ≡ filled b (replyTo d t handed .contents)
+        → m′ ≡ memoryAfter d t handed (after (turn (terminal t m))) (without (hasKey 0 (turn (terminal t m))) (waiting m))
+        → Ends (record { judgement = j; size = q .size; bytes = q .bytes }) m′ b b′
+    unfolding taken
+    one-taken j m′ b b′ f g h =
+        let v : Pass ≡ verdict (takeChecks (terminal t m)) = sym e ∙ told in
+        let r = asked clock (due (terminal t m)) room in (
+          ap₂ (λ (k : Judgement) (z : Due). record { judgement = k; size = z .size; bytes = z .bytes }) (f ∙ ap (λ (i : Request). judgementOf (outcome d t i)) handed-is) is ∙ ap (λ (k : Check). handedOut (takeOf d (terminal t m) r k)) v,
+          (
+            h ∙ ap (λ (i : Request). memoryAfter d t i (after (turn (terminal t m))) (without (hasKey 0 (turn (terminal t m))) (waiting m))) handed-is ∙ ap (λ (k : Check). takeOf d (terminal t m) r k .terminal .memory) v,
+            g ∙ ap (λ (i : Request). filled b (replyTo d t i .contents)) handed-is ∙ ap (λ (k : Check). filled b (takeOf d (terminal t m) r k .reply .contents)) v,
+          ),
+        )

@@ -1,0 +1,52 @@
+-- `check_take`: the terminal, then whether a record waits.
+use mathlib.Core.Path.{_≡_, sym, ap, _∙_}
+use Prim.Native.Nat.{ℕ}
+use denote.Ref.{now}
+use lib.Dec.{eqb}
+use borrow.Author.Tests.{not-false}
+use Rattle.rules.specs.Tables.{tablesOf}
+use Rattle.rules.specs.Checks.{refuseIf}
+use Rattle.rules.proofs.CheckLaws.{stop, skip, last, not-applied}
+use Rattle.queue.proofs.Queues.{count-is}
+use borrow.Author.Needs.{needs}
+use Rattle.judge.proofs.check_take.Statement.{statement}
+use Rattle.judge.proofs.check_take.Tie as tie
+
+check-terminal-requires : tie.Need-check-terminal-requires
+check-terminal-requires c κs = search needs
+
+enum-told : tie.Need-enum-told
+enum-told c = search needs
+
+enum-told-2 : tie.Need-enum-told-2
+enum-told-2 c = search needs
+
+returns : tie.Need-returns
+returns c = stop _ _ _ _ (c .before .before .check-terminal .ensures) (c .enum-told2 .given .1)
+
+element-copy-out-refuse-if : tie.Need-element-copy-out-refuse-if
+element-copy-out-refuse-if c = search needs
+
+refuse-if-requires : tie.Need-refuse-if-requires
+refuse-if-requires c κs = search needs
+
+returns-2 : tie.Need-returns-2
+returns-2 c =
+    let told = c .before .before in
+    let call = told .before .before in
+    let s = call .before in
+    let h = not-false _ (not-applied _ _ (call .check-terminal .ensures) (told .enum-told .given .1)) in
+    skip _ _ _ (call .check-terminal .ensures) (told .enum-told .given .1)
+    (last _ _ (c .refuse-if .ensures ∙ ap (λ (k : ℕ). refuseIf 27 (eqb k 0)) (sym (count-is (tablesOf (s .args .h) (now (s .args .creds)) (now (s .args .aces))) (now (s .args .memory)) h))))
+
+pub check-take-spec : {M : Type 1} → statement M
+check-take-spec =
+    tie.close
+    (tie.spec
+    check-terminal-requires
+    enum-told
+    enum-told-2
+    returns
+    element-copy-out-refuse-if
+    refuse-if-requires
+    returns-2)

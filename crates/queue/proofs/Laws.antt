@@ -1,0 +1,238 @@
+-- Laws of the memory as it is changed: a slot made, the slots between, the head and the round.
+use Prim.Native.Nat.{ℕ, zero, suc, _+_, _*_, _-_, _/_, _%_, _≤_, _<_, min}
+use native.Mathlib.Nat.{zero-mul, zero-add, suc-add, min-eq-left}
+use native.Mathlib.Omega.{arith}
+use mathlib.Core.Path.{_≡_, refl, sym, ap, ap₂, _∙_}
+use mathlib.Core.Bool.{Bool, true, false, not, _||_, cond}
+use mathlib.Core.List.{List, [], _∷_, _++_, map, append-assoc, append-nil}
+use lib.Dec.{eqb}
+use lib.ListN.{length, take, drop, getD, set, replicate, length-set, length-append, length-drop, drop-of-length-le}
+use lib.Seq.{length-take-le, take-take, drop-at}
+use borrow.Author.Tests.{eq-eqb, ne-eqb}
+use Rattle.rows.specs.declared.Found.{Found}
+use Rattle.rows.specs.Rows.{Row, rowsOf, packed, joined, allZero, same, hasKey, some, numberedAs, placeOf, stored, without, withRow, IsTable}
+use Rattle.rows.proofs.Laws.{length-rowsOf, drop-replicate, take-rest, lent-rest, some-place, isAt, zeros-replicate, packed-is, joined-rowsOf}
+use Rattle.rows.proofs.Kept.{long-rowsOf, rowsOf-joined, same-true, same-refl, same-sym, length-without, length-stored}
+use Rattle.rules.specs.Bits.{word}
+use Rattle.rules.specs.Record.{credential}
+use Rattle.rules.specs.declared.Table.the-variants.{Creds}
+use Rattle.rules.specs.Tables.{stride, capacity, rowsIn}
+use Rattle.rules.proofs.BitLaws.{word-is}
+use Rattle.rules.proofs.Bools.{cond-cases, bool-cases, contradiction}
+use Rattle.waiting.specs.Slots.{Seat, Round, anew, after, seatOf, padded, slotOf, roundBytes, roundOf, waiting, memoryOf}
+use Rattle.waiting.specs.Round.{nobody, seatsIn, held, gone, heldRound}
+use Rattle.waiting.specs.Terminal.{withRecord}
+use Rattle.queue.specs.Queue.{IsQueue}
+
+-- ---- a slot
+
+-- as the code fills it
+pub slot-is : (r last : List ℕ) → getD r 2 0 < 256 → getD r 3 0 < 256 → last ≡ withRow (length r) 0 r (replicate 256 0) → getD r 2 0 ∷ getD r 3 0 ∷ length r / 256 ∷ length r % 256 ∷ (last ++ []) ≡ slotOf r
+unfolding slotOf seatOf padded word withRow
+slot-is r last a b e =
+    let s : word (credential r) ≡ getD r 2 0 ∷ getD r 3 0 ∷ [] = word-is r 2 a b in
+    ap (λ (l : List ℕ). getD r 2 0 ∷ getD r 3 0 ∷ length r / 256 ∷ length r % 256 ∷ l) (append-nil last ∙ e ∙ rw (zero-mul, drop-replicate (length r) 256 0))
+    ∙ ap (λ (l : List ℕ). l ++ (word (length r) ++ (r ++ replicate (256 - length r) 0))) (sym s)
+
+-- ---- the head
+
+pub head-set : (m : List ℕ) (n : ℕ) (r : List ℕ) → 4 ≤ length m → length r ≡ 3 → set (set (set (set m 0 n) 1 (getD r 0 0)) 2 (getD r 1 0)) 3 (getD r 2 0) ≡ n ∷ (r ++ drop 4 m)
+head-set [] n r h t = absurd (omega arith)
+head-set (w ∷ []) n r h t = absurd (omega arith)
+head-set (w ∷ x ∷ []) n r h t = absurd (omega arith)
+head-set (w ∷ x ∷ y ∷ []) n r h t = absurd (omega arith)
+head-set (w ∷ x ∷ y ∷ z ∷ m) n [] h t = absurd (omega arith)
+head-set (w ∷ x ∷ y ∷ z ∷ m) n (a ∷ []) h t = absurd (omega arith)
+head-set (w ∷ x ∷ y ∷ z ∷ m) n (a ∷ b ∷ []) h t = absurd (omega arith)
+head-set (w ∷ x ∷ y ∷ z ∷ m) n (a ∷ b ∷ c ∷ []) h t = refl
+head-set (w ∷ x ∷ y ∷ z ∷ m) n (a ∷ b ∷ c ∷ d ∷ r) h t = absurd (omega arith)
+
+module _ (m : List ℕ) (n a : ℕ) (h : 4 ≤ length m) where
+  pub second-in : 1 < length (set m 0 n)
+  second-in = omega (arith, length-set m 0 n)
+
+  pub third-in : 2 < length (set (set m 0 n) 1 a)
+  third-in = omega (arith, length-set (set m 0 n) 1 a, length-set m 0 n)
+
+-- ---- the slots
+
+-- the memory's slots, as they are lent
+abbrev pub slotsOf : List ℕ → List ℕ
+slotsOf m = take (length m - 4) (drop 4 m)
+
+-- the memory while other slots stand there
+abbrev pub between : List ℕ → List ℕ → List ℕ
+between m last = take 4 m ++ (last ++ drop (length m - 4) (drop 4 m))
+
+module _ (m : List ℕ) (q : IsQueue m) where
+  pub slots-long : length (slotsOf m) ≡ 6500
+  slots-long = ap length (take-rest 4 m) ∙ length-drop 4 m ∙ omega (arith, q .long)
+
+  pub slots-table : IsTable 260 (getD m 0 0) (slotsOf m)
+  slots-table = rw (take-rest 4 m) (q .table)
+
+  pub slots-rows : rowsOf 260 (getD m 0 0) (slotsOf m) ≡ waiting m
+  unfolding waiting
+  slots-rows = rw (take-rest 4 m, min-eq-left (q .few))
+
+  front : length (take 4 m) ≡ 4
+  front = length-take-le 4 m (omega (arith, q .long))
+
+  pub between-long : (last : List ℕ) → length last ≡ length (slotsOf m) → length (between m last) ≡ 6504
+  between-long last e = ap length (lent-rest 4 m last) ∙ length-append (take 4 m) last ∙ omega (arith, front, slots-long, e)
+
+  between-slots : (last : List ℕ) → drop 4 (between m last) ≡ last
+  between-slots last = ap (drop 4) (lent-rest 4 m last) ∙ drop-at (take 4 m) last 4 front
+
+  -- other slots, and another head
+  pub changed : (k : Round) (ws : List Row) (left : ℕ) (last r x : List ℕ) → left ≡ length ws → last ≡ packed (length (slotsOf m)) ws → r ≡ roundBytes k
+      → x ≡ left ∷ (r ++ drop 4 (between m last)) → x ≡ memoryOf k ws
+  unfolding memoryOf
+  changed k ws left last r x n b e h =
+      h ∙ ap₂ (λ (j : ℕ) (l : List ℕ). j ∷ (l ++ drop 4 (between m last))) n e
+      ∙ ap (λ (l : List ℕ). length ws ∷ (roundBytes k ++ l)) (between-slots last ∙ b ∙ ap (λ (j : ℕ). packed j ws) slots-long)
+
+  -- other slots, and the count
+  pub counted-anew : (ws : List Row) (left : ℕ) (last : List ℕ) → left ≡ length ws → last ≡ packed (length (slotsOf m)) ws → set (between m last) 0 left ≡ memoryOf (roundOf m) ws
+  unfolding memoryOf
+  counted-anew ws left last n b =
+      ap (λ (l : List ℕ). set l 0 left) (lent-rest 4 m last ∙ ap (λ (l : List ℕ). l ++ last) head-is)
+      ∙ ap₂ (λ (j : ℕ) (l : List ℕ). j ∷ (roundBytes (roundOf m) ++ l)) n (b ∙ ap (λ (j : ℕ). packed j ws) slots-long)
+    where
+      four : (m : List ℕ) → 4 ≤ length m → take 4 m ≡ getD m 0 0 ∷ take 3 (drop 1 m)
+      four [] l = absurd (omega arith)
+      four (a ∷ m) l = refl
+
+      head-is : take 4 m ≡ getD m 0 0 ∷ roundBytes (roundOf m)
+      head-is = four m (omega (arith, q .long)) ∙ ap (λ (b : List ℕ). getD m 0 0 ∷ b) (q .round)
+
+-- ---- a record is kept
+
+module _ (m r s : List ℕ) (q : IsQueue m) (free : getD m 0 0 < 25) (made : s ≡ slotOf r) where
+  abbrev rows : List Row
+  rows = stored s (rowsOf 260 (getD m 0 0) (slotsOf m))
+
+  pub rows-few : length rows ≤ 25
+  rows-few =
+      rw (length-stored s (rowsOf 260 (getD m 0 0) (slotsOf m)))
+      (cond-cases (λ (n : ℕ). n ≤ 25) (some (numberedAs s) (rowsOf 260 (getD m 0 0) (slotsOf m))) (λ _. omega (arith, length-rowsOf 260 (getD m 0 0) (slotsOf m))) (λ _. omega (arith, length-rowsOf 260 (getD m 0 0) (slotsOf m))))
+
+  pub room : length rows * 260 ≤ length (slotsOf m)
+  room = omega (arith, rows-few, slots-long m q)
+
+  pub kept-is : (left : ℕ) (last : List ℕ) → left ≡ length rows → last ≡ packed (length (slotsOf m)) rows → set (between m last) 0 left ≡ withRecord r m
+  unfolding withRecord
+  kept-is left last n b = counted-anew m q rows left last n b ∙ ap₂ (λ (w : Row) (ws : List Row). memoryOf (roundOf m) (stored w ws)) made (slots-rows m q)
+
+-- ---- rows taken out of the part that is used
+
+more-zeros : (a b : ℕ) → replicate {A = ℕ} a 0 ++ replicate b 0 ≡ replicate (a + b) 0
+more-zeros zero b = rw zero-add
+more-zeros (suc a) b = rw suc-add (ap (λ (l : List ℕ). 0 ∷ l) (more-zeros a b))
+
+module _ (s n : ℕ) (b : List ℕ) (t : IsTable s n b) where
+  pub used-long : length (take (n * s) b) ≡ n * s
+  used-long = length-take-le (n * s) b (t .fits)
+
+  pub used-rows : rowsOf s n (take (n * s) b) ≡ rowsOf s n b
+  used-rows =
+      let ws = rowsOf s n b in
+      ap (rowsOf s n) (sym (joined-rowsOf s n b) ∙ sym (append-nil (joined ws)))
+      ∙ ap (λ (k : ℕ). rowsOf s k (joined ws ++ [])) (sym (length-rowsOf s n b))
+      ∙ rowsOf-joined s ws [] (long-rowsOf s n b (t .fits))
+
+  pub used-table : IsTable s n (take (n * s) b)
+  unfolding allZero
+  used-table = let few : length (take (n * s) b) ≤ n * s = omega (arith, used-long) in record { numbered = t .numbered; fits = rw used-long (omega arith); zeros = ap allZero (drop-of-length-le (take (n * s) b) few) }
+
+  -- what is left of them, with the zeros behind
+  pub used-packed : (ws : List Row) (last : List ℕ) → last ≡ packed (length (take (n * s) b)) ws → length last ≡ length (take (n * s) b) → last ++ drop (n * s) b ≡ packed (length b) ws
+  unfolding packed
+  used-packed ws last e l =
+      let zeros = zeros-replicate (drop (n * s) b) (t .zeros) in
+      let free = length (take (n * s) b) - length (joined ws) in
+      packed-is (length b) (free + length (drop (n * s) b)) (last ++ drop (n * s) b) ws
+      (ap₂ (λ (x y : List ℕ). x ++ y) e zeros ∙ append-assoc (joined ws) (replicate free 0) (replicate (length (drop (n * s) b)) 0) ∙ ap (λ (x : List ℕ). joined ws ++ x) (more-zeros free (length (drop (n * s) b))))
+      (length-append last (drop (n * s) b) ∙ omega (arith, l, used-long, length-drop (n * s) b, t .fits))
+
+-- ---- seats
+
+zero-seat : (p : Seat) → length p ≡ 2 → (b : Bool) → b ≡ allZero (drop 0 p) → b ≡ same p nobody
+unfolding allZero word
+zero-seat p two true e = sym (ap (λ (q : Seat). same q nobody) (zeros-replicate p (sym e) ∙ ap (λ (n : ℕ). replicate n 0) two) ∙ same-refl nobody)
+zero-seat p two false e =
+    bool-cases (same p nobody)
+    (λ h. contradiction (ap allZero (same-true p nobody h)) (sym e))
+    (λ h. sym h)
+
+some-key : (p : Seat) (ws : List Row) → length p ≡ 2 → some (hasKey 0 p) ws ≡ some (same p) (map (take 2) ws)
+unfolding some hasKey
+some-key p [] l = refl
+some-key p (w ∷ ws) l = ap₂ (λ (a b : Bool). a || b) (ap (λ (k : ℕ). same (take k w) p) l ∙ same-sym (take 2 w) p) (some-key p ws l)
+
+module _ (count : ℕ) (creds : List ℕ) (p : Seat) (two : length p ≡ 2) (b : Bool) (z : b ≡ allZero (drop 0 p)) where
+  pub seat-zero : b ≡ true → true ≡ held (seatsIn count creds) p
+  unfolding held some
+  seat-zero e = sym (rw (sym (zero-seat p two b z) ∙ e))
+
+  pub seat-found : b ≡ false → (n : ℕ) → n ≡ min count (capacity Creds) → (at : Found) → at ≡ placeOf (hasKey 0 p) (rowsOf (stride Creds) n creds) → isAt at ≡ held (seatsIn count creds) p
+  unfolding held some rowsIn
+  seat-found e n counted at f =
+      ap isAt f ∙ sym (some-place 0 (hasKey 0 p) (rowsOf (stride Creds) n creds)) ∙ some-key p (rowsOf (stride Creds) n creds) two
+      ∙ rw (sym (zero-seat p two b z) ∙ e, counted)
+
+-- the seat of slot i
+pub seat-gone : (ps : List Seat) (i : ℕ) (b : List ℕ) (p : Seat) → p ≡ take 2 (drop (i * 260) b) → (h : Bool) → h ≡ held ps p → gone ps (take 260 (drop (i * 260) b)) ≡ not h
+unfolding gone
+seat-gone ps i b p is h e = rw (take-take 2 260 (drop (i * 260) b) (omega arith), ← is, e)
+
+-- ---- the round
+
+module _ (m : List ℕ) (q : IsQueue m) (ps ps′ : List Seat) where
+  abbrev next : List ℕ
+  next = roundBytes (heldRound ps′ (heldRound ps (roundOf m)))
+
+  pub round-anew : getD m 1 0 ≡ 0 → 0 ∷ 0 ∷ 0 ∷ [] ≡ next
+  unfolding roundOf
+  round-anew e = rw (eq-eqb (getD m 1 0) 0 e)
+
+  module _ (taken : getD m 1 0 ≡ 0 → ⊥) where
+    abbrev seat : Seat
+    seat = take 2 (drop 2 m)
+
+    pub seat-two : length seat ≡ 2
+    seat-two = length-take-le 2 (drop 2 m) (omega (arith, length-drop 2 m, q .long))
+
+    round-after : roundOf m ≡ after seat
+    unfolding roundOf
+    round-after = rw (ne-eqb (getD m 1 0) 0 taken)
+
+    pub not-before : held ps seat ≡ false → 0 ∷ 0 ∷ 0 ∷ [] ≡ next
+    not-before e = rw (round-after, e)
+
+    pub not-now : held ps seat ≡ true → held ps′ seat ≡ false → 0 ∷ 0 ∷ 0 ∷ [] ≡ next
+    not-now e f = rw (round-after, e, f)
+
+    pub stays : held ps seat ≡ true → held ps′ seat ≡ true → 1 ∷ getD m 2 0 ∷ getD m 3 0 ∷ [] ≡ next
+    stays e f = rw (round-after, e, f) (ap (λ (l : List ℕ). 1 ∷ l) (both m (omega (arith, q .long))))
+      where
+        both : (m : List ℕ) → 4 ≤ length m → getD m 2 0 ∷ getD m 3 0 ∷ [] ≡ take 2 (drop 2 m)
+        both [] l = absurd (omega arith)
+        both (a ∷ []) l = absurd (omega arith)
+        both (a ∷ b ∷ []) l = absurd (omega arith)
+        both (a ∷ b ∷ c ∷ []) l = absurd (omega arith)
+        both (a ∷ b ∷ c ∷ d ∷ m) l = refl
+
+-- a seat's bytes, after 1
+pub round-bytes : (p : Seat) → length p ≡ 2 → 1 ∷ getD p 0 0 ∷ getD p 1 0 ∷ [] ≡ roundBytes (after p)
+round-bytes p two = ap (λ (l : List ℕ). 1 ∷ l) (both p two)
+  where
+    both : (p : Seat) → length p ≡ 2 → getD p 0 0 ∷ getD p 1 0 ∷ [] ≡ p
+    both [] l = absurd (omega arith)
+    both (x ∷ []) l = absurd (omega arith)
+    both (x ∷ y ∷ []) l = refl
+    both (x ∷ y ∷ z ∷ p) l = absurd (omega arith)
+
+-- slots without some are few
+pub few-without : (m : List ℕ) (q : IsQueue m) (p : Row → Bool) → length (without p (rowsOf 260 (getD m 0 0) (slotsOf m))) ≤ 25
+few-without m q p = omega (arith, length-without p (rowsOf 260 (getD m 0 0) (slotsOf m)), length-rowsOf 260 (getD m 0 0) (slotsOf m), q .few)

@@ -1,0 +1,79 @@
+-- `drop_gone`: the first i slots stay, and of the others those whose seat is held.
+use mathlib.Core.Path.{_≡_, sym, ap, _∙_}
+use mathlib.Core.Bool.{not}
+use Prim.Native.Nat.{_-_, _*_}
+use native.Mathlib.Omega.{arith}
+use lib.ListN.{length, drop, length-drop}
+use lib.Seq.{length-take-le}
+use borrow.Author.Needs.{needs}
+use Rattle.rows.proofs.Laws.{row-within}
+use Rattle.waiting.specs.Round.{seatsIn, gone}
+use Rattle.queue.proofs.Laws.{seat-gone}
+use Rattle.changes.proofs.Going.{Going, begin, stay, gone as went, end}
+use Rattle.queue.proofs.drop_gone.Statement.{statement}
+use Rattle.queue.proofs.drop_gone.Tie as tie
+
+abbrev Inv-loop : tie.InvT-loop
+Inv-loop rows creds slots₀ count n₀ i₀ slots n i = Going (gone (seatsIn rows creds)) 260 count slots₀ slots n i
+
+abbrev μ-loop : tie.MeasureT-loop
+μ-loop rows creds slots₀ count n₀ i₀ slots n i = n - i
+
+loop-holds : tie.Need-loop-holds Inv-loop μ-loop
+loop-holds c = begin _ _ _ _ (c .before .pre)
+
+mul-a : tie.Need-mul-a Inv-loop μ-loop
+mul-a c = let turn = c in omega (arith, row-within 260 _ _ _ ((turn .before .loop .inv) .table .fits) (turn .loop-test .taken), turn .before .before .before .good)
+
+part-requires : tie.Need-part-requires Inv-loop μ-loop
+part-requires c κs = search needs
+
+seat-held-requires : tie.Need-seat-held-requires Inv-loop μ-loop
+seat-held-requires c κs = let turn = c .before .before in ap length (c .part .ensures) ∙ length-take-le 2 (drop ((turn .before .loop .i) * 260) (turn .before .loop .slots)) (omega (arith, row-within 260 _ _ _ ((turn .before .loop .inv) .table .fits) (turn .loop-test .taken), length-drop ((turn .before .loop .i) * 260) (turn .before .loop .slots)))
+
+add-i : tie.Need-add-i Inv-loop μ-loop
+add-i c = search needs
+
+loop-less : tie.Need-loop-less Inv-loop μ-loop
+loop-less c = search needs
+
+loop-again : tie.Need-loop-again Inv-loop μ-loop
+loop-again c = let turn = c .before .before .before .before in stay _ _ _ _ (turn .before .loop .slots) _ (turn .before .loop .i) (turn .before .loop .inv) (turn .loop-test .taken) (seat-gone _ (turn .before .loop .i) (turn .before .loop .slots) _ (c .before .before .part .ensures) _ (c .before .seat-held .ensures) ∙ ap not (c .if1 .taken))
+
+remove-row-requires : tie.Need-remove-row-requires Inv-loop μ-loop
+remove-row-requires c κs = let turn = c .before .before .before .before .before in row-within 260 _ _ _ ((turn .before .loop .inv) .table .fits) (turn .loop-test .taken)
+
+sub-n : tie.Need-sub-n Inv-loop μ-loop
+sub-n c = search needs
+
+loop-less-2 : tie.Need-loop-less-2 Inv-loop μ-loop
+loop-less-2 c = search needs
+
+loop-again-2 : tie.Need-loop-again-2 Inv-loop μ-loop
+loop-again-2 c = let call = c .before .before in let test = call .before .before in let turn = test .before .before .before .before in went _ _ _ _ (turn .before .loop .slots) _ (turn .before .loop .i) (turn .before .loop .inv) (turn .loop-test .taken) _ (call .remove-row .ensures) (call .remove-row .kept .0) (seat-gone _ (turn .before .loop .i) (turn .before .loop .slots) _ (test .before .before .part .ensures) _ (test .before .seat-held .ensures) ∙ ap not (test .if1 .left))
+
+same-length : tie.Need-same-length Inv-loop μ-loop
+same-length c = c .before .loop .inv .long
+
+returns : tie.Need-returns Inv-loop μ-loop
+returns c = end _ _ _ _ _ _ _ (c .before .loop .inv) (c .loop-test .left)
+
+pub drop-gone-spec : {M : Type 1} → statement M
+drop-gone-spec =
+    tie.close
+    (tie.spec
+    Inv-loop
+    μ-loop
+    loop-holds
+    mul-a
+    part-requires
+    seat-held-requires
+    add-i
+    loop-less
+    loop-again
+    remove-row-requires
+    sub-n
+    loop-less-2
+    loop-again-2
+    same-length
+    returns)

@@ -1,0 +1,72 @@
+-- `leave`: the slots, then the head.
+use mathlib.Core.Path.{_≡_, ap, _∙_}
+use mathlib.Core.List.{List}
+use native.Mathlib.Omega.{arith}
+use denote.Ref.{now}
+use lib.ListN.{length, getD}
+use Rattle.rows.specs.Rows.{Row, rowsOf, without, hasKey}
+use Rattle.waiting.specs.Slots.{after, memoryOf}
+use Rattle.queue.proofs.Laws.{slotsOf, slots-table, slots-rows, between-long, changed, few-without, round-bytes}
+use borrow.Author.Needs.{needs}
+use Rattle.queue.proofs.leave.Statement.{statement}
+use Rattle.queue.proofs.leave.Tie as tie
+
+slice-read-count : tie.Need-slice-read-count
+slice-read-count c = search needs
+
+cast-count : tie.Need-cast-count
+cast-count c = search needs
+
+sub-take-out : tie.Need-sub-take-out
+sub-take-out c = search needs
+
+part-take-out-start : tie.Need-part-take-out-start
+part-take-out-start c = search needs
+
+part-take-out-end : tie.Need-part-take-out-end
+part-take-out-end c = search needs
+
+take-out-requires : tie.Need-take-out-requires
+take-out-requires c κs = let s = c .before .before .before .before in slots-table (now (s .args .memory)) (s .pre .0)
+
+shared-slice-read-t7 : tie.Need-shared-slice-read-t7
+shared-slice-read-t7 c = search needs
+
+shared-slice-read-t14 : tie.Need-shared-slice-read-t14
+shared-slice-read-t14 c = search needs
+
+put-head-requires : tie.Need-put-head-requires
+put-head-requires c κs =
+    let call = c .before .before .before .before .before in
+    let s = call .before .before .before .before .before in
+    let m = now (s .args .memory) in
+    (omega (arith, between-long m (s .pre .0) (call .take-out .last .0) (call .take-out .kept .0)), omega (arith, call .take-out .ensures .0, few-without m (s .pre .0) (hasKey 0 (now (s .args .seat)))))
+
+same-length : tie.Need-same-length
+same-length c = search needs
+
+returns : tie.Need-returns
+returns c =
+    let head = c .before .before in
+    let call = head .before .before .before .before .before .before in
+    let s = call .before .before .before .before .before in
+    let m = now (s .args .memory) in
+    let p = now (s .args .seat) in
+    changed m (s .pre .0) (after p) (without (hasKey 0 p) (rowsOf 260 (getD m 0 0) (slotsOf m))) _ _ _ _ (call .take-out .ensures .0) (call .take-out .ensures .1) (round-bytes p (s .pre .1)) (head .put-head .ensures)
+    ∙ ap (λ (ws : List Row). memoryOf (after p) (without (hasKey 0 p) ws)) (slots-rows m (s .pre .0))
+
+pub leave-spec : {M : Type 1} → statement M
+leave-spec =
+    tie.close
+    (tie.spec
+    slice-read-count
+    cast-count
+    sub-take-out
+    part-take-out-start
+    part-take-out-end
+    take-out-requires
+    shared-slice-read-t7
+    shared-slice-read-t14
+    put-head-requires
+    same-length
+    returns)

@@ -1,0 +1,23 @@
+-- `record_in`: as many bytes as the slot's head says.
+use mathlib.Core.Path.{_≡_, ap, _∙_}
+use mathlib.Core.List.{List}
+use Prim.Native.Nat.{ℕ}
+use denote.Ref.{now}
+use lib.ListN.{take, drop}
+use borrow.Author.Needs.{needs}
+use Rattle.rules.specs.Bits.{bits}
+use Rattle.waiting.specs.Slots.{recordOf}
+use Rattle.queue.proofs.record_in.Statement.{statement}
+use Rattle.queue.proofs.record_in.Tie as tie
+
+returns : tie.Need-returns
+unfolding recordOf
+returns c =
+    let s = now (c .before .before .before .before .args .slot) in
+    c .part .ensures ∙ ap (λ (n : ℕ). take n (drop 4 s)) (c .before .word .ensures ∙ ap (λ (l : List ℕ). bits l 0 16) (c .before .before .after .ensures))
+
+pub record-in-spec : {M : Type 1} → statement M
+record-in-spec =
+    tie.close
+    (tie.spec
+    (λ c κs. search needs) (λ c κs. search needs) (λ c. search needs) (λ c κs. search needs) returns)

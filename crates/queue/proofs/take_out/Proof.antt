@@ -1,0 +1,42 @@
+-- `take_out`: in the part that is used; the zeros behind it stay.
+use mathlib.Core.Path.{_≡_, sym}
+use denote.Ref.{now}
+use Rattle.queue.proofs.Laws.{used-long, used-rows, used-table, used-packed}
+use borrow.Author.Needs.{needs}
+use Rattle.queue.proofs.take_out.Statement.{statement}
+use Rattle.queue.proofs.take_out.Tie as tie
+
+mul-used : tie.Need-mul-used
+mul-used c = search needs
+
+slice-relend-prefix-remove : tie.Need-slice-relend-prefix-remove
+slice-relend-prefix-remove c = search needs
+
+slice-aggregate-remove : tie.Need-slice-aggregate-remove
+slice-aggregate-remove c = let s = c .before .before .before in sym (used-long 260 (s .args .count) (now (s .args .slots)) (s .pre))
+
+remove-requires : tie.Need-remove-requires
+remove-requires c κs = let s = c .before .before .before in used-table 260 (s .args .count) (now (s .args .slots)) (s .pre)
+
+same-length : tie.Need-same-length
+same-length c = search needs
+
+returns : tie.Need-returns
+returns c =
+    let call = c .before .before in
+    let s = call .before .before .before .before in
+    let b = now (s .args .slots) in
+    let n = s .args .count in
+    let rows = used-rows 260 n b (s .pre) in
+    rw (← rows) (call .remove .ensures .0, used-packed 260 n b (s .pre) _ _ (call .remove .ensures .1) (call .remove .kept .0))
+
+pub take-out-spec : {M : Type 1} → statement M
+take-out-spec =
+    tie.close
+    (tie.spec
+    mul-used
+    slice-relend-prefix-remove
+    slice-aggregate-remove
+    remove-requires
+    same-length
+    returns)

@@ -1,0 +1,2 @@
+-- What the contracts of `queue` ask of the memory.
+pub mod Queue

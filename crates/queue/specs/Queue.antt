@@ -1,0 +1,13 @@
+-- Memory in the form of a queue, whatever its records: its length, at most 25 slots, a round's bytes, and zeros after the slots.
+use mathlib.Core.Path.{_≡_}
+use mathlib.Core.List.{List}
+use Prim.Native.Nat.{ℕ, _≤_}
+use lib.ListN.{length, take, drop, getD}
+use Rattle.rows.specs.Rows.{IsTable}
+use Rattle.waiting.specs.Slots.{slotLong, slotsMost, memoryLong, roundBytes, roundOf}
+
+pub record IsQueue (m : List ℕ) : Type 0 where
+  pub long : length m ≡ memoryLong
+  pub few : getD m 0 0 ≤ slotsMost
+  pub round : take 3 (drop 1 m) ≡ roundBytes (roundOf m)
+  pub table : IsTable slotLong (getD m 0 0) (drop 4 m)

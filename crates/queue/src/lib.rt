@@ -1,0 +1,172 @@
+// Changes of the memory of waiting records: a record kept, a seat emptied, and what goes with credential rows.
+// Nothing here knows what a record asks for; every byte afterwards is given.
+use fields::after;
+use fields::held;
+use fields::word;
+use rows::Found;
+use rows::part;
+use rules::CRED_ROW;
+use rules::CRED_ROWS;
+ghost use mathlib.Core.Path.{_≡_};
+ghost use mathlib.Core.List.{_∷_, _++_};
+ghost use Prim.Native.Nat.{ℕ, _+_, _*_, _-_, _≤_, _<_};
+ghost use lib.ListN.{length, take, drop, getD};
+ghost use Rattle.rows.specs.Rows.{rowsOf, packed, without, hasKey, stored, IsTable};
+ghost use Rattle.waiting.specs.Slots.{after as afterSeat, slotOf, recordOf, roundBytes, roundOf, waiting, memoryOf, freshMemory};
+ghost use Rattle.waiting.specs.Round.{seatsIn, held as heldIn, gone, heldRound};
+ghost use Rattle.waiting.specs.Terminal.{withRecord};
+ghost use Rattle.queue.specs.Queue.{IsQueue};
+
+// The record that a slot keeps.
+// Rules out: the slot's head taken for the record; a byte behind the record.
+pub fn record_in(slot: &[u8]) -> &[u8]
+    ensures { λ r. ⌜ now r ≡ recordOf (now (slot .entry)) ⌝ }
+{
+    let n = word(after(slot, 2)) as usize;
+    part(slot, 4, n)
+}
+
+// The slot that keeps a record.
+fn slot_of(record: &[u8]) -> [u8; 260]
+    requires { ⌜ (4 ≤ length (now «record»)) × (length (now «record») ≤ 256) ⌝ }
+    ensures { λ r. ⌜ r ≡ slotOf (now («record» .entry)) ⌝ }
+{
+    let n = record.len();
+    let mut slot = [0; 260];
+    slot[0] = record[2];
+    slot[1] = record[3];
+    slot[2] = (n / 256) as u8;
+    slot[3] = (n % 256) as u8;
+    changes::put_row(&mut slot[4..], n, 0, record);
+    slot
+}
+
+// Keeps a record in its sender's seat.
+// Rules out: a record in another's seat; one that lost a byte; a round that moves.
+pub fn keep(memory: &mut [u8], record: &[u8])
+    requires { ⌜ (IsQueue (now memory)) × (getD (now memory) 0 0 < 25) × (4 ≤ length (now «record»)) × (length (now «record») ≤ 256) ⌝ }
+    ensures { λ _. ⌜ now (memory .exit) ≡ withRecord (now («record» .entry)) (now (memory .entry)) ⌝ }
+{
+    let count = memory[0] as usize;
+    let slot = slot_of(record);
+    let left = changes::store(&mut memory[4..], 260, count, &slot);
+    memory[0] = left as u8;
+}
+
+// Writes the count and the round before the slots.
+fn put_head(memory: &mut [u8], count: usize, round: [u8; 3])
+    requires { ⌜ (4 ≤ length (now memory)) × (count ≤ 25) ⌝ }
+    ensures { λ _. ⌜ now (memory .exit) ≡ count ∷ (round ++ drop 4 (now (memory .entry))) ⌝ }
+{
+    memory[0] = count as u8;
+    memory[1] = round[0];
+    memory[2] = round[1];
+    memory[3] = round[2];
+}
+
+// Takes the slot of a seat out: the slots behind it move down. Returns how many are left.
+fn take_out(slots: &mut [u8], count: usize, seat: &[u8]) -> usize
+    requires { ⌜ IsTable 260 count (now slots) ⌝ }
+    ensures { λ r. ⌜ r ≡ length (without (hasKey 0 (now (seat .entry))) (rowsOf 260 count (now (slots .entry)))) ⌝ }
+    ensures { λ _. ⌜ now (slots .exit) ≡ packed (length (now (slots .entry))) (without (hasKey 0 (now (seat .entry))) (rowsOf 260 count (now (slots .entry)))) ⌝ }
+{
+    let used = count * 260;
+    changes::remove(&mut slots[..used], 260, count, 0, seat)
+}
+
+// Empties a seat, after which the round then stands.
+// Rules out: another's record emptied; a round that stands still.
+pub fn leave(memory: &mut [u8], seat: &[u8])
+    requires { ⌜ (IsQueue (now memory)) × (length (now seat) ≡ 2) ⌝ }
+    ensures { λ _. ⌜ now (memory .exit) ≡ memoryOf (afterSeat (now (seat .entry))) (without (hasKey 0 (now (seat .entry))) (waiting (now (memory .entry)))) ⌝ }
+{
+    let count = memory[0] as usize;
+    let left = take_out(&mut memory[4..], count, seat);
+    let round = [1, seat[0], seat[1]];
+    put_head(memory, left, round);
+}
+
+// Whether a seat is one of those of `count` credential rows.
+fn seat_held(count: u8, creds: &[u8; CRED_ROWS], seat: &[u8]) -> bool
+    requires { ⌜ length (now seat) ≡ 2 ⌝ }
+    ensures { λ r. ⌜ r ≡ heldIn (seatsIn count (now (creds .entry))) (now (seat .entry)) ⌝ }
+{
+    if rows::all_zero(seat, 0) {
+        return true;
+    }
+    let n = held(count, 24);
+    let Found::At(_) = rows::find(creds, CRED_ROW, n, 0, seat) else {
+        return false;
+    };
+    true
+}
+
+// Takes out each slot whose seat is none of these rows'. Returns how many are left.
+fn drop_gone(rows: u8, creds: &[u8; CRED_ROWS], slots: &mut [u8], count: usize) -> usize
+    requires { ⌜ IsTable 260 count (now slots) ⌝ }
+    ensures { λ r. ⌜ r ≡ length (without (gone (seatsIn rows (now (creds .entry)))) (rowsOf 260 count (now (slots .entry)))) ⌝ }
+    ensures { λ _. ⌜ now (slots .exit) ≡ packed (length (now (slots .entry))) (without (gone (seatsIn rows (now (creds .entry)))) (rowsOf 260 count (now (slots .entry)))) ⌝ }
+{
+    let mut n = count;
+    let mut i = 0;
+    while i < n {
+        let a = i * 260;
+        if seat_held(rows, creds, part(slots, a, 2)) {
+            i += 1;
+        } else {
+            changes::remove_row(slots, 260, i);
+            n -= 1;
+        }
+    }
+    n
+}
+
+// The round's bytes where `rows` credential rows became `left`: it begins anew where its seat was none before, or is none now.
+fn round_after<'a>(
+    rows: u8,
+    creds: &'a [u8; CRED_ROWS],
+    left: u8,
+    next: &'a [u8; CRED_ROWS],
+    memory: &[u8],
+) -> [u8; 3]
+    requires { ⌜ IsQueue (now memory) ⌝ }
+    ensures { λ r. ⌜ r ≡ roundBytes (heldRound (seatsIn left (now (next .entry))) (heldRound (seatsIn rows (now (creds .entry))) (roundOf (now (memory .entry))))) ⌝ }
+{
+    if memory[1] == 0 {
+        return [0, 0, 0];
+    }
+    let seat = part(memory, 2, 2);
+    if !seat_held(rows, creds, seat) {
+        return [0, 0, 0];
+    }
+    if !seat_held(left, next, seat) {
+        return [0, 0, 0];
+    }
+    [1, memory[2], memory[3]]
+}
+
+// What goes where `rows` credential rows became `left`: the slots whose seat is none any more, and the round with its seat.
+// Rules out: a record that outlives its row; one that goes though its row stays; a round that a new row revives.
+pub fn settle<'a>(
+    rows: u8,
+    creds: &'a [u8; CRED_ROWS],
+    left: u8,
+    next: &'a [u8; CRED_ROWS],
+    memory: &mut [u8],
+)
+    requires { ⌜ IsQueue (now memory) ⌝ }
+    ensures { λ _. ⌜ now (memory .exit) ≡ memoryOf (heldRound (seatsIn left (now (next .entry))) (heldRound (seatsIn rows (now (creds .entry))) (roundOf (now (memory .entry))))) (without (gone (seatsIn left (now (next .entry)))) (waiting (now (memory .entry)))) ⌝ }
+{
+    let round = round_after(rows, creds, left, next, memory);
+    let count = memory[0] as usize;
+    let kept = drop_gone(left, next, &mut memory[4..], count);
+    put_head(memory, kept, round);
+}
+
+// Nothing waits, and the round begins anew.
+// Rules out: a byte left.
+pub fn clear(memory: &mut [u8; 6504])
+    ensures { λ _. ⌜ now (memory .exit) ≡ freshMemory ⌝ }
+{
+    changes::clear(memory);
+}

@@ -1,0 +1,2 @@
+-- Laws of the memory's bytes.
+mod Laws

@@ -1,0 +1,14 @@
+-- `terminal_sound`: both tests.
+use mathlib.Core.Path.{_≡_, ap₂}
+use mathlib.Core.Bool.{Bool, _&&_}
+use Rattle.waiting.specs.Terminal.{soundTerminal}
+use borrow.Author.Needs.{needs}
+use Rattle.slots.proofs.terminal_sound.Statement.{statement}
+use Rattle.slots.proofs.terminal_sound.Tie as tie
+
+returns : tie.Need-returns
+unfolding soundTerminal
+returns c = ap₂ (λ (a b : Bool). a && b) (c .before .tables-sound .ensures) (c .memory-sound .ensures)
+
+pub terminal-sound-spec : {M : Type 1} → statement M
+terminal-sound-spec = tie.close (tie.spec (λ c κs. search needs) (λ c κs. search needs) returns)

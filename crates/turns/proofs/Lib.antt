@@ -1,0 +1,3 @@
+-- Laws of the slot whose turn it is, and of the record there.
+mod TurnLaws
+mod DueLaws

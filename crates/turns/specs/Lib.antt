@@ -1,0 +1,2 @@
+-- What the contracts of `turns` cite.
+pub mod Turns

@@ -1,0 +1,237 @@
+-- Theorem, demand 3 whole: the built code on one side, the book of the rules on the other.
+-- The built code is any calls that meet the contracts of `hand_in`, `take` and `judge`, and of `payload` beside the last two, each on the tables and the memory handed back last.
+use Prim.Native.Nat.{ℕ, _-_}
+use native.Mathlib.Omega.{arith}
+use mathlib.Core.Path.{_≡_, refl, sym, ap, ap₂, _∙_}
+use mathlib.Core.Bool.{Bool, true, false, not, _&&_, _||_, cond}
+use mathlib.Core.List.{List, [], _∷_, _++_, map}
+use lib.Dec.{eqb}
+use lib.ListN.{length, take, drop, replicate}
+use lib.Seq.{take-at}
+use borrow.Author.Tests.{eqb-true, eq-eqb, not-false}
+use Rattle.rules.specs.declared.Tables.{Tables}
+use Rattle.rules.specs.declared.Judgement.{Judgement}
+use Rattle.rules.specs.declared.Check.{Check}
+use Rattle.rules.specs.declared.Check.the-variants.{Pass, Refuse}
+use Rattle.rules.specs.Record.{Request, asked, Sender}
+use Rattle.rules.specs.Tables.{sound}
+use Rattle.rules.specs.Defaults.{Defaults}
+use Rattle.rules.specs.Reading.{filled}
+use Rattle.rules.specs.Checks.{verdict}
+use Rattle.rules.specs.Outcome.{Reply, payloadAt, replyTo, tablesAfter}
+use Rattle.rules.specs.Run.{replies, final, Along, kept, keptOf}
+use Rattle.rules.specs.Isolation.{Premise, isOthers, compared}
+use Rattle.rules.proofs.Bools.{cond-cases, bool-cases, contradiction, or-neither, or-left, or-not-left, or-true-right}
+use Rattle.rules.proofs.Answers.{passed}
+use Rattle.rules.proofs.Refusals.{payload-is}
+use Rattle.waiting.specs.declared.Taken.{Taken}
+use Rattle.waiting.specs.Slots.{padded}
+use Rattle.waiting.specs.Terminal.{Terminal, terminal, Answered, handedIn, soundTerminal, takeChecks, due, takeOf, taken, directChecks, directOf, judged, said, handedOut}
+use Rattle.waiting.specs.Inputs.{Input, handIn, takeAt, direct, answered, next, Turn, turnIf, judgedAt, allJudged, othersTurn}
+use Rattle.waiting.proofs.Sound.{terminal-parts, take-passed}
+use Rattle.waiting.proofs.Refused.{among, refused-among, no-such}
+use Rattle.waiting.proofs.Isolated.{Premises, AsTheBook, isolated}
+use Rattle.waiting.proofs.Direct.{Whole, directReplies, directEnd, direct-isolated}
+
+-- ---- what the calls of a run gave
+
+-- a call's judgement and the memory that it left; of a take and of a record judged at once also the buffer as it was lent and as it was left,
+-- and the payload; of a take also the record
+pub record Call : Type 0 where
+  pub judgement : Judgement
+  pub memory : List ℕ
+  pub lent : List ℕ
+  pub buffer : List ℕ
+  pub payload : List ℕ
+  pub size : ℕ
+  pub bytes : List ℕ
+
+abbrev pub told : Call → Reply
+told c = record {
+  answer = c .judgement .answer;
+  permission = c .judgement .permission;
+  payload = c .payload;
+  contents = take (c .judgement .length) (c .buffer);
+  places = c .judgement .places;
+  links = c .judgement .links;
+}
+
+-- the record that a take handed out
+abbrev pub recordGiven : Call → List ℕ
+recordGiven c = take (c .size) (c .bytes)
+
+-- the buffer and the payload of a call that answers a for the record r
+pub record Lent (a : Answered) (room : ℕ) (r : List ℕ) (c : Call) : Type 0 where
+  pub sized : length (c .lent) ≡ room
+  pub fills : c .buffer ≡ filled (c .lent) (a .reply .contents)
+  pub passes : c .payload ≡ payloadAt (c .judgement .answer) r
+
+-- what a call meets, on the terminal x, for the input
+abbrev pub Meets : Defaults → Terminal → Input → Call → Type 0
+Meets d x (handIn r) c = (c .judgement ≡ said (handedIn x r)) × (c .memory ≡ handedIn x r .terminal .memory)
+Meets d x (takeAt clock room) c =
+    (record { judgement = c .judgement; size = c .size; bytes = c .bytes } ≡ handedOut (taken d x clock room))
+    × (c .memory ≡ taken d x clock room .terminal .memory)
+    × Lent (taken d x clock room) room (recordGiven c) c
+Meets d x (direct q) c = (c .judgement ≡ said (judged d x q)) × (c .memory ≡ judged d x q .terminal .memory) × Lent (judged d x q) (q .room) (q .bytes) c
+
+-- the terminal that a call hands back
+abbrev pub left : Call → Terminal
+left c = terminal (c .judgement .tables) (c .memory)
+
+-- the first call on the terminal x, and each later one on what was handed back last
+abbrev pub Built : Defaults → Terminal → List Input → List Call → Type 0
+Built d x [] [] = Unit {0}
+Built d x [] (c ∷ cs) = ⊥
+Built d x (i ∷ is) [] = ⊥
+Built d x (i ∷ is) (c ∷ cs) = Meets d x i c × Built d (left c) is cs
+
+-- what was handed back last
+abbrev pub handedBack : Terminal → List Call → Terminal
+handedBack x [] = x
+handedBack x (c ∷ cs) = handedBack (left c) cs
+
+-- ---- the records judged, as the calls show them: a take answered with 1 or 27 has none, nor has a record judged at once that gets 1
+
+abbrev pub turnOf : Input → Call → List Turn
+turnOf (handIn r) c = []
+turnOf (takeAt clock room) c = cond (eqb (c .judgement .answer) 1 || eqb (c .judgement .answer) 27) [] (record { request = asked clock (recordGiven c) room; reply = told c } ∷ [])
+turnOf (direct q) c = cond (eqb (c .judgement .answer) 1) [] (record { request = q; reply = told c } ∷ [])
+
+abbrev pub callTurns : List Input → List Call → List Turn
+callTurns [] cs = []
+callTurns (i ∷ is) [] = []
+callTurns (i ∷ is) (c ∷ cs) = turnOf i c ++ callTurns is cs
+
+-- ---- each call
+
+filled-start : (buffer reply : List ℕ) → take (length reply) (filled buffer reply) ≡ reply
+unfolding filled
+filled-start buffer reply = take-at reply (drop (length reply) buffer) (length reply) refl
+
+pub record-back : (r : List ℕ) → take (length r) (padded r) ≡ r
+unfolding padded
+record-back r = take-at r (replicate (256 - length r) 0) (length r) refl
+
+-- a call tells what the answer says, where its payload is the record's
+pub told-is : (a : Answered) (room : ℕ) (r : List ℕ) (c : Call) → c .judgement ≡ said a → Lent a room r c → payloadAt (a .reply .answer) r ≡ a .reply .payload → told c ≡ a .reply
+told-is a room r c j l p = rw (l .passes, l .fills, j, p, filled-start (c .lent) (a .reply .contents))
+
+-- the number of a take's refusal, and of no record that is judged
+refused-number : (x : Terminal) (n : ℕ) → verdict (takeChecks x) ≡ Refuse n → (eqb n 1 || eqb n 27) ≡ true
+refused-number x n e =
+    let f = refused-among (takeChecks x) n e in
+    bool-cases (eqb 1 n)
+    (λ g. rw (sym (eqb-true 1 n g)))
+    (λ g. let h : eqb 27 n ≡ true = or-false (eqb 27 n) (or-not-left (eqb 1 n) _ f g) in rw (sym (eqb-true 27 n h)))
+  where
+    or-false : (b : Bool) → (b || false) ≡ true → b ≡ true
+    or-false true e = e
+    or-false false e = e
+
+direct-number : (x : Terminal) (n : ℕ) → verdict (directChecks x) ≡ Refuse n → eqb n 1 ≡ true
+direct-number x n e =
+    let f = refused-among (directChecks x) n e in
+    bool-cases (eqb 1 n) (λ g. rw (sym (eqb-true 1 n g))) (λ g. contradiction (or-not-left (eqb 1 n) _ f g) refl)
+
+neither : (n : ℕ) → ((eqb n 1 || eqb n 27) ≡ true → ⊥) → (eqb n 1 || eqb n 27) ≡ false
+neither n never = bool-cases (eqb n 1 || eqb n 27) (λ e. absurd (never e)) (λ e. e)
+
+no-payload : (r : List ℕ) → payloadAt 1 r ≡ []
+unfolding payloadAt
+no-payload r = refl
+
+module _ (d : Defaults) (x : Terminal) where
+  -- of a record judged on a sound terminal
+  judged-number : (q : Request) → soundTerminal x ≡ true → (eqb (replyTo d (x .tables) q .answer) 1 || eqb (replyTo d (x .tables) q .answer) 27) ≡ false
+  judged-number q h = neither (replyTo d (x .tables) q .answer) (λ e. no-such d (x .tables) q _ (terminal-parts x h .tables) e refl)
+
+  take-turn : (clock room : ℕ) (c : Call) (v : Check) → verdict (takeChecks x) ≡ v
+      → let q = asked clock (due x) room in
+      record { judgement = c .judgement; size = c .size; bytes = c .bytes } ≡ handedOut (takeOf d x q v)
+      → Lent (takeOf d x q v) room (recordGiven c) c
+      → turnOf (takeAt clock room) c ≡ turnIf d x q v
+  take-turn clock room c Pass e o l =
+      let q = asked clock (due x) room in
+      let j = ap (λ (t : Taken). t .judgement) o in
+      let r : recordGiven c ≡ due x = ap (λ (t : Taken). take (t .size) (t .bytes)) o ∙ record-back (due x) in
+      rw (ap (λ (y : Judgement). eqb (y .answer) 1 || eqb (y .answer) 27) j, judged-number q (take-passed x e .0))
+      (ap₂ (λ (b : List ℕ) (y : Reply). record { request = asked clock b room; reply = y } ∷ []) r
+      (told-is (takeOf d x q Pass) room (recordGiven c) c j l (ap (payloadAt (replyTo d (x .tables) q .answer)) r ∙ payload-is d (x .tables) q)))
+  take-turn clock room c (Refuse n) e o l = rw (ap (λ (t : Taken). eqb (t .judgement .answer) 1 || eqb (t .judgement .answer) 27) o ∙ refused-number x n e)
+
+  direct-turn : (q : Request) (c : Call) (v : Check) → verdict (directChecks x) ≡ v
+      → c .judgement ≡ said (directOf d x q v)
+      → Lent (directOf d x q v) (q .room) (q .bytes) c
+      → turnOf (direct q) c ≡ turnIf d x q v
+  direct-turn q c Pass e j l =
+      rw (ap (λ (y : Judgement). eqb (y .answer) 1) j ∙ or-left _ _ (judged-number q (not-false _ (passed (directChecks x) e 1))))
+      (ap (λ (y : Reply). record { request = q; reply = y } ∷ []) (told-is (directOf d x q Pass) (q .room) (q .bytes) c j l (payload-is d (x .tables) q)))
+  direct-turn q c (Refuse n) e j l = rw (ap (λ (y : Judgement). eqb (y .answer) 1) j ∙ direct-number x n e)
+
+  call-turn : (i : Input) (c : Call) → Meets d x i c → turnOf i c ≡ judgedAt d x i
+  unfolding taken judged
+  call-turn (handIn r) c m = refl
+  call-turn (takeAt clock room) c m = take-turn clock room c (verdict (takeChecks x)) refl (m .0) (m .2)
+  call-turn (direct q) c m = direct-turn q c (verdict (directChecks x)) refl (m .0) (m .2)
+
+  pub call-left : (i : Input) (c : Call) → Meets d x i c → left c ≡ next d x i
+  call-left (handIn r) c m = ap₂ (λ (j : Judgement) (b : List ℕ). terminal (j .tables) b) (m .0) (m .1)
+  call-left (takeAt clock room) c m = ap₂ (λ (t : Taken) (b : List ℕ). terminal (t .judgement .tables) b) (m .0) (m .1)
+  call-left (direct q) c m = ap₂ (λ (j : Judgement) (b : List ℕ). terminal (j .tables) b) (m .0) (m .1)
+
+-- ---- the run
+
+built-same : (d : Defaults) (x : Terminal) (is : List Input) (cs : List Call) → Built d x is cs → (callTurns is cs ≡ allJudged d x is) × (handedBack x cs ≡ final (next d) x is)
+built-same d x [] [] b = (refl, refl)
+built-same d x [] (c ∷ cs) b = absurd b
+built-same d x (i ∷ is) [] b = absurd b
+built-same d x (i ∷ is) (c ∷ cs) b =
+    let l = call-left d x i c (b .0) in
+    let more = built-same d (left c) is cs (b .1) in (
+      ap₂ (λ (u us : List Turn). u ++ us) (call-turn d x i c (b .0)) (more .0 ∙ ap (λ (y : Terminal). allJudged d y is) l),
+      more .1 ∙ ap (λ (y : Terminal). final (next d) y is) l,
+    )
+
+-- demand 3: what the others' records are told that the calls show as judged, and the tables handed back last
+pub built-isolation :
+    (d : Defaults) (chosen : Sender → Bool) (x : Terminal) (is : List Input) (cs : List Call)
+    → Built d x is cs
+    → Premises d chosen x (kept (othersTurn chosen) (callTurns is cs))
+    → AsTheBook d chosen x (kept (othersTurn chosen) (callTurns is cs)) (handedBack x cs .tables)
+built-isolation d chosen x is cs built =
+    let same = built-same d x is cs built in
+    rw (same .0, same .1) (isolated d chosen x is)
+
+-- ---- lists of records judged at once alone: each of the others' is told what the book answers, 1 included
+
+direct-told : (d : Defaults) (x : Terminal) (q : Request) (c : Call) → Meets d x (direct q) c → told c ≡ judged d x q .reply
+unfolding judged
+direct-told d x q c m = go (verdict (directChecks x)) refl (m .0) (m .2)
+  where
+    go : (v : Check) → verdict (directChecks x) ≡ v → c .judgement ≡ said (directOf d x q v) → Lent (directOf d x q v) (q .room) (q .bytes) c → told c ≡ directOf d x q v .reply
+    go Pass e j l = told-is (directOf d x q Pass) (q .room) (q .bytes) c j l (payload-is d (x .tables) q)
+    go (Refuse n) e j l = told-is (directOf d x q (Refuse n)) (q .room) (q .bytes) c j l (rw (eqb-true n 1 (direct-number x n e)) (no-payload (q .bytes)))
+
+directs-built : (d : Defaults) (x : Terminal) (qs : List Request) (cs : List Call) → Built d x (map direct qs) cs → (map told cs ≡ directReplies d x qs) × (handedBack x cs ≡ directEnd d x qs)
+directs-built d x [] [] b = (refl, refl)
+directs-built d x [] (c ∷ cs) b = absurd b
+directs-built d x (q ∷ qs) [] b = absurd b
+directs-built d x (q ∷ qs) (c ∷ cs) b =
+    let l = call-left d x (direct q) c (b .0) in
+    let more = directs-built d (left c) qs cs (b .1) in (
+      ap₂ (λ (y : Reply) (ys : List Reply). y ∷ ys) (direct-told d x q c (b .0)) (more .0 ∙ ap (λ (y : Terminal). directReplies d y qs) l),
+      more .1 ∙ ap (λ (y : Terminal). directEnd d y qs) l,
+    )
+
+pub direct-isolation :
+    (d : Defaults) (chosen : Sender → Bool) (x : Terminal) (qs : List Request) (cs : List Call)
+    → Built d x (map direct qs) cs
+    → Whole x
+    → Along (tablesAfter d) (Premise chosen) (x .tables) (kept (isOthers chosen) qs)
+    → (keptOf (isOthers chosen) qs (map told cs) ≡ replies (replyTo d) (tablesAfter d) (x .tables) (kept (isOthers chosen) qs))
+    × (compared chosen (handedBack x cs .tables) ≡ compared chosen (final (tablesAfter d) (x .tables) (kept (isOthers chosen) qs)))
+direct-isolation d chosen x qs cs built whole premise =
+    let same = directs-built d x qs cs built in
+    let apart = direct-isolated d chosen x qs whole premise in
+    (ap (keptOf (isOthers chosen) qs) (same .0) ∙ apart .0, ap (λ (y : Terminal). compared chosen (y .tables)) (same .1) ∙ apart .1)
