@@ -22,7 +22,7 @@ use Rattle.rules.specs.Tables.{stride, longest, capacity, storable, rowO
 use Rattle.rules.specs.Bodies.{credRowOf, aceRowOf}
 use Rattle.rules.specs.Roles.{bodyOf, withoutRoles, rolesInForce}
 use Rattle.rules.specs.Permission.{ownRow}
-use Rattle.rules.specs.Reading.{ownBody, rowBytes, contents, reads, replyOf, tooShort}
+use Rattle.rules.specs.Reading.{ownBody, rowBytes, contents, reads, replyOf, tooShort, rowsOfReply}
 use Rattle.rules.proofs.Bools.{and-left, and-right}
 use Rattle.rules.proofs.Answers.{table-parts}
 use Rattle.rules.proofs.BodyLaws.{sized}
@@ -35,12 +35,8 @@ abbrev pub holder : Table → ℕ
 holder Creds = cred
 holder Aces = acl2
 
--- the rows of a reply: what follows the row owner, a body's length at a time
-abbrev pub rowsOfReply : Table → List ℕ → List Row
-rowsOfReply k reply = rowsOf (longest k) ((length reply - 16) / longest k) (drop 16 reply)
-
 -- each row's body, and the rows without what is asserted
-abbrev bodies : Table → List Row → List (List ℕ)
+abbrev pub bodies : Table → List Row → List (List ℕ)
 bodies Creds ws = map bodyOf ws
 bodies Aces ws = ws
 
@@ -48,17 +44,17 @@ abbrev pub bare : Table → List Row → List Row
 bare Creds ws = map withoutRoles ws
 bare Aces ws = ws
 
-reply-is : (clock : ℕ) (k : Table) (t : Tables) (s : Sender) → contents clock t s (holder k) ≡ rowOwner t (holder k) ++ joined (bodies k (rows k t))
+pub reply-is : (clock : ℕ) (k : Table) (t : Tables) (s : Sender) → contents clock t s (holder k) ≡ rowOwner t (holder k) ++ joined (bodies k (rows k t))
 unfolding contents ownBody rowBytes
 reply-is clock Creds t s = refl
 reply-is clock Aces t s = refl
 
-owner-long : (k : Table) (t : Tables) → length (t .rowners) ≡ 64 → length (rowOwner t (holder k)) ≡ 16
+pub owner-long : (k : Table) (t : Tables) → length (t .rowners) ≡ 64 → length (rowOwner t (holder k)) ≡ 16
 unfolding rowOwner
 owner-long Creds t l = length-take-le 16 (drop 32 (t .rowners)) (rw length-drop (omega arith))
 owner-long Aces t l = length-take-le 16 (drop 48 (t .rowners)) (rw length-drop (omega arith))
 
-long-rows : (k : Table) (t : Tables) → sound t ≡ true → AllLong (stride k) (rows k t)
+pub long-rows : (k : Table) (t : Tables) → sound t ≡ true → AllLong (stride k) (rows k t)
 long-rows k t h = every-long (stride k) (storable k) (sized k) (rows k t) (table-parts k t h .stores)
 
 pub bodies-long : (ws : List Row) → AllLong 39 ws → AllLong 23 (map bodyOf ws)
@@ -73,7 +69,7 @@ positive : (k : Table) → 0 < longest k
 positive Creds = omega arith
 positive Aces = omega arith
 
-read-rows : (k : Table) (owner : List ℕ) (ws : List Row) → length owner ≡ 16 → AllLong (longest k) ws → rowsOfReply k (owner ++ joined ws) ≡ ws
+pub read-rows : (k : Table) (owner : List ℕ) (ws : List Row) → length owner ≡ 16 → AllLong (longest k) ws → rowsOfReply k (owner ++ joined ws) ≡ ws
 read-rows k owner ws l a =
     ap₂ (λ (n : ℕ) (b : List ℕ). rowsOf (longest k) n b) counted (drop-at owner (joined ws) 16 l ∙ sym (append-nil (joined ws)))
     ∙ rowsOf-joined (longest k) ws [] a

@@ -60,7 +60,7 @@ pub record SoundRows (k : Table) (ws : List Row) : Type 0 where
   pub stores : every (storable k) ws ≡ true
   pub apart : distinctNumbers ws ≡ true
 
-sound-with : (k : Table) (t : Tables) (ws : List Row) → sound t ≡ true → SoundRows k ws → sound (withRows k t ws) ≡ true
+pub sound-with : (k : Table) (t : Tables) (ws : List Row) → sound t ≡ true → SoundRows k ws → sound (withRows k t ws) ≡ true
 unfolding headSound
 sound-with Creds t ws h x = let s = sound-parts t h in let few = x .few in sound-whole _ (record { head = s .head; creds = rows-sound Creds 936 ws (omega arith) few (x .stores) (x .apart); aces = s .aces })
 sound-with Aces t ws h x = let s = sound-parts t h in let few = x .few in sound-whole _ (record { head = s .head; creds = s .creds; aces = rows-sound Aces 1152 ws (omega arith) few (x .stores) (x .apart) })

@@ -1,18 +1,19 @@
 -- Reading the tables back (U1): what a permitted RETRIEVE of a security resource fills the lent buffer with.
 -- The resource's own body, its row owner, and its rows in table order; of roles the sender's own in force. Every other record has no reply.
-use Prim.Native.Nat.{ℕ, _*_, _%_}
+use Prim.Native.Nat.{ℕ, _*_, _-_, _/_, _%_}
 use mathlib.Core.Bool.{Bool, _&&_, cond}
 use mathlib.Core.List.{List, [], _∷_, _++_, map}
 use lib.Dec.{eqb, ltb}
-use lib.ListN.{length, drop}
-use Rattle.rows.specs.Rows.{joined}
+use lib.ListN.{length, take, drop}
+use Rattle.rows.specs.Rows.{Row, rowsOf, joined}
 use Rattle.rules.specs.declared.Tables.{Tables}
+use Rattle.rules.specs.declared.Table.{Table}
 use Rattle.rules.specs.declared.Table.the-variants.{Creds, Aces}
 use Rattle.rules.specs.Lookup.{lookup}
 use Rattle.rules.specs.Directory.{isSecurity, doxm, pstat, cred, acl2, roles}
 use Rattle.rules.specs.Record.{Request, Sender, verb, resource, sender}
 use Rattle.rules.specs.Roles.{bodyOf, rolesInForce}
-use Rattle.rules.specs.Tables.{rows, rowOwner}
+use Rattle.rules.specs.Tables.{longest, rows, rowOwner}
 use Rattle.rules.specs.Permission.{ownRow}
 
 -- what an UPDATE of doxm or pstat would set to what is: owned stands in the first bit, the state in the first three; the tables' resources have no such body
@@ -40,3 +41,12 @@ tooShort t q = ltb (q .room) (length (replyOf (q .clock) t (q .bytes)))
 -- the lent buffer afterwards: the reply, and then what stood there
 unfoldable pub filled : List ℕ → List ℕ → List ℕ
 filled buffer reply = reply ++ drop (length reply) buffer
+
+-- ---- for theorems: a reply of cred or acl2, read again
+
+abbrev pub ownerOfReply : List ℕ → List ℕ
+ownerOfReply reply = take 16 reply
+
+-- the rows: what follows the row owner, a body's length at a time
+abbrev pub rowsOfReply : Table → List ℕ → List Row
+rowsOfReply k reply = rowsOf (longest k) ((length reply - 16) / longest k) (drop 16 reply)

@@ -1,0 +1,113 @@
+-- U14 of any calls that meet the contracts of `hand_in`, `take` and `judge`, and of `payload` beside the last two, each on the tables and the memory handed back last.
+-- What such calls show is what is answered.
+use Prim.Native.Nat.{ℕ}
+use native.Mathlib.Omega.{arith}
+use mathlib.Core.Path.{_≡_, refl, sym, ap, ap₂, _∙_}
+use mathlib.Core.Bool.{Bool, true, false, not}
+use mathlib.Core.List.{List, [], _∷_}
+use lib.Dec.{eqb}
+use lib.ListN.{length, take}
+use Rattle.rules.specs.declared.Check.{Check}
+use Rattle.rules.specs.declared.Check.the-variants.{Pass, Refuse}
+use Rattle.rules.specs.Directory.{resourceOf}
+use Rattle.rules.specs.Bits.{bits, bit}
+use Rattle.rules.specs.Record.{Request, asked, payloadOf}
+use Rattle.rules.specs.Defaults.{Defaults}
+use Rattle.rules.specs.Checks.{verdict}
+use Rattle.rules.specs.Outcome.{payloadAt}
+use Rattle.rules.specs.Run.{replies, final}
+use Rattle.rules.proofs.Bools.{cond-cases}
+use Rattle.rules.proofs.Refusals.{payload-is}
+use Rattle.waiting.specs.declared.Taken.{Taken}
+use Rattle.waiting.specs.Terminal.{Terminal, terminal, Answered, soundTerminal, handInChecks, handInOf, handedIn, takeChecks, due, takeOf, taken, directChecks, directOf, judged, said}
+use Rattle.waiting.specs.Inputs.{Input, handIn, takeAt, direct, answered, next}
+use Rattle.waiting.proofs.Built.{Call, told, recordGiven, Lent, Meets, left, Built, handedBack, record-back, told-is, call-left}
+use Rattle.order.specs.Order.{InStep, SameAnswer, InPairs}
+use Rattle.order.proofs.AnyOrder.{any-order}
+
+-- what a call shows; of a hand-in that is the judgement, since it lends no buffer and judges no record
+abbrev pub shown : Input → Call → Answered
+shown (handIn r) c =
+    let j = c .judgement in
+    record { bytes = []; reply = record { answer = j .answer; permission = j .permission; payload = []; contents = []; places = j .places; links = j .links }; terminal = left c }
+shown (takeAt clock room) c = record { bytes = recordGiven c; reply = told c; terminal = left c }
+shown (direct q) c = record { bytes = []; reply = told c; terminal = left c }
+
+abbrev pub allShown : List Input → List Call → List Answered
+allShown [] cs = []
+allShown (i ∷ is) [] = []
+allShown (i ∷ is) (c ∷ cs) = shown i c ∷ allShown is cs
+
+-- ---- each call
+
+-- a refused take hands out no record, so there is no payload
+no-record : (n : ℕ) → payloadAt n [] ≡ []
+unfolding payloadAt payloadOf resourceOf bits bit
+no-record n = cond-cases (λ (l : List ℕ). l ≡ []) (eqb n 0) (λ _. refl) (λ _. refl)
+
+-- a record that is judged at once is refused here with 1
+refused-1 : (b : Bool) (n : ℕ) (r : List ℕ) → verdict ((1, b) ∷ []) ≡ Refuse n → payloadAt n r ≡ []
+unfolding verdict payloadAt
+refused-1 true n r e = let f : 1 ≡ n = cc in rw (sym f)
+refused-1 false n r e = absurd (let z : _≡_ {A = ℕ} 0 1 = cc in omega arith)
+
+-- a call with a buffer and a payload shows the answer a
+lent-shown : (a : Answered) (room : ℕ) (r given : List ℕ) (c : Call)
+    → c .judgement ≡ said a → c .memory ≡ a .terminal .memory → Lent a room r c → payloadAt (a .reply .answer) r ≡ a .reply .payload → given ≡ a .bytes
+    → record { bytes = given; reply = told c; terminal = left c } ≡ a
+lent-shown a room r given c j m l p e = rw (e, told-is a room r c j l p, j, m)
+
+module _ (d : Defaults) (x : Terminal) where
+  hand-shown : (r : List ℕ) (c : Call) (v : Check) → c .judgement ≡ said (handInOf x r v) → c .memory ≡ handInOf x r v .terminal .memory → shown (handIn r) c ≡ handInOf x r v
+  hand-shown r c Pass j m = rw (j, m)
+  hand-shown r c (Refuse n) j m = rw (j, m)
+
+  -- the payload of what is taken, and of what is judged at once
+  take-payload : (q : Request) (v : Check) → let a = takeOf d x q v in payloadAt (a .reply .answer) (a .bytes) ≡ a .reply .payload
+  take-payload q Pass = payload-is d (x .tables) q
+  take-payload q (Refuse n) = no-record n
+
+  direct-payload : (q : Request) (v : Check) → verdict (directChecks x) ≡ v → let a = directOf d x q v in payloadAt (a .reply .answer) (q .bytes) ≡ a .reply .payload
+  direct-payload q Pass e = payload-is d (x .tables) q
+  direct-payload q (Refuse n) e = refused-1 (not (soundTerminal x)) n (q .bytes) e
+
+  direct-bytes : (q : Request) (v : Check) → [] ≡ directOf d x q v .bytes
+  direct-bytes q Pass = refl
+  direct-bytes q (Refuse n) = refl
+
+  -- a call shows what is answered
+  pub shown-is : (i : Input) (c : Call) → Meets d x i c → shown i c ≡ answered d x i
+  unfolding handedIn taken judged
+  shown-is (handIn r) c m = hand-shown r c (verdict (handInChecks x r)) (m .0) (m .1)
+  shown-is (takeAt clock room) c m =
+      let a = taken d x clock room in
+      let r : recordGiven c ≡ a .bytes = ap (λ (t : Taken). take (t .size) (t .bytes)) (m .0) ∙ record-back (a .bytes) in
+      lent-shown a room (recordGiven c) (recordGiven c) c (ap (λ (t : Taken). t .judgement) (m .0)) (m .1) (m .2)
+      (ap (payloadAt (a .reply .answer)) r ∙ take-payload (asked clock (due x) room) (verdict (takeChecks x))) r
+  shown-is (direct q) c m =
+      lent-shown (judged d x q) (q .room) (q .bytes) [] c (m .0) (m .1) (m .2) (direct-payload q (verdict (directChecks x)) refl) (direct-bytes q (verdict (directChecks x)))
+
+-- ---- the run
+
+pub built-shown : (d : Defaults) (x : Terminal) (is : List Input) (cs : List Call) → Built d x is cs
+    → (allShown is cs ≡ replies (answered d) (next d) x is) × (handedBack x cs ≡ final (next d) x is)
+built-shown d x [] [] b = (refl, refl)
+built-shown d x [] (c ∷ cs) b = absurd b
+built-shown d x (i ∷ is) [] b = absurd b
+built-shown d x (i ∷ is) (c ∷ cs) b =
+    let l = call-left d x i c (b .0) in
+    let more = built-shown d (left c) is cs (b .1) in (
+      ap₂ (λ (a : Answered) (xs : List Answered). a ∷ xs) (shown-is d x i c (b .0)) (more .0 ∙ ap (λ (y : Terminal). replies (answered d) (next d) y is) l),
+      more .1 ∙ ap (λ (y : Terminal). final (next d) y is) l,
+    )
+
+-- what two lists of calls show at each input, and the terminals handed back last
+pub built-any-order :
+    (d : Defaults) (x y : Terminal) (is : List Input) (cs es : List Call)
+    → Built d x is cs → Built d y is es
+    → InStep x y → length (x .tables .rowners) ≡ 64
+    → InPairs SameAnswer is (allShown is cs) (allShown is es) × InStep (handedBack x cs) (handedBack y es)
+built-any-order d x y is cs es b c s l =
+    let left = built-shown d x is cs b in
+    let right = built-shown d y is es c in
+    rw (left .0, right .0, left .1, right .1) (any-order d x y is s l)

@@ -1,0 +1,10 @@
+-- The laws of another order (ReorderLaws), one record (FromAccess, OneRecord), one input (OwnersKept, OneInput), and the theorems of U14: AnyOrder, Calls, Lists, Examples.
+pub mod ReorderLaws
+pub mod FromAccess
+pub mod OneRecord
+pub mod OwnersKept
+pub mod OneInput
+pub mod AnyOrder
+pub mod Calls
+pub mod Lists
+pub mod Examples
