@@ -2,23 +2,26 @@
 # Tests of what no proof covers: the library against the second model, the C interface, the programs on bad input.
 #
 #     tests/run.sh              all tests
-#     tests/run.sh NAME..       some: model, compare, runs, example, vectors, inputs
+#     tests/run.sh NAME..       some: model, compare, runs, example, vectors, inputs, terminal
 #
 # The last line counts the tests that passed and failed; a failure makes the script exit with 1.
 set -uo pipefail
 cd "$(dirname "$0")/.." || exit 2
 
-ALL=(model compare runs example vectors inputs)
+ALL=(model compare runs example vectors inputs terminal)
 work=$(mktemp -d) || exit 2
 trap 'rm -rf "$work"' EXIT
 
 # ---- what the tests stand on
 
-# need COMMAND PACKAGE: installs the package where the command is missing
+# have WHAT: a command, or a file
+have() { command -v "$1" >/dev/null || [ -e "$1" ]; }
+
+# need WHAT PACKAGE: installs the package where the command or the file is missing
 need() {
-    command -v "$1" >/dev/null && return
+    have "$1" && return
     echo "$1 is missing: installing $2"
-    { apt-get update && apt-get install -y --no-install-recommends "$2"; } >"$work/apt" 2>&1 && command -v "$1" >/dev/null && return
+    { apt-get update && apt-get install -y --no-install-recommends "$2"; } >"$work/apt" 2>&1 && have "$1" && return
     tail -n 5 "$work/apt"
     echo "$1 is not installed, and apt-get could not install $2"
     return 1
@@ -112,6 +115,12 @@ test_inputs() {
     { echo "$header" && echo "cut"; } >"$work/expected"
     expect_file "a record that goes on past the run" || failed=1
     return "$failed"
+}
+
+# The example terminal over CoAP and DTLS, talked to by libcoap's client.
+test_terminal() {
+    need cc gcc && need make make && need /usr/include/coap3/coap.h libcoap3-dev && need coap-client-openssl libcoap3-bin &&
+        library && tests/terminal.sh
 }
 
 # expect_text WHAT INPUT TEXT

@@ -1,0 +1,29 @@
+/* The keys of the partners: which identity may open a session, and which credential it then has. */
+#ifndef KEYS_H
+#define KEYS_H
+
+#include <stddef.h>
+#include <stdint.h>
+
+enum { KEYS_MOST = 64, KEY_LEAST = 16, KEY_MOST = 64 };
+
+struct key {
+    /* the credential number, which is also the identity, in decimal */
+    unsigned number;
+    char identity[8];
+    char secret[KEY_MOST + 1];
+};
+
+struct keys {
+    size_t length;
+    struct key list[KEYS_MOST];
+};
+
+/* Reads a file with a line for each key: credential number, space, key of 16 to 64 characters. Empty lines and lines that
+ * begin with # are passed over. A file that others may read, or with any other line, ends the program. */
+void keys_read(struct keys *keys, const char *path);
+
+/* The key of an identity, or NULL. */
+const struct key *keys_find(const struct keys *keys, const uint8_t *identity, size_t length);
+
+#endif

@@ -1,0 +1,23 @@
+/* The file that the terminal's tables live in, with what waits. It is written whole or not at all. */
+#ifndef STORE_H
+#define STORE_H
+
+#include "tillerclover.h"
+
+/* All that the library asks to be kept. Both parts are bytes without padding, so they are stored as they are. */
+struct state {
+    tillerclover_tables tables;
+    tillerclover_waiting waiting;
+};
+
+enum found { FOUND_WHOLE, FOUND_NOTHING, FOUND_DAMAGED };
+
+/* Fills the state from the file. It is left as it was where there is no file, or one that is damaged: of another length,
+ * of another kind, or with a checksum that does not fit. A file that cannot be read ends the program. */
+enum found store_read(const char *path, struct state *state);
+
+/* When this returns, the state is on the disk and survives a loss of power. Where that cannot be had the program ends:
+ * a terminal that cannot store must not answer. */
+void store_write(const char *path, const struct state *state);
+
+#endif
