@@ -71,7 +71,7 @@ fn first_row_gives(case: &Case) -> Option<u8> {
         Connection::AuthCrypt => Sender::Partner(tables.credential(header.credential)?),
     };
     let held = tables.accesses.iter().filter(|row| row.period.holds_at(case.clock));
-    held.into_iter().find(|row| fits(row, sender, resource)).map(|row| row.permission)
+    held.into_iter().find(|row| fits(row, sender, resource, case.clock)).map(|row| row.permission)
 }
 
 /// How often the two sides differed where they may, and where a program that
