@@ -4,17 +4,44 @@ use std::ops::Range;
 
 use crate::defaults::Defaults;
 use crate::hex;
+use crate::record::{HEADER, LONGEST};
 use crate::rules::{judge, Outcome, LONGEST_REPLY};
 use crate::tables::{
     fresh_bytes, Access, Asserted, Credential, Row, Stored, ACCESSES, ACCESS_COUNT, CREDENTIALS, CREDENTIAL_COUNT,
     DEVICE_OWNER, OWNED, ROW_OWNERS, SIZE, STATE,
 };
+use crate::waiting::{self, Memory, COUNT, ROUND, SLOT, SLOTS};
 
-/// Tables and a record that is judged on them.
+/// What is asked of the terminal.
+#[derive(Clone, Copy, Debug, PartialEq, Eq)]
+pub enum Call {
+    /// To judge a record at once.
+    Judge,
+    /// To keep a record until its turn. Clock, room and default lists don't matter.
+    HandIn,
+    /// To judge the record whose turn it is. The record doesn't matter.
+    Take,
+}
+
+impl Call {
+    pub const ALL: [Call; 3] = [Call::Judge, Call::HandIn, Call::Take];
+
+    pub fn name(self) -> &'static str {
+        match self {
+            Call::Judge => "judge",
+            Call::HandIn => "hand-in",
+            Call::Take => "take",
+        }
+    }
+}
+
+/// Tables, what waits beside them, and a call.
 #[derive(Clone, Debug, PartialEq, Eq)]
 pub struct Case {
+    pub call: Call,
     pub tables: Stored,
-    /// The terminal's clock when the record comes.
+    pub waiting: Memory,
+    /// The terminal's clock when the call is made.
     pub clock: u32,
     pub record: Vec<u8>,
     /// The length of the buffer that is lent for a reply, or for the office
@@ -25,17 +52,30 @@ pub struct Case {
 }
 
 impl Case {
-    /// At clock 0, with a buffer that fits any reply, and no default rows.
+    /// To judge a record with nothing waiting, at clock 0, with a buffer that fits
+    /// any reply, and no default rows.
     pub fn new(tables: &Stored, record: &[u8]) -> Case {
-        Case { tables: *tables, clock: 0, record: record.to_vec(), room: LONGEST_REPLY, defaults: Defaults::none() }
+        Case {
+            call: Call::Judge,
+            tables: *tables,
+            waiting: Memory::fresh(),
+            clock: 0,
+            record: record.to_vec(),
+            room: LONGEST_REPLY,
+            defaults: Defaults::none(),
+        }
     }
 
-    /// As one line: tables, clock, record, room and the two default lists, with
-    /// colons between; clock and room in decimal, all else in hexadecimal digits.
+    /// As one line: call, tables, what waits, clock, record, room and the two
+    /// default lists, with colons between. The call is a word, clock and room are in
+    /// decimal, all else is in hexadecimal digits; zeros at the end of the memory of
+    /// what waits are left out.
     pub fn line(&self) -> String {
         format!(
-            "{}:{}:{}:{}:{}:{}",
+            "{}:{}:{}:{}:{}:{}:{}:{}",
+            self.call.name(),
             hex::write(&self.tables),
+            hex::write(self.waiting.short()),
             self.clock,
             hex::write(&self.record),
             self.room,
@@ -46,14 +86,21 @@ impl Case {
 
     pub fn from_line(line: &str) -> Result<Case, String> {
         let parts: Vec<&str> = line.split(':').collect();
-        let [tables, clock, record, room, credentials, accesses] = parts[..] else {
+        let [call, tables, waiting, clock, record, room, credentials, accesses] = parts[..] else {
             return Err(format!(
-                "a case is TABLES:CLOCK:RECORD:ROOM:CREDENTIALS:ACCESSES, but this has {} parts",
+                "a case is CALL:TABLES:WAITING:CLOCK:RECORD:ROOM:CREDENTIALS:ACCESSES, but this has {} parts",
                 parts.len()
             ));
         };
+        let known = Call::ALL.into_iter().find(|known| known.name() == call);
+        let call = known.ok_or(format!("a call is judge, hand-in or take, not '{call}'"))?;
         let bytes = |text, name| hex::read(text).map_err(|fault| format!("the {name}: {fault}"));
         let tables = bytes(tables, "tables")?;
+        let waiting = bytes(waiting, "memory of what waits")?;
+        if waiting.len() > waiting::SIZE {
+            return Err(format!("the memory has {} bytes, but these are {}", waiting::SIZE, waiting.len()));
+        }
+        let waiting = Memory::from_bytes(&waiting);
         let record = bytes(record, "record")?;
         let defaults = Defaults {
             credentials: bytes(credentials, "default credentials")?,
@@ -63,7 +110,7 @@ impl Case {
         let tables = tables.try_into().map_err(|_| format!("the tables have {SIZE} bytes, but these are {length}"))?;
         let clock = clock.parse().map_err(|_| format!("the clock is a number up to {}, not '{clock}'", u32::MAX))?;
         let room = room.parse::<u16>().map_err(|_| format!("the room is a number up to 65535, not '{room}'"))?;
-        Ok(Case { tables, clock, record, room: room.into(), defaults })
+        Ok(Case { call, tables, waiting, clock, record, room: room.into(), defaults })
     }
 
     /// What is in the lent buffer before the record is judged, and behind it:
@@ -74,16 +121,27 @@ impl Case {
 
     /// What a caller is to see.
     pub fn expected(&self) -> Seen {
-        Seen::new(judge(self), self.room)
+        Seen::new(judge(self), self)
     }
 
     /// What shrinking makes smaller.
-    fn size(&self) -> [usize; 7] {
+    fn size(&self) -> [usize; 9] {
         let set = |bytes: &[u8]| bytes.iter().filter(|&&byte| byte != 0).count();
         let Defaults { credentials, accesses } = &self.defaults;
         let lists = credentials.len() + accesses.len();
         let in_lists = set(credentials) + set(accesses);
-        [self.record.len(), set(&self.record), set(&self.tables), self.room, lists, in_lists, self.clock as usize]
+        let memory = self.waiting.short();
+        [
+            self.record.len(),
+            set(&self.record),
+            memory.len(),
+            set(memory),
+            set(&self.tables),
+            self.room,
+            lists,
+            in_lists,
+            self.clock as usize,
+        ]
     }
 
     /// Cases a step smaller, the boldest first.
@@ -105,6 +163,7 @@ impl Case {
             cleared.record[place] = 0;
             cases.push(cleared);
         }
+        cases.extend(self.with_less_waiting());
         cases.push(Case { tables: fresh_bytes(), ..self.clone() });
         for rows in [(CREDENTIAL_COUNT, CREDENTIALS), (ACCESS_COUNT, ACCESSES)] {
             let mut cleared = self.clone();
@@ -174,6 +233,39 @@ impl Case {
             row[Credential::LENGTH..].chunks_exact_mut(Asserted::LENGTH).for_each(|place| earlier(&mut place[4..]));
         }
         case
+    }
+
+    /// With nothing waiting, with a slot less, without a round, with a record cut
+    /// to its header, and with a byte cleared.
+    fn with_less_waiting(&self) -> Vec<Case> {
+        if self.waiting == Memory::fresh() {
+            return Vec::new();
+        }
+        let bytes = self.waiting.bytes();
+        let mut memories = vec![Vec::new()];
+        let slots = bytes[COUNT].min(waiting::CAPACITY as u8).into();
+        for slot in 0..slots {
+            let start = SLOTS.start + slot * SLOT;
+            let mut without = [&bytes[..start], &bytes[start + SLOT..]].concat();
+            without[COUNT] -= 1;
+            memories.push(without);
+        }
+        let mut anew = bytes.clone();
+        anew[ROUND].fill(0);
+        memories.push(anew);
+        for slot in 0..slots {
+            let start = SLOTS.start + slot * SLOT;
+            let mut cut = bytes.clone();
+            cut[start + 2..start + 4].copy_from_slice(&[0, HEADER as u8]);
+            cut[start + 4 + HEADER..start + SLOT].fill(0);
+            memories.push(cut);
+        }
+        for place in (0..bytes.len()).filter(|&place| bytes[place] != 0) {
+            let mut cleared = bytes.clone();
+            cleared[place] = 0;
+            memories.push(cleared);
+        }
+        memories.iter().map(|bytes| Case { waiting: Memory::from_bytes(bytes), ..self.clone() }).collect()
     }
 
     /// Without both asserted roles of a row, without the first, and without the
@@ -259,17 +351,27 @@ pub struct Seen {
     /// The set that the yard answers, and its size as it is reported.
     pub set: u64,
     pub size: usize,
+    /// The length of the record that a take hands out, and all bytes there are for
+    /// it; of another call none.
+    pub taken: usize,
+    pub record: Vec<u8>,
     pub tables: Stored,
+    pub waiting: Memory,
 }
 
 /// So many bytes behind the lent buffer are watched.
 pub const BEHIND: usize = 64;
 
 impl Seen {
-    /// The outcome for a caller who lends `room` bytes.
-    pub fn new(outcome: Outcome, room: usize) -> Seen {
-        let mut buffer = Case::pattern(room + BEHIND);
+    /// The outcome of a case for its caller.
+    pub fn new(outcome: Outcome, case: &Case) -> Seen {
+        let mut buffer = Case::pattern(case.room + BEHIND);
         buffer[..outcome.reply.len()].copy_from_slice(&outcome.reply);
+        let taken = outcome.record.len();
+        let mut record = outcome.record;
+        if case.call == Call::Take {
+            record.resize(LONGEST, 0);
+        }
         Seen {
             answer: outcome.answer,
             permission: outcome.permission,
@@ -280,8 +382,16 @@ impl Seen {
             many: outcome.places.len(),
             set: outcome.set,
             size: outcome.size,
+            taken,
+            record,
             tables: outcome.tables,
+            waiting: outcome.waiting,
         }
+    }
+
+    /// The tables and the memory afterwards.
+    pub fn after(self) -> (Stored, Memory) {
+        (self.tables, self.waiting)
     }
 
     /// Whether both are the same; an empty payload may start anywhere.
@@ -293,7 +403,9 @@ impl Seen {
             && self.buffer == other.buffer
             && (self.first, self.many) == (other.first, other.many)
             && (self.set, self.size) == (other.set, other.size)
+            && (self.taken, &self.record) == (other.taken, &other.record)
             && self.tables == other.tables
+            && self.waiting == other.waiting
     }
 
     /// In one line, as the outcome of a case.
@@ -307,9 +419,14 @@ impl Seen {
                 format!("tables changed in {changed} bytes, the first at {}", field(place))
             }
         };
+        let memory = match first_change(&case.waiting.bytes(), &self.waiting.bytes()) {
+            None => "memory unchanged".into(),
+            Some(_) if self.waiting == Memory::fresh() => "memory fresh".into(),
+            Some(place) => format!("memory changed, first at {}", waiting::field(place)),
+        };
         format!(
             "answer {}, permission {}, payload from {} length {}, reply length {}, {}, \
-             places from {} many {}, set {:016x} size {}, {tables}",
+             places from {} many {}, set {:016x} size {}, record length {}, {tables}, {memory}",
             self.answer,
             self.permission,
             self.payload.start,
@@ -319,7 +436,8 @@ impl Seen {
             self.first,
             self.many,
             self.set,
-            self.size
+            self.size,
+            self.taken
         )
     }
 }
@@ -371,7 +489,10 @@ mod tests {
         for _ in 0..20 {
             let defaults = generate::defaults(&mut random);
             let tables = generate::any_bytes(&mut random);
-            let case = Case { tables, clock: u32::MAX, record: random.bytes(9), room: 517, defaults };
+            let waiting = Memory::from_bytes(&random.bytes(700));
+            let record = random.bytes(9);
+            let call = random.pick(&Call::ALL);
+            let case = Case { call, tables, waiting, clock: u32::MAX, record, room: 517, defaults };
             assert_eq!(Case::from_line(&case.line()), Ok(case.clone()));
             assert!(Case::from_line(&format!("{}00", case.line())).is_ok());
             assert!(Case::from_line(&format!("{}0", case.line())).is_err());
@@ -381,9 +502,15 @@ mod tests {
             assert!(Case::from_line(&case.line().replace(":4294967295:", ":0:")).is_ok());
             assert!(Case::from_line(&case.line().replace(":4294967295:", ":4294967296:")).is_err());
         }
-        assert!(Case::from_line("00:0:00:0").is_err());
-        assert!(Case::from_line("00:0:00:0::").unwrap_err().contains("2172"));
-        assert!(Case::from_line("0g:0:00:0::").is_err());
+        assert!(Case::from_line("judge:00::0:00:0").is_err());
+        assert!(Case::from_line("judge:00::0:00:0::").unwrap_err().contains("2172"));
+        assert!(Case::from_line("judge:0g::0:00:0::").is_err());
+        let fresh = hex::write(&fresh_bytes());
+        assert!(Case::from_line(&format!("take:{fresh}::0::0::")).is_ok());
+        assert!(Case::from_line(&format!("takes:{fresh}::0::0::")).unwrap_err().contains("takes"));
+        let memory = "00".repeat(6504);
+        assert!(Case::from_line(&format!("take:{fresh}:{memory}:0::0::")).is_ok());
+        assert!(Case::from_line(&format!("take:{fresh}:{memory}00:0::0::")).unwrap_err().contains("6505"));
     }
 
     #[test]
@@ -530,6 +657,34 @@ mod tests {
     }
 
     #[test]
+    fn what_waits_shrinks_to_one_record() {
+        // A program that leaves the round where it was.
+        let wrong = |case: &Case| {
+            let mut seen = case.expected();
+            if case.call == Call::Take && seen.taken > 0 {
+                let mut bytes = seen.waiting.bytes();
+                bytes[ROUND].copy_from_slice(&case.waiting.bytes()[ROUND]);
+                seen.waiting = Memory::from_bytes(&bytes);
+            }
+            seen
+        };
+        let differs = |case: &Case| !wrong(case).same(&case.expected());
+        let mut random = Random::new(12);
+        let found = loop {
+            let tables = generate::any_sound(&mut random);
+            let waiting = generate::waiting(&mut random, &tables).memory();
+            let case = Case { call: Call::Take, waiting, ..Case::new(&tables.bytes(), &[]) };
+            if case.waiting.bytes()[COUNT] > 8 && differs(&case) {
+                break case;
+            }
+        };
+        let small = shrink(found, differs);
+        assert_eq!(small.waiting.bytes()[..SLOTS.start], [1, 0, 0, 0]);
+        assert!(small.waiting.short().len() <= SLOTS.start + 8);
+        assert_eq!(Case::from_line(&small.line()), Ok(small.clone()));
+    }
+
+    #[test]
     fn fields_are_named() {
         assert_eq!(field(0), "byte 0 (state)");
         assert_eq!(field(83), "byte 83 (row owner 3)");
@@ -538,5 +693,9 @@ mod tests {
         assert_eq!(field(1019), "byte 1019 (asserted role 1 of credential place 23)");
         assert_eq!(field(1020), "byte 1020 (access place 0)");
         assert_eq!(field(2171), "byte 2171 (access place 31)");
+        assert_eq!(waiting::field(0), "byte 0 of the memory (count of records that wait)");
+        assert_eq!(waiting::field(3), "byte 3 of the memory (round)");
+        assert_eq!(waiting::field(263), "byte 263 of the memory (slot 0)");
+        assert_eq!(waiting::field(6503), "byte 6503 of the memory (slot 24)");
     }
 }

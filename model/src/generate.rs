@@ -1,12 +1,12 @@
 //! Random tables and records. The same seed gives the same ones.
 
-use crate::case::Case;
+use crate::case::{Call, Case};
 use crate::defaults::{join, Defaults, MOST};
 use crate::directory::{self, DIRECTORY, LINKS, ROLES, YARD};
 use crate::examples;
 use crate::random::Random;
 use crate::record::{compose, device_owner_body, target_body, Header, Verb, HEADER, LONGEST};
-use crate::rules::{effective_permission, judge, Sender, LONGEST_REPLY};
+use crate::rules::{effective_permission, judge, receive, Sender, LONGEST_REPLY};
 use crate::run::LONGEST_RUN;
 use crate::spoil;
 use crate::systematic;
@@ -14,6 +14,7 @@ use crate::tables::{
     fresh_bytes, uuid_bytes, Access, Asserted, Connection, Credential, Period, Role, Row, State, Stored, Subject,
     Tables, Uuid, Wildcards, SIZE,
 };
+use crate::waiting::{self, Memory, Place, Waiting, Waits, UNAUTHENTICATED};
 
 // Values from small pools, so that they meet again, and near misses of them.
 
@@ -323,6 +324,15 @@ pub fn any_bytes(random: &mut Random) -> Stored {
     stored
 }
 
+/// Memory of any content, mostly such as waits beside these tables.
+pub fn any_memory(random: &mut Random, tables: &Stored) -> Memory {
+    if random.chance(20) {
+        let length = random.between(1, waiting::SIZE);
+        return Memory::from_bytes(&random.bytes(length));
+    }
+    memory(random, tables, 20, 30)
+}
+
 /// Default lists, each good or bad by itself.
 pub fn defaults(random: &mut Random) -> Defaults {
     if random.chance(15) {
@@ -428,13 +438,75 @@ pub enum Style {
     Noise,
 }
 
-/// Tables to start from, default lists, and how many records follow in which
-/// style.
+/// Tables and what waits to start from, default lists, and how many records
+/// follow in which style.
 pub struct Session {
     pub tables: Stored,
+    pub waiting: Memory,
     pub defaults: Defaults,
     pub style: Style,
     pub records: usize,
+    /// Whether records are handed in and taken, or all judged at once.
+    pub turns: bool,
+}
+
+/// The next call of a session.
+pub fn call(random: &mut Random, session: &Session) -> Call {
+    if session.turns {
+        random.weighted(&[(45, Call::HandIn), (35, Call::Take), (20, Call::Judge)])
+    } else {
+        Call::Judge
+    }
+}
+
+/// Records that wait beside these tables, at some places or at all, and a round of
+/// any kind.
+pub fn waiting(random: &mut Random, tables: &Tables) -> Waiting {
+    let mut places = vec![UNAUTHENTICATED];
+    places.extend(tables.credentials.iter().map(Row::number));
+    let last = match random.below(10) {
+        0..=2 => None,
+        3 => Some(number(random)),
+        _ => Some(random.pick(&places)),
+    };
+    let percent = random.pick(&[15, 50, 80, 100]);
+    let mut records: Vec<Waits> = Vec::new();
+    for place in places {
+        if random.chance(percent) {
+            let waits = Waits { place, record: record_of(random, tables, place) };
+            records.insert(random.below(records.len() + 1), waits);
+        }
+    }
+    Waiting { last, records }
+}
+
+/// A record that passes checks 2 to 7 for this place.
+fn record_of(random: &mut Random, tables: &Tables, place: Place) -> Vec<u8> {
+    let clock = second(random);
+    loop {
+        let drawn = mixed(random, tables, clock);
+        let (header, body) = (Header::read(&drawn), &drawn[HEADER..]);
+        let connection = if place == UNAUTHENTICATED { Connection::AnonClear } else { Connection::AuthCrypt };
+        let record = Header { connection, credential: place, ..header }.with_body(body);
+        if receive(tables, &record).is_ok() {
+            return record;
+        }
+    }
+}
+
+/// Memory to start from: fresh, sound, or spoilt in so many of a hundred cases.
+fn memory(random: &mut Random, tables: &Stored, fresh: usize, spoilt: usize) -> Memory {
+    let tables = match Tables::read(tables) {
+        Ok(tables) if !random.chance(fresh) => tables,
+        _ => return Memory::fresh(),
+    };
+    let memory = waiting(random, &tables).memory();
+    if random.chance(spoilt) {
+        let mut bytes = memory.bytes();
+        spoil::spoil_memory(&mut bytes, random);
+        return Memory::from_bytes(&bytes);
+    }
+    memory
 }
 
 pub fn session(random: &mut Random) -> Session {
@@ -484,7 +556,12 @@ pub fn session(random: &mut Random) -> Session {
     };
     let style =
         random.weighted(&[(40, Style::Purposeful), (40, Style::Mixed), (15, Style::Damaged), (5, Style::Noise)]);
-    Session { tables, defaults, style, records }
+    let turns = random.chance(50);
+    let waiting = if turns { memory(random, &tables, 30, 15) } else { memory(random, &tables, 80, 25) };
+    let sound = Tables::read(&tables).is_ok_and(|tables| Waiting::read(&waiting, &tables).is_ok());
+    // Every call gets the same answer otherwise.
+    let records = if sound { records } else { records.min(12) };
+    Session { tables, waiting, defaults, style, records, turns }
 }
 
 /// The next record, made with the present tables and the clock in view.
@@ -918,14 +995,14 @@ pub enum Part {
 }
 
 /// Shows `records` cases to `visit`: first the systematic ones, then random
-/// sessions. `visit` gives the tables afterwards.
-pub fn walk(seed: u64, records: u64, mut visit: impl FnMut(Part, &Case) -> Stored) {
+/// sessions. `visit` gives the tables and the memory afterwards.
+pub fn walk(seed: u64, records: u64, mut visit: impl FnMut(Part, &Case) -> (Stored, Memory)) {
     let left = walk_groups(seed, records, &mut visit);
     walk_sessions(seed, left, &mut visit);
 }
 
 /// The systematic cases, up to `records`; gives how many are left.
-pub fn walk_groups(seed: u64, records: u64, visit: &mut impl FnMut(Part, &Case) -> Stored) -> u64 {
+pub fn walk_groups(seed: u64, records: u64, visit: &mut impl FnMut(Part, &Case) -> (Stored, Memory)) -> u64 {
     let mut random = Random::part(seed, 4);
     let mut left = records;
     for group in systematic::groups(seed) {
@@ -936,6 +1013,8 @@ pub fn walk_groups(seed: u64, records: u64, visit: &mut impl FnMut(Part, &Case) 
             }
             left -= 1;
             let mut case = Case::new(&group.tables, record);
+            case.call = group.call;
+            case.waiting = group.waiting.clone();
             case.clock = group.clock.unwrap_or_else(|| clock(&mut random, &group.tables));
             case.room = group.room.unwrap_or_else(|| room(&mut random, &case));
             case.defaults = defaults.clone();
@@ -946,19 +1025,24 @@ pub fn walk_groups(seed: u64, records: u64, visit: &mut impl FnMut(Part, &Case) 
 }
 
 /// Random sessions, `left` records in all.
-pub fn walk_sessions(seed: u64, mut left: u64, visit: &mut impl FnMut(Part, &Case) -> Stored) {
+pub fn walk_sessions(seed: u64, mut left: u64, visit: &mut impl FnMut(Part, &Case) -> (Stored, Memory)) {
     let mut random = Random::part(seed, 1);
     while left > 0 {
         let session = session(&mut random);
         let mut tables = session.tables;
+        let mut waiting = session.waiting.clone();
         for _ in 0..left.min(session.records as u64) {
             left -= 1;
+            let call = call(&mut random, &session);
             let clock = clock(&mut random, &tables);
-            let record = record(&mut random, session.style, &tables, clock);
-            let mut case = Case { clock, ..Case::new(&tables, &record) };
+            let record = match call {
+                Call::Take => Vec::new(),
+                _ => record(&mut random, session.style, &tables, clock),
+            };
+            let mut case = Case { call, clock, waiting, ..Case::new(&tables, &record) };
             case.room = room(&mut random, &case);
             case.defaults = session.defaults.clone();
-            tables = visit(Part::Random(session.style), &case);
+            (tables, waiting) = visit(Part::Random(session.style), &case);
         }
     }
 }
@@ -1062,7 +1146,7 @@ fn append(input: &mut Vec<u8>, clock: u32, record: &[u8]) {
 #[cfg(test)]
 mod tests {
     use super::*;
-    use crate::histogram::{Clocks, Histogram, Places, Replies, Resets, Roles, Sets, Subjects};
+    use crate::histogram::{Clocks, Histogram, Places, Replies, Resets, Roles, Sets, Subjects, Turns};
     use crate::rules::ANSWERS;
     use crate::run;
 
@@ -1072,13 +1156,13 @@ mod tests {
         walk_groups(1, u64::MAX, &mut |_, case| {
             let outcome = judge(case);
             systematic.add(case, &outcome);
-            outcome.tables
+            outcome.after()
         });
         let mut random = Histogram::new();
-        walk_sessions(1, 40_000, &mut |_, case| {
+        walk_sessions(1, 80_000, &mut |_, case| {
             let outcome = judge(case);
             random.add(case, &outcome);
-            outcome.tables
+            outcome.after()
         });
         for answer in ANSWERS.map(usize::from) {
             assert!(systematic.answers[answer] >= 50, "systematic {answer}: {systematic}");
@@ -1103,6 +1187,14 @@ mod tests {
             assert!(unasked >= 100, "{histogram}");
             // No partner reaches all seven: one of them has no secure endpoint.
             assert!(sizes[..7].iter().all(|&count| count >= 5) && sizes[7] == 0, "{histogram}");
+            let Turns { kept, permitted, refused, out_of_order, wrapped, stale, .. } = histogram.turns;
+            for count in [kept, permitted, refused, out_of_order, wrapped, stale] {
+                assert!(count >= 100, "{histogram}");
+            }
+            let Turns { dropped, cleared, anew, not_sound, full, .. } = histogram.turns;
+            for count in [dropped, cleared, anew, not_sound, full] {
+                assert!(count >= 40, "{histogram}");
+            }
             let Roles { added, prolonged, removed, past, opening, replied } = histogram.roles;
             for count in [added, prolonged, removed, past, opening].into_iter().chain(replied) {
                 assert!(count >= 50, "{histogram}");
@@ -1117,10 +1209,13 @@ mod tests {
             walk_sessions(seed, 5_000, &mut |_, case| {
                 let outcome = judge(case);
                 let clock = case.clock.to_be_bytes();
-                for &byte in clock.iter().chain(&case.record).chain(&outcome.reply).chain(&outcome.tables) {
+                let waiting = outcome.waiting.short();
+                for &byte in
+                    clock.iter().chain(&case.record).chain(&outcome.reply).chain(&outcome.tables).chain(waiting)
+                {
                     sum = sum.rotate_left(5).wrapping_add(byte.into());
                 }
-                outcome.tables
+                outcome.after()
             });
             sum
         };
@@ -1132,8 +1227,11 @@ mod tests {
     fn the_rules_keep_tables_sound() {
         walk_sessions(2, 15_000, &mut |_, case| {
             let outcome = judge(case);
-            assert_eq!(Tables::read(&case.tables).is_ok(), Tables::read(&outcome.tables).is_ok());
-            outcome.tables
+            let sound = |tables: &Stored, waiting: &Memory| {
+                Tables::read(tables).is_ok_and(|tables| Waiting::read(waiting, &tables).is_ok())
+            };
+            assert_eq!(sound(&case.tables, &case.waiting), sound(&outcome.tables, &outcome.waiting));
+            outcome.after()
         });
     }
 
@@ -1143,7 +1241,7 @@ mod tests {
             let mut seen = 0;
             walk(3, records, |_, case| {
                 seen += 1;
-                case.tables
+                (case.tables, case.waiting.clone())
             });
             assert_eq!(seen, records);
         }

@@ -1,16 +1,18 @@
 //! How often each answer came, what was permitted, how the replies fitted, how
 //! many rows the deletes by subject found, which places deletes report, which
 //! default rows resets gave, how the clocks stood to the periods of rows, how
-//! many links the yard answered, and what became of the roles that were shown.
+//! many links the yard answered, what became of the roles that were shown, and how
+//! the records took turns.
 
 use std::fmt;
 
-use crate::case::Case;
+use crate::case::{Call, Case};
 use crate::defaults::Defaults;
 use crate::directory::{self, Security, DIRECTORY, ROLES, YARD};
 use crate::record::{Header, Verb, HEADER};
 use crate::rules::{effective_permission, fits, judge, Outcome, Refusal, Sender, ANSWERS, LAST_ANSWER, LONGEST_REPLY};
 use crate::tables::{Asserted, Credential, Period, Tables, CREDENTIAL_COUNT};
+use crate::waiting::{place_of, Memory, Place, Waiting, UNAUTHENTICATED};
 
 #[derive(Clone, Default)]
 pub struct Histogram {
@@ -24,6 +26,77 @@ pub struct Histogram {
     pub clocks: Clocks,
     pub sets: Sets,
     pub roles: Roles,
+    pub turns: Turns,
+}
+
+/// Records that are handed in and taken.
+#[derive(Clone, Default)]
+pub struct Turns {
+    /// Calls of each kind.
+    pub judged: u64,
+    pub handed_in: u64,
+    pub taken: u64,
+    /// Records that were kept.
+    pub kept: u64,
+    /// Takes that hand a record out and permit it, or refuse it.
+    pub permitted: u64,
+    pub refused: u64,
+    /// Takes of another record than the one that came first.
+    pub out_of_order: u64,
+    /// Takes behind the last row in use, so that the round goes over its end.
+    pub wrapped: u64,
+    /// Rounds that name a place that the tables don't hold.
+    pub stale: u64,
+    /// Calls that drop a record that waits: by a deleted row, or by a reset.
+    pub dropped: u64,
+    pub cleared: u64,
+    /// Calls that begin the round anew.
+    pub anew: u64,
+    /// Refused for the memory, with tables that are sound.
+    pub not_sound: u64,
+    /// Places taken with all of them occupied.
+    pub full: u64,
+}
+
+impl Turns {
+    fn add(&mut self, case: &Case, outcome: &Outcome) {
+        match case.call {
+            Call::Judge => self.judged += 1,
+            Call::HandIn => self.handed_in += 1,
+            Call::Take => self.taken += 1,
+        }
+        // Most often nothing waits.
+        if case.waiting == Memory::fresh() && outcome.waiting == Memory::fresh() {
+            return;
+        }
+        let Ok(tables) = Tables::read(&case.tables) else {
+            return;
+        };
+        let Ok(before) = Waiting::read(&case.waiting, &tables) else {
+            self.not_sound += 1;
+            return;
+        };
+        let left = Tables::read(&outcome.tables).expect("sound still");
+        let after = Waiting::read(&outcome.waiting, &left).expect("sound still");
+        let taken = usize::from(case.call == Call::Take && !outcome.record.is_empty());
+        self.kept += u64::from(after.records.len() > before.records.len());
+        if after.records.len() + taken < before.records.len() {
+            let count = if after == Waiting::none() { &mut self.cleared } else { &mut self.dropped };
+            *count += 1;
+        }
+        self.anew += u64::from(before.last.is_some() && after.last.is_none());
+        let held = |place: Place| place == UNAUTHENTICATED || tables.credential(place).is_some();
+        self.stale += u64::from(before.last.is_some_and(|last| !held(last)));
+        if taken == 1 {
+            let count = if outcome.answer == 0 { &mut self.permitted } else { &mut self.refused };
+            *count += 1;
+            self.out_of_order += u64::from(before.records[0].record != outcome.record);
+            let rank = |place| tables.credentials.iter().position(|row| row.number == place).map_or(0, |row| row + 1);
+            let place = rank(place_of(&outcome.record));
+            self.wrapped += u64::from(before.last.is_some_and(|last| held(last) && place <= rank(last)));
+            self.full += u64::from(before.records.len() > tables.credentials.len());
+        }
+    }
 }
 
 /// Roles that partners show.
@@ -177,9 +250,23 @@ impl Histogram {
     }
 
     pub fn add(&mut self, case: &Case, outcome: &Outcome) {
-        let record = &case.record;
         self.answers[outcome.answer as usize] += 1;
-        if !matches!(outcome.answer, 1..=7 | 16) {
+        self.turns.add(case, outcome);
+        match case.call {
+            Call::Judge => self.add_judged(case, outcome),
+            Call::HandIn => {}
+            // As if it had come just now.
+            Call::Take => {
+                let (call, record) = (Call::Judge, outcome.record.clone());
+                self.add_judged(&Case { call, record, ..case.clone() }, outcome);
+            }
+        }
+    }
+
+    /// What there is to say of a record that is judged.
+    fn add_judged(&mut self, case: &Case, outcome: &Outcome) {
+        let record = &case.record;
+        if !matches!(outcome.answer, 1..=7 | 16 | 27) {
             let tables = Tables::read(&case.tables).expect("sound after check 1");
             self.clocks.add(case, &tables);
             self.roles.add(case, outcome, &tables);
@@ -308,6 +395,17 @@ impl fmt::Display for Histogram {
             "roles shown: {added} more, {prolonged} with a new last second, {past} already over, {removed} times others \
              removed,\n{:13}{opening} records reach further by one; replies with none {none}, one {one}, two {two}",
             ""
+        )?;
+        let Turns { judged, handed_in, taken, kept, permitted, refused, .. } = self.turns;
+        let Turns { out_of_order, wrapped, stale, dropped, cleared, anew, not_sound, full, .. } = self.turns;
+        writeln!(
+            out,
+            "turns: {judged} records judged at once, {handed_in} hand-ins that keep {kept}, {taken} takes that permit \
+             {permitted} and refuse {refused},\n{:7}{out_of_order} not of the record that came first, {wrapped} over \
+             the end of the round, {full} with all places occupied,\n{:7}{dropped} calls drop records that wait, \
+             {cleared} drop all, {anew} begin the round anew, {stale} meet a round of a place not held, {not_sound} \
+             memory that is not sound",
+            "", ""
         )
     }
 }

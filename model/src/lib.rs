@@ -16,6 +16,7 @@ pub mod record;
 pub mod rules;
 pub mod run;
 pub mod tables;
+pub mod waiting;
 
 // What is put to them.
 pub mod examples;

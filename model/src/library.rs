@@ -1,15 +1,16 @@
 //! The proved library, as C sees it. include/tillerclover.h declares the same.
 
-use std::cell::RefCell;
 use std::mem::offset_of;
 use std::ops::Range;
 
-use crate::case::{Case, Seen, BEHIND};
+use crate::case::{Call, Case, Seen, BEHIND};
 use crate::defaults::Defaults;
 use crate::office::Listed;
 use crate::older::{Converted, File};
 use crate::provisioning::Tested;
+use crate::record::LONGEST;
 use crate::tables::{self, Stored};
+use crate::waiting::{self, Memory};
 
 #[repr(C)]
 #[derive(Clone, Copy)]
@@ -51,9 +52,24 @@ pub struct Verdict {
     pub row: usize,
 }
 
+#[repr(C)]
+pub struct Taken {
+    pub outcome: Outcome,
+    pub size: usize,
+    pub record: [u8; LONGEST],
+}
+
+/// The memory of what waits, which is lent.
+#[repr(C)]
+#[derive(Clone)]
+pub struct Waiting {
+    pub bytes: [u8; waiting::SIZE],
+}
+
 const _: () = assert!(size_of::<Tables>() == tables::SIZE);
 const _: () = assert!(offset_of!(Outcome, set) == 48 && offset_of!(Outcome, tables) == 64);
 const _: () = assert!(size_of::<Outcome>() == 2240);
+const _: () = assert!(offset_of!(Taken, size) == 2240 && size_of::<Taken>() == 2504);
 
 #[link(name = "terminal", kind = "static")]
 extern "C" {
@@ -85,27 +101,53 @@ extern "C" {
         reply: *mut u8,
         room: usize,
     ) -> Outcome;
+    fn tillerclover_hand_in(t: Tables, waiting: *mut Waiting, record: *const u8, length: usize) -> Outcome;
+    fn tillerclover_take(
+        t: Tables,
+        waiting: *mut Waiting,
+        creds: *const u8,
+        creds_length: usize,
+        aces: *const u8,
+        aces_length: usize,
+        clock: u32,
+        reply: *mut u8,
+        room: usize,
+    ) -> Taken;
     fn tillerclover_access_list(t: Tables, waiting: *const Waiting, text: *mut u8, room: usize) -> Listing;
     fn tillerclover_test_list(rows: *const u8, length: usize) -> Verdict;
     fn tillerclover_convert_list(file: *const u8, length: usize, rows: *mut u8, room: usize) -> Listing;
 }
 
-/// The memory of waiting records.
-#[repr(C)]
-pub struct Waiting {
-    bytes: [u8; Waiting::SIZE],
-}
-
 impl Waiting {
-    pub const SIZE: usize = 6504;
-
-    /// Nothing waits, and the round begins anew.
-    pub const fn fresh() -> Waiting {
-        Waiting { bytes: [0; Waiting::SIZE] }
+    pub fn from_memory(memory: &Memory) -> Waiting {
+        let mut bytes = [0; waiting::SIZE];
+        bytes[..memory.short().len()].copy_from_slice(memory.short());
+        Waiting { bytes }
     }
 
-    pub fn is_fresh(&self) -> bool {
-        self.bytes.iter().all(|&byte| byte == 0)
+    pub fn memory(&self) -> Memory {
+        Memory::from_bytes(&self.bytes)
+    }
+}
+
+/// The memory that is lent, and bytes behind it that are not.
+#[repr(C)]
+struct Watched {
+    waiting: Waiting,
+    behind: [u8; BEHIND],
+}
+
+const UNTOUCHED: [u8; BEHIND] = [0x5B; BEHIND];
+
+impl Watched {
+    fn new(memory: &Memory) -> Watched {
+        Watched { waiting: Waiting::from_memory(memory), behind: UNTOUCHED }
+    }
+
+    /// The memory afterwards.
+    fn memory(&self) -> Memory {
+        assert_eq!(self.behind, UNTOUCHED, "bytes behind the memory of what waits were written");
+        self.waiting.memory()
     }
 }
 
@@ -140,45 +182,41 @@ impl Tables {
     }
 }
 
-thread_local! {
-    static NOTHING_WAITS: RefCell<Waiting> = const { RefCell::new(Waiting::fresh()) };
-}
-
-/// What is done with one fresh memory, again and again: records judged at once leave it fresh.
-pub fn beside_fresh<R>(run: impl FnOnce(&mut Waiting) -> R) -> R {
-    NOTHING_WAITS.with(|waiting| run(&mut waiting.borrow_mut()))
-}
-
 // Each call takes and gives bytes, any of which are allowed; the pointers and lengths are those of living slices.
 
-pub fn fresh(defaults: &Defaults) -> Stored {
-    let Defaults { credentials, accesses } = defaults;
-    let mut waiting = Waiting { bytes: [0x5A; Waiting::SIZE] };
-    let tables = unsafe {
-        tillerclover_fresh(&mut waiting, credentials.as_ptr(), credentials.len(), accesses.as_ptr(), accesses.len())
-    };
-    assert!(waiting.is_fresh(), "fresh tables beside memory that is not fresh");
-    tables.bytes()
-}
-
-pub fn clear(case: &Case) -> Stored {
+/// Fresh tables and memory, whatever the memory was.
+pub fn fresh(case: &Case) -> (Stored, Memory) {
     let Defaults { credentials, accesses } = &case.defaults;
-    let mut waiting = Waiting { bytes: [0x5A; Waiting::SIZE] };
+    let mut watched = Watched::new(&case.waiting);
     let tables = unsafe {
-        tillerclover_clear(
-            Tables::from_bytes(&case.tables),
-            &mut waiting,
+        tillerclover_fresh(
+            &mut watched.waiting,
             credentials.as_ptr(),
             credentials.len(),
             accesses.as_ptr(),
             accesses.len(),
         )
     };
-    assert!(waiting.is_fresh(), "the button left memory that is not fresh");
-    tables.bytes()
+    (tables.bytes(), watched.memory())
 }
 
-/// One call, as a C program makes it.
+pub fn clear(case: &Case) -> (Stored, Memory) {
+    let Defaults { credentials, accesses } = &case.defaults;
+    let mut watched = Watched::new(&case.waiting);
+    let tables = unsafe {
+        tillerclover_clear(
+            Tables::from_bytes(&case.tables),
+            &mut watched.waiting,
+            credentials.as_ptr(),
+            credentials.len(),
+            accesses.as_ptr(),
+            accesses.len(),
+        )
+    };
+    (tables.bytes(), watched.memory())
+}
+
+/// One call to judge a record, as a C program makes it.
 #[inline]
 pub fn decide(
     tables: &Tables,
@@ -206,14 +244,47 @@ pub fn decide(
     }
 }
 
-/// The same in the model's terms.
+/// One call to hand a record in.
+#[inline]
+pub fn hand_in(tables: &Tables, waiting: &mut Waiting, record: &[u8]) -> Outcome {
+    unsafe { tillerclover_hand_in(*tables, waiting, record.as_ptr(), record.len()) }
+}
+
+/// One call to take the record whose turn it is.
+#[inline]
+pub fn take(tables: &Tables, waiting: &mut Waiting, defaults: &Defaults, clock: u32, reply: &mut [u8]) -> Taken {
+    let Defaults { credentials, accesses } = defaults;
+    unsafe {
+        tillerclover_take(
+            *tables,
+            waiting,
+            credentials.as_ptr(),
+            credentials.len(),
+            accesses.as_ptr(),
+            accesses.len(),
+            clock,
+            reply.as_mut_ptr(),
+            reply.len(),
+        )
+    }
+}
+
+/// The call of a case in the model's terms.
 pub fn judge(case: &Case) -> Seen {
     // The buffer is longer than what is lent of it.
     let mut buffer = Case::pattern(case.room + BEHIND);
+    let mut watched = Watched::new(&case.waiting);
     let tables = Tables::from_bytes(&case.tables);
-    let mut waiting = Waiting::fresh();
-    let outcome = decide(&tables, &mut waiting, &case.defaults, case.clock, &case.record, &mut buffer[..case.room]);
-    assert!(waiting.is_fresh(), "a record that was judged at once left something in the memory");
+    let Case { clock, record, defaults, .. } = case;
+    let (reply, waiting) = (&mut buffer[..case.room], &mut watched.waiting);
+    let (outcome, taken, record) = match case.call {
+        Call::Judge => (decide(&tables, waiting, defaults, *clock, record, reply), 0, Vec::new()),
+        Call::HandIn => (hand_in(&tables, waiting, record), 0, Vec::new()),
+        Call::Take => {
+            let Taken { outcome, size, record } = take(&tables, waiting, defaults, *clock, reply);
+            (outcome, size, record.to_vec())
+        }
+    };
     Seen {
         answer: outcome.answer,
         permission: outcome.permission,
@@ -224,7 +295,10 @@ pub fn judge(case: &Case) -> Seen {
         many: outcome.many,
         set: outcome.set,
         size: outcome.size,
+        taken,
+        record,
         tables: outcome.tables.bytes(),
+        waiting: watched.memory(),
     }
 }
 
@@ -238,8 +312,9 @@ pub fn write_list(tables: &Tables, waiting: &Waiting, text: &mut [u8]) -> Listin
 pub fn list(case: &Case) -> Listed {
     // The buffer is longer than what is lent of it.
     let mut buffer = Case::pattern(case.room + BEHIND);
-    let Listing { answer, length } =
-        write_list(&Tables::from_bytes(&case.tables), &Waiting::fresh(), &mut buffer[..case.room]);
+    let (tables, waiting) = (Tables::from_bytes(&case.tables), Waiting::from_memory(&case.waiting));
+    let Listing { answer, length } = write_list(&tables, &waiting, &mut buffer[..case.room]);
+    assert_eq!(waiting.memory(), case.waiting, "the memory of what waits was written for a text");
     Listed { answer, length, buffer }
 }
 

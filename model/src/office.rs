@@ -4,6 +4,7 @@
 use crate::case::{written, Case, BEHIND};
 use crate::directory::DIRECTORY;
 use crate::tables::{Access, Connection, Period, Role, Stored, Subject, Tables, Uuid, Wildcards};
+use crate::waiting::{Memory, Waiting};
 
 /// Why there is no text; the value is its number.
 #[derive(Clone, Copy, Debug, PartialEq, Eq)]
@@ -17,9 +18,10 @@ pub const LONGEST_TEXT: usize = 13_069;
 
 /// Writes the access list to the front of the buffer and gives the length of
 /// the text. All other bytes keep their contents.
-pub fn write(stored: &Stored, buffer: &mut [u8]) -> Result<usize, NoText> {
+pub fn write(stored: &Stored, memory: &Memory, buffer: &mut [u8]) -> Result<usize, NoText> {
     // 17
     let tables = Tables::read(stored).map_err(|_| NoText::TablesNotSound)?;
+    Waiting::read(memory, &tables).map_err(|_| NoText::TablesNotSound)?;
     let text = text(&tables.accesses);
     // 18
     let front = buffer.get_mut(..text.len()).ok_or(NoText::BufferTooShort)?;
@@ -91,7 +93,7 @@ impl Listed {
     /// What a caller is to see who lends the room of the case.
     pub fn expected(case: &Case) -> Listed {
         let mut buffer = Case::pattern(case.room + BEHIND);
-        let (answer, length) = match write(&case.tables, &mut buffer[..case.room]) {
+        let (answer, length) = match write(&case.tables, &case.waiting, &mut buffer[..case.room]) {
             Ok(length) => (0, length),
             Err(reason) => (reason as u8, 0),
         };
@@ -316,7 +318,7 @@ mod tests {
         for room in [fits, fits + 1, fits + 100, 20_000] {
             for fill in [0x00, b'}', 0xFF] {
                 let mut buffer = vec![fill; room];
-                assert_eq!(write(&tables.bytes(), &mut buffer), Ok(fits));
+                assert_eq!(write(&tables.bytes(), &Memory::fresh(), &mut buffer), Ok(fits));
                 assert_eq!(&buffer[..fits], expected.as_bytes());
                 assert!(buffer[fits..].iter().all(|&byte| byte == fill));
             }
@@ -335,7 +337,7 @@ mod tests {
             let fits = text(&tables.accesses).len();
             for room in [0, 1, 13, fits / 2, fits - 1, fits] {
                 let mut buffer = Case::pattern(room);
-                let found = write(&tables.bytes(), &mut buffer);
+                let found = write(&tables.bytes(), &Memory::fresh(), &mut buffer);
                 if room < fits {
                     assert_eq!(found, Err(NoText::BufferTooShort));
                     assert_eq!(buffer, Case::pattern(room));
@@ -363,7 +365,7 @@ mod tests {
                 // Before the buffer is looked at.
                 for room in [0, 1, 13, 14, 1000, LONGEST_TEXT, 20_000] {
                     let mut buffer = Case::pattern(room);
-                    assert_eq!(write(&stored, &mut buffer), Err(NoText::TablesNotSound), "{name}");
+                    assert_eq!(write(&stored, &Memory::fresh(), &mut buffer), Err(NoText::TablesNotSound), "{name}");
                     assert_eq!(buffer, Case::pattern(room), "{name}");
                 }
                 let listed = Listed::expected(&Case::new(&stored, &[]));

@@ -1,14 +1,15 @@
 //! Ways to break things: forbidden rows and bodies, lists that are not accepted or
-//! not converted, tables that are not sound, damaged records.
+//! not converted, tables and memory that are not sound, damaged records.
 
 use crate::directory;
 use crate::older::OldRow;
 use crate::random::Random;
-use crate::record::{CREATE_BIT, DELETE_BIT, UPDATE_BIT};
+use crate::record::{CREATE_BIT, DELETE_BIT, LONGEST, UPDATE_BIT};
 use crate::tables::{
     Access, Asserted, Credential, Row, Stored, ACCESSES, ACCESS_COUNT, CREDENTIALS, CREDENTIAL_COUNT, DEVICE_OWNER,
     OWNED, SIZE, STATE,
 };
+use crate::waiting::{CAPACITY, COUNT, ROUND, SLOT, SLOTS};
 
 /// A fault of a row: afterwards the row is forbidden, whatever it was.
 pub type RowFault = (&'static str, fn(&mut [u8], &mut Random));
@@ -375,6 +376,148 @@ pub fn spoil_tables(stored: &mut Stored, random: &mut Random) {
     }
 }
 
+/// A fault of the memory of what waits. It says whether it could be made; memory
+/// that is sound beside some tables is then sound beside them no longer.
+pub type MemoryFault = (&'static str, fn(&mut [u8], &mut Random) -> bool);
+
+pub const MEMORY_FAULTS: [MemoryFault; 17] = [
+    ("over 25 records", |memory, random| {
+        memory[COUNT] = over(CAPACITY, random);
+        true
+    }),
+    ("one record too many", |memory, _| {
+        let possible = (memory[COUNT] as usize) < CAPACITY;
+        memory[COUNT] += u8::from(possible);
+        possible
+    }),
+    ("one record too few", |memory, _| {
+        let possible = memory[COUNT] > 0;
+        memory[COUNT] -= u8::from(possible);
+        possible
+    }),
+    ("round of another kind", |memory, random| {
+        memory[ROUND.start] = over(1, random);
+        true
+    }),
+    ("number beside no round", |memory, random| {
+        memory[ROUND].fill(0);
+        memory[ROUND.start + 1 + random.below(2)] = random.between(1, 255) as u8;
+        true
+    }),
+    ("byte behind the records", |memory, random| {
+        let used = memory[COUNT] as usize;
+        if used >= CAPACITY {
+            return false;
+        }
+        let place = random.between(SLOTS.start + used * SLOT, SLOTS.end - 1);
+        memory[place] = random.between(1, 255) as u8;
+        true
+    }),
+    ("byte behind a record", |memory, random| {
+        spoil_slot(memory, random, |slot, random| {
+            let length = u16::from_be_bytes([slot[2], slot[3]]) as usize;
+            let possible = length < LONGEST;
+            if possible {
+                slot[random.between(4 + length, SLOT - 1)] = random.between(1, 255) as u8;
+            }
+            possible
+        })
+    }),
+    ("record too short", |memory, random| {
+        spoil_slot(memory, random, |slot, random| {
+            slot[2..4].copy_from_slice(&[0, random.below(4) as u8]);
+            slot[7..].fill(0);
+            true
+        })
+    }),
+    ("record too long", |memory, random| {
+        spoil_slot(memory, random, |slot, random| {
+            let length = random.pick(&[257, 260, 512, 0xFFFF]);
+            slot[2..4].copy_from_slice(&u16::to_be_bytes(length));
+            true
+        })
+    }),
+    ("verb of a record", |memory, random| {
+        spoil_slot(memory, random, |slot, random| {
+            slot[4] = slot[4] & 0x1F | random.pick(&[0xA0, 0xC0, 0xE0]);
+            true
+        })
+    }),
+    ("zero bit of a record", |memory, random| {
+        spoil_slot(memory, random, |slot, random| {
+            slot[5] |= 1 << random.below(6);
+            true
+        })
+    }),
+    ("connection of a record", |memory, random| {
+        spoil_slot(memory, random, |slot, _| {
+            slot[4] ^= 0x10;
+            true
+        })
+    }),
+    ("unknown resource of a record", |memory, random| {
+        let number = unknown_resource(random) as u8;
+        spoil_slot(memory, random, |slot, _| {
+            slot[4] = slot[4] & 0xF0 | number >> 2;
+            slot[5] = slot[5] & 0x3F | number << 6;
+            true
+        })
+    }),
+    ("another place", |memory, random| {
+        // The record keeps its sender.
+        spoil_slot(memory, random, |slot, random| {
+            slot[random.below(2)] ^= 1 << random.below(8);
+            true
+        })
+    }),
+    ("another sender", |memory, random| {
+        spoil_slot(memory, random, |slot, random| {
+            slot[6 + random.below(2)] ^= 1 << random.below(8);
+            true
+        })
+    }),
+    ("place twice", |memory, random| {
+        let used = memory[COUNT] as usize;
+        if !(2..=CAPACITY).contains(&used) {
+            return false;
+        }
+        let first = random.below(used);
+        let second = (first + random.between(1, used - 1)) % used;
+        let slot = SLOTS.start + first * SLOT;
+        memory.copy_within(slot..slot + SLOT, SLOTS.start + second * SLOT);
+        true
+    }),
+    ("gap before a record", |memory, random| {
+        let used = memory[COUNT] as usize;
+        if !(1..CAPACITY).contains(&used) {
+            return false;
+        }
+        let gap = SLOTS.start + random.below(used) * SLOT;
+        memory.copy_within(gap..SLOTS.end - SLOT, gap + SLOT);
+        memory[gap..gap + SLOT].fill(0);
+        true
+    }),
+];
+
+fn spoil_slot(memory: &mut [u8], random: &mut Random, fault: impl Fn(&mut [u8], &mut Random) -> bool) -> bool {
+    let used = memory[COUNT] as usize;
+    if !(1..=CAPACITY).contains(&used) {
+        return false;
+    }
+    let slot = SLOTS.start + random.below(used) * SLOT;
+    fault(&mut memory[slot..slot + SLOT], random)
+}
+
+/// Any one fault that can be made.
+pub fn spoil_memory(memory: &mut [u8], random: &mut Random) {
+    loop {
+        let (_, fault) = random.pick(&MEMORY_FAULTS);
+        if fault(memory, random) {
+            return;
+        }
+    }
+}
+
 /// Turns a bit over anywhere in the tables; they may stay sound.
 pub fn flip_table_bit(stored: &mut Stored, random: &mut Random) {
     // The first 84 bytes are few and matter most.
@@ -453,6 +596,7 @@ mod tests {
     use crate::generate;
     use crate::older::{self, NotConverted};
     use crate::tables::{Fault, Tables};
+    use crate::waiting::{self, Memory, Waiting};
     use std::collections::BTreeSet;
 
     #[test]
@@ -525,6 +669,33 @@ mod tests {
             Fault::Row,
             Fault::NumberTwice,
             Fault::UnusedRow,
+        ];
+        assert_eq!(seen, BTreeSet::from(all));
+    }
+
+    #[test]
+    fn every_memory_fault_is_seen() {
+        let mut random = Random::new(4);
+        let mut seen = BTreeSet::new();
+        for (name, fault) in MEMORY_FAULTS {
+            let mut made = 0;
+            while made < 100 {
+                let tables = generate::any_sound(&mut random);
+                let waiting = generate::waiting(&mut random, &tables);
+                assert_eq!(Waiting::read(&waiting.memory(), &tables), Ok(waiting.clone()));
+                let mut memory = waiting.memory().bytes();
+                if fault(&mut memory, &mut random) {
+                    seen.insert(Waiting::read(&Memory::from_bytes(&memory), &tables).expect_err(name));
+                    made += 1;
+                }
+            }
+        }
+        let all = [
+            waiting::Fault::Count,
+            waiting::Fault::Round,
+            waiting::Fault::Record,
+            waiting::Fault::PlaceTwice,
+            waiting::Fault::Unused,
         ];
         assert_eq!(seen, BTreeSet::from(all));
     }

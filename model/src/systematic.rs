@@ -1,21 +1,26 @@
 //! Cases by enumeration: every record of a group is judged on the group's
 //! tables.
 
+use crate::case::Call;
 use crate::defaults::Defaults;
 use crate::directory::{self, DIRECTORY, LINKS, ROLES, YARD};
 use crate::examples::{self, access, asserted, credential, owned, role, uuid, ANON, AUTH};
 use crate::generate;
 use crate::random::Random;
 use crate::record::{compose, device_owner_body, target_body, Header, Verb};
-use crate::spoil::{ACCESS_FAULTS, CREDENTIAL_FAULTS, PLACE_FAULTS, TABLE_FAULTS};
+use crate::rules::receive;
+use crate::spoil::{ACCESS_FAULTS, CREDENTIAL_FAULTS, MEMORY_FAULTS, PLACE_FAULTS, TABLE_FAULTS};
 use crate::tables::{
     fresh_bytes, uuid_bytes, Access, Asserted, Connection, Credential, Period, Role, Row, State, Stored, Subject,
     Tables, Uuid, ACCESSES, ACCESS_COUNT, CREDENTIALS, CREDENTIAL_COUNT, OWNED, SIZE, STATE,
 };
+use crate::waiting::{self, place_of, Memory, Place, Waiting, Waits, SLOT, SLOTS, UNAUTHENTICATED};
 
 pub struct Group {
     pub name: &'static str,
+    pub call: Call,
     pub tables: Stored,
+    pub waiting: Memory,
     pub records: Vec<Vec<u8>>,
     /// The clock; None when it is drawn for each record.
     pub clock: Option<u32>,
@@ -26,8 +31,15 @@ pub struct Group {
 }
 
 impl Group {
+    /// Records to judge with nothing waiting.
     fn new(name: &'static str, tables: &Tables, records: Vec<Vec<u8>>) -> Group {
-        Group { name, tables: tables.bytes(), records, clock: None, room: None, defaults: None }
+        Group::on(name, tables.bytes(), records)
+    }
+
+    /// The same on tables of any content.
+    fn on(name: &'static str, tables: Stored, records: Vec<Vec<u8>>) -> Group {
+        let waiting = Memory::fresh();
+        Group { name, call: Call::Judge, tables, waiting, records, clock: None, room: None, defaults: None }
     }
 }
 
@@ -65,6 +77,11 @@ pub fn groups(seed: u64) -> Vec<Group> {
     subjects(&mut groups, &mut random);
     default_lists(&mut groups, &mut random);
     soundness(&mut groups, &mut random);
+    hand_ins(&mut groups);
+    takes(&mut groups);
+    examples_taken(&mut groups);
+    rows_beside_waiting(&mut groups, &mut random);
+    waiting_soundness(&mut groups, &mut random);
     groups
 }
 
@@ -108,12 +125,10 @@ fn flips(record: &[u8], from: usize) -> Vec<Vec<u8>> {
 fn hand_worked(groups: &mut Vec<Group>) {
     for example in examples::all() {
         groups.push(Group {
-            name: "worked by hand",
-            tables: example.tables,
-            records: vec![example.record],
             clock: Some(example.clock),
             room: Some(example.room),
             defaults: Some(Defaults::none()),
+            ..Group::on("worked by hand", example.tables, vec![example.record])
         });
     }
 }
@@ -151,41 +166,45 @@ fn lengths(groups: &mut Vec<Group>) {
 /// Each verb, connection and resource number, and each header zero bit.
 fn headers(groups: &mut Vec<Group>) {
     for tables in stages().iter().chain(&open_stages()) {
-        let mut records = Vec::new();
-        for verb in 0..8 {
-            for connection in [Connection::AnonClear, Connection::AuthCrypt] {
-                for resource in 0..64 {
-                    // Of what no check looks at any more, a sample is enough.
-                    let known = directory::find(resource).is_some();
-                    let sampled = resource % 5 == verb % 5;
-                    if !sampled && (verb > 4 || !known && resource > 20) {
-                        continue;
-                    }
-                    let senders: &[u16] = match connection {
-                        Connection::AnonClear if sampled => &[0, OWNER],
-                        Connection::AnonClear => &[0],
-                        Connection::AuthCrypt if sampled => &[0, OWNER, HAULIER, FOREMAN, MISSING],
-                        Connection::AuthCrypt => &[OWNER, HAULIER, FOREMAN],
-                    };
-                    for &credential in senders {
-                        let header = Header { verb, connection, resource, zeros: 0, credential };
-                        records.push(header.with_body(&[]));
-                    }
-                }
-            }
-        }
-        for bit in 0..6 {
-            for verb in 0..8 {
-                for credential in [0, OWNER, MISSING] {
-                    for connection in [Connection::AnonClear, Connection::AuthCrypt] {
-                        let header = Header { verb, connection, resource: 63, zeros: 1 << bit, credential };
-                        records.push(header.with_body(&[]));
-                    }
-                }
-            }
-        }
-        groups.push(Group::new("headers", tables, records));
+        groups.push(Group::new("headers", tables, header_records()));
     }
+}
+
+fn header_records() -> Vec<Vec<u8>> {
+    let mut records = Vec::new();
+    for verb in 0..8 {
+        for connection in [Connection::AnonClear, Connection::AuthCrypt] {
+            for resource in 0..64 {
+                // Of what no check looks at any more, a sample is enough.
+                let known = directory::find(resource).is_some();
+                let sampled = resource % 5 == verb % 5;
+                if !sampled && (verb > 4 || !known && resource > 20) {
+                    continue;
+                }
+                let senders: &[u16] = match connection {
+                    Connection::AnonClear if sampled => &[0, OWNER],
+                    Connection::AnonClear => &[0],
+                    Connection::AuthCrypt if sampled => &[0, OWNER, HAULIER, FOREMAN, MISSING],
+                    Connection::AuthCrypt => &[OWNER, HAULIER, FOREMAN],
+                };
+                for &credential in senders {
+                    let header = Header { verb, connection, resource, zeros: 0, credential };
+                    records.push(header.with_body(&[]));
+                }
+            }
+        }
+    }
+    for bit in 0..6 {
+        for verb in 0..8 {
+            for credential in [0, OWNER, MISSING] {
+                for connection in [Connection::AnonClear, Connection::AuthCrypt] {
+                    let header = Header { verb, connection, resource: 63, zeros: 1 << bit, credential };
+                    records.push(header.with_body(&[]));
+                }
+            }
+        }
+    }
+    records
 }
 
 /// Bodies of every short length for each verb of each security resource.
@@ -970,9 +989,7 @@ fn default_lists(groups: &mut Vec<Group>, random: &mut Random) {
 fn soundness(groups: &mut Vec<Group>, random: &mut Random) {
     let probes = || vec![compose(Verb::Retrieve, 1, 0, &[]), compose(Verb::Retrieve, 8, OWNER, &[1]), vec![]];
     let one_probe = || vec![compose(Verb::Retrieve, 2, OWNER, &[])];
-    let mut add = |tables, records| {
-        groups.push(Group { name: "soundness", tables, records, clock: None, room: None, defaults: None })
-    };
+    let mut add = |tables, records| groups.push(Group::on("soundness", tables, records));
 
     // Every fault on tables of many kinds.
     for (_, fault) in TABLE_FAULTS {
@@ -1100,5 +1117,213 @@ fn soundness(groups: &mut Vec<Group>, random: &mut Random) {
     add(full.bytes(), probes());
     for _ in 0..300 {
         add(generate::any_sound(random).bytes(), probes());
+    }
+}
+
+/// A record for the weight from each of these places, in their order.
+fn occupied(last: Option<Place>, places: &[Place]) -> Waiting {
+    let record = |place: Place| compose(Verb::Update, 8, place, &place.to_be_bytes());
+    Waiting { last, records: places.iter().map(|&place| Waits { place, record: record(place) }).collect() }
+}
+
+/// The places that these tables have.
+fn places_of(tables: &Tables) -> Vec<Place> {
+    [UNAUTHENTICATED].into_iter().chain(tables.credentials.iter().map(Row::number)).collect()
+}
+
+/// A take beside this memory.
+fn take(tables: &Tables, waiting: Memory) -> Group {
+    Group { call: Call::Take, waiting, ..Group::new("takes", tables, vec![Vec::new()]) }
+}
+
+/// Every header handed in, with no place occupied, with some and with all; records
+/// of every length.
+fn hand_ins(groups: &mut Vec<Group>) {
+    let stages = stages();
+    for tables in [&stages[0], &stages[3]] {
+        let places = places_of(tables);
+        for taken in [0, places.len() / 2, places.len()] {
+            let waiting = occupied(Some(OWNER), &places[..taken]).memory();
+            let group = Group::new("hand-ins", tables, header_records());
+            groups.push(Group { call: Call::HandIn, waiting, ..group });
+        }
+    }
+    let lengths = |sender| {
+        (0..=300).map(move |length| {
+            let mut record = compose(Verb::Update, 8, sender, &[0x5A; 300]);
+            record.truncate(length);
+            record
+        })
+    };
+    for waiting in [Waiting::none(), occupied(None, &[HAULIER])] {
+        let records = lengths(0).chain(lengths(FOREMAN)).chain(lengths(HAULIER)).collect();
+        let group = Group::new("hand-ins", &stages[3], records);
+        groups.push(Group { call: Call::HandIn, waiting: waiting.memory(), ..group });
+    }
+    // The last place of full tables.
+    let credentials = (1..=24).map(|number| credential(number, uuid(0x22))).collect();
+    let full = Tables { credentials, ..owned(State::Rfnop) };
+    let places = places_of(&full);
+    for free in 0..places.len() {
+        let others: Vec<Place> = places.iter().copied().filter(|&place| place != places[free]).collect();
+        let records = places.iter().map(|&place| compose(Verb::Update, 8, place, &[0x77; 252])).collect();
+        let group = Group::new("hand-ins", &full, records);
+        groups.push(Group { call: Call::HandIn, waiting: occupied(None, &others).memory(), ..group });
+    }
+}
+
+/// Every choice of waiting places beside every round, in two orders of hand-in;
+/// full tables with each place waiting alone, all but one, and all.
+fn takes(groups: &mut Vec<Group>) {
+    let tables = stages().swap_remove(3);
+    let places = places_of(&tables);
+    for choice in 0..1 << places.len() {
+        let chosen: Vec<Place> =
+            (0..places.len()).filter(|place| choice >> place & 1 == 1).map(|at| places[at]).collect();
+        let turned: Vec<Place> = chosen.iter().rev().copied().collect();
+        for last in [None, Some(MISSING)].into_iter().chain(places.iter().copied().map(Some)) {
+            groups.push(take(&tables, occupied(last, &chosen).memory()));
+            groups.push(take(&tables, occupied(last, &turned).memory()));
+        }
+    }
+    // Nothing waits, in each state.
+    for tables in stages() {
+        for last in [None, Some(MISSING)].into_iter().chain(places_of(&tables).into_iter().map(Some)) {
+            groups.push(take(&tables, occupied(last, &[]).memory()));
+        }
+    }
+    let credentials = (0..24).map(|row| credential(0x0300 - row, uuid(0x22))).collect();
+    let full = Tables { credentials, accesses: vec![access(1, AUTH, 31, 1, &[])], ..owned(State::Rfnop) };
+    let places = places_of(&full);
+    for (at, &place) in places.iter().enumerate() {
+        let others: Vec<Place> = places.iter().copied().filter(|&other| other != place).collect();
+        for last in [None, Some(MISSING), Some(place), Some(places[at * 7 % 25]), Some(places[(at + 24) % 25])] {
+            groups.push(take(&full, occupied(last, &[place]).memory()));
+            groups.push(take(&full, occupied(last, &others).memory()));
+            groups.push(take(&full, occupied(last, &places).memory()));
+        }
+    }
+}
+
+/// The cases worked out by hand, each by a record that waited.
+fn examples_taken(groups: &mut Vec<Group>) {
+    for example in examples::all() {
+        let Ok(tables) = Tables::read(&example.tables) else {
+            continue;
+        };
+        if receive(&tables, &example.record).is_err() {
+            continue;
+        }
+        let place = place_of(&example.record);
+        let order = places_of(&tables);
+        let others: Vec<Place> = order.iter().copied().filter(|&other| other != place).collect();
+        // The round stands just before its place.
+        let at = order.iter().position(|&other| other == place).unwrap_or(0);
+        let last = at.checked_sub(1).map(|before| order[before]);
+        // Alone, and behind others that came first.
+        for places in [&[][..], &others] {
+            let mut waiting = occupied(last, places);
+            waiting.records.push(Waits { place, record: example.record.clone() });
+            groups.push(Group {
+                clock: Some(example.clock),
+                room: Some(example.room),
+                defaults: Some(Defaults::none()),
+                ..take(&tables, waiting.memory())
+            });
+        }
+    }
+}
+
+/// Rows stored and deleted and tables cleared beside records that wait, by a record
+/// that comes and by one that waited, with every round.
+fn rows_beside_waiting(groups: &mut Vec<Group>, random: &mut Random) {
+    for state in [State::Rfotm, State::Rfpro, State::Sreset] {
+        let mut tables = stages().swap_remove(state as usize);
+        tables.credentials.push(credential(0x0100, uuid(0x22)));
+        let places = places_of(&tables);
+        let mut records = vec![
+            compose(Verb::Delete, 2, OWNER, &[]),
+            compose(Verb::Delete, 3, OWNER, &[]),
+            compose(Verb::Delete, 2, OWNER, &[0x22; 16]),
+            compose(Verb::Delete, 2, OWNER, &[0x11; 16]),
+            compose(Verb::Delete, 2, OWNER, &[0x55; 16]),
+            compose(Verb::Update, 1, OWNER, &target_body(0)),
+            compose(Verb::Update, 1, OWNER, &target_body(2)),
+            compose(Verb::Retrieve, 2, OWNER, &[]),
+        ];
+        for &number in places[1..].iter().chain(&[MISSING, 0x0200]) {
+            records.push(compose(Verb::Delete, 2, OWNER, &number.to_be_bytes()));
+            records.push(compose(Verb::Update, 2, OWNER, &credential(number, uuid(0x44)).bytes()));
+        }
+        for last in [None, Some(MISSING), Some(0x0200)].into_iter().chain(places.iter().copied().map(Some)) {
+            for waiting in [places.clone(), vec![HAULIER], vec![UNAUTHENTICATED, FOREMAN]] {
+                let memory = occupied(last, &waiting).memory();
+                let group = Group::new("rows beside waiting", &tables, records.clone());
+                groups.push(Group { waiting: memory, defaults: Some(generate::defaults(random)), ..group });
+            }
+        }
+        // The owner's place comes behind the unauthenticated one.
+        for record in &records {
+            for others in [vec![], places_of(&tables)] {
+                let others: Vec<Place> = others.into_iter().filter(|&place| place != OWNER).collect();
+                let mut waiting = occupied(Some(UNAUTHENTICATED), &others);
+                waiting.records.insert(others.len() / 2, Waits { place: OWNER, record: record.clone() });
+                groups.push(take(&tables, waiting.memory()));
+            }
+        }
+    }
+}
+
+/// Each condition of sound memory broken alone.
+fn waiting_soundness(groups: &mut Vec<Group>, random: &mut Random) {
+    let mut add = |tables: &Tables, bytes: &[u8], call| {
+        let record = if call == Call::Take { vec![] } else { compose(Verb::Retrieve, 8, OWNER, &[1]) };
+        let waiting = Memory::from_bytes(bytes);
+        groups.push(Group { call, waiting, ..Group::new("waiting soundness", tables, vec![record]) });
+    };
+    // Every fault, beside tables of many kinds.
+    for (_, fault) in MEMORY_FAULTS {
+        for _ in 0..25 {
+            let tables = generate::any_sound(random);
+            let mut memory = generate::waiting(random, &tables).memory().bytes();
+            if fault(&mut memory, random) {
+                Call::ALL.into_iter().for_each(|call| add(&tables, &memory, call));
+            }
+        }
+    }
+    // Every value of the first four bytes, and of those before a record's body.
+    let tables = stages().swap_remove(3);
+    let good = occupied(Some(HAULIER), &[FOREMAN, HAULIER]).memory().bytes();
+    for place in (0..4).chain(SLOTS.start..SLOTS.start + 11) {
+        for value in 0..=255 {
+            let mut memory = good.clone();
+            memory[place] = value;
+            add(&tables, &memory, Call::ALL[usize::from(value) % 3]);
+        }
+    }
+    // A byte set anywhere else.
+    for (place, call) in (SLOTS.start + 11..waiting::SIZE).zip(Call::ALL.into_iter().cycle()) {
+        let used = place < SLOTS.start + 2 * SLOT;
+        if used || place % 5 == 0 {
+            let mut memory = good.clone();
+            memory[place] ^= 1 << (place % 8);
+            add(&tables, &memory, call);
+        }
+    }
+    // A record of each place at each other place.
+    let full = occupied(None, &places_of(&tables)).memory().bytes();
+    for one in 0..4 {
+        for other in 0..4 {
+            let mut memory = full.clone();
+            let slots = [one, other].map(|slot| SLOTS.start + slot * SLOT);
+            memory[slots[1] + 4..slots[1] + SLOT].copy_from_slice(&full[slots[0] + 4..slots[0] + SLOT]);
+            Call::ALL.into_iter().for_each(|call| add(&tables, &memory, call));
+        }
+    }
+    // Nothing wrong, for contrast.
+    for _ in 0..200 {
+        let tables = generate::any_sound(random);
+        let memory = generate::waiting(random, &tables).memory().bytes();
+        Call::ALL.into_iter().for_each(|call| add(&tables, &memory, call));
     }
 }

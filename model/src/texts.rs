@@ -12,6 +12,7 @@ use crate::office::{text, Listed, NoText, LONGEST_TEXT};
 use crate::random::Random;
 use crate::spoil::TABLE_FAULTS;
 use crate::tables::{fresh_bytes, read_uuid, Access, Period, Row, Stored, Subject, Tables, Uuid, Wildcards};
+use crate::waiting::Memory;
 
 /// A case for the text of these tables; clock, record and default lists don't
 /// matter.
@@ -24,10 +25,11 @@ fn length(tables: &Stored) -> Option<usize> {
     Tables::read(tables).ok().map(|tables| text(&tables.accesses).len())
 }
 
-/// Chooses tables of a walk, and buffers for their texts.
+/// Chooses tables of a walk with what waits beside them, and buffers for their
+/// texts.
 pub struct Picks {
     random: Random,
-    last: Option<Stored>,
+    last: Option<(Stored, Memory)>,
 }
 
 /// So many of a hundred.
@@ -38,14 +40,14 @@ impl Picks {
         Picks { random: Random::part(seed, 5), last: None }
     }
 
-    /// A case when the tables are not those of the last call and it is their
-    /// turn.
-    pub fn pick(&mut self, tables: &Stored) -> Option<Case> {
-        if self.last.as_ref() == Some(tables) {
+    /// A case when tables and memory are not those of the last call and it is
+    /// their turn.
+    pub fn pick(&mut self, tables: &Stored, waiting: &Memory) -> Option<Case> {
+        if self.last.as_ref().is_some_and(|(last, beside)| last == tables && beside == waiting) {
             return None;
         }
-        self.last = Some(*tables);
-        self.random.chance(PICKED).then(|| lend(tables, self.room(tables)))
+        self.last = Some((*tables, waiting.clone()));
+        self.random.chance(PICKED).then(|| Case { waiting: waiting.clone(), ..lend(tables, self.room(tables)) })
     }
 
     fn room(&mut self, tables: &Stored) -> usize {
@@ -243,14 +245,14 @@ mod tests {
         let mut counts = Counts::default();
         let mut full = 0;
         walk_sessions(1, 50_000, &mut |_, case| {
-            let tables = judge(case).tables;
-            if let Some(case) = picks.pick(&tables) {
-                assert_eq!(case.tables, tables);
+            let (tables, waiting) = judge(case).after();
+            if let Some(case) = picks.pick(&tables, &waiting) {
+                assert_eq!((&case.tables, &case.waiting), (&tables, &waiting));
                 let listed = Listed::expected(&case);
                 counts.add(&case, &listed);
                 full += usize::from(listed.answer == 0 && tables[ACCESS_COUNT] == 32);
             }
-            tables
+            (tables, waiting)
         });
         let Counts { exact, to_spare, one_too_short, no_buffer, otherwise_too_short, not_sound } = counts;
         for count in [exact, to_spare, one_too_short, no_buffer, otherwise_too_short, not_sound] {
@@ -265,8 +267,9 @@ mod tests {
         let mut picks = Picks::new(1);
         for _ in 0..100 {
             let tables = any_sound(&mut random).bytes();
-            let _ = picks.pick(&tables);
-            assert!((0..50).all(|_| picks.pick(&tables).is_none()));
+            let waiting = Memory::fresh();
+            let _ = picks.pick(&tables, &waiting);
+            assert!((0..50).all(|_| picks.pick(&tables, &waiting).is_none()));
         }
     }
 
@@ -324,7 +327,7 @@ mod tests {
                 spoil::spoil_tables(&mut stored, &mut random);
             }
             if tables.accesses.len() > 8 && tables.credentials.len() > 8 {
-                if let Some(case) = picks.pick(&stored).filter(differs) {
+                if let Some(case) = picks.pick(&stored, &Memory::fresh()).filter(differs) {
                     break case;
                 }
             }

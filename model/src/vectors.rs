@@ -5,12 +5,12 @@
 //!    bytes), the credential rows and the access rows. The rows of either kind are
 //!    without the zeros behind them, and behind their length (16 bits);
 //! 1: the clock (32 bits), directly behind it the record's length (16 bits) and
-//!    the record, the length of the lent buffer (16 bits), then answer,
-//!    permission (a byte each), payload start and payload length (16 bits each;
-//!    start 0 when the length is 0), length of the reply (16 bits), first place
-//!    to store and how many (a byte each), the set that the yard answers (64
-//!    bits) and its size (a byte), the reply; the tables afterwards are the
-//!    current ones;
+//!    the record, the length of the lent buffer (16 bits), then the outcome:
+//!    answer, permission (a byte each), payload start and payload length (16 bits
+//!    each; start 0 when the length is 0), length of the reply (16 bits), first
+//!    place to store and how many (a byte each), the set that the yard answers (64
+//!    bits) and its size (a byte), the reply; the tables and the memory afterwards
+//!    are the current ones;
 //! 2: tables in the same form that the current ones must equal;
 //! 3: default lists, of credentials and of accesses, each behind its length (a
 //!    byte), from now on the current ones. Both are empty at first;
@@ -18,24 +18,36 @@
 //!    and row (a byte each);
 //! 5: a list of an older terminal behind its length (16 bits), the length of the
 //!    lent buffer (16 bits), then the answer (a byte), the length of the result (16
-//!    bits) and the result.
+//!    bits) and the result;
+//! 6: the memory of what waits, from now on the current one, without the zeros at
+//!    its end, behind its length (16 bits). It is fresh at first;
+//! 7: memory in the same form that the current one must equal;
+//! 8: a record to hand in behind its length (16 bits), then the answer (a byte); the
+//!    memory afterwards is the current one;
+//! 9: a take: the clock (32 bits), the length of the lent buffer (16 bits), the
+//!    outcome, and the record that is handed out behind its length (16 bits); the
+//!    tables and the memory afterwards are the current ones.
 //! Numbers of 16, 32 and 64 bits have their high byte first.
 
-use crate::case::Case;
+use crate::case::{Call, Case};
 use crate::defaults::Defaults;
 use crate::directory::{DIRECTORY, LINKS, ROLES, YARD};
 use crate::examples;
 use crate::files;
 use crate::generate::{self, Style};
+use crate::hex;
 use crate::histogram::Histogram;
 use crate::lists;
 use crate::older::{self, OldRow};
 use crate::provisioning::{test, Tested};
 use crate::random::Random;
 use crate::record::{compose, target_body, Verb};
-use crate::rules::{judge, Refusal, LONGEST_REPLY};
-use crate::spoil::{ACCESS_FAULTS, CREDENTIAL_FAULTS, FILE_FAULTS, LOAD_FAULTS, PLACE_FAULTS, TABLE_FAULTS};
+use crate::rules::{judge, Outcome, Refusal, LONGEST_REPLY};
+use crate::spoil::{
+    ACCESS_FAULTS, CREDENTIAL_FAULTS, FILE_FAULTS, LOAD_FAULTS, MEMORY_FAULTS, PLACE_FAULTS, TABLE_FAULTS,
+};
 use crate::tables::{Access, Credential, Period, Row, State, Stored, Subject, Tables, ACCESSES, CREDENTIALS, SIZE};
+use crate::waiting::{self, Memory, Waiting, Waits};
 
 pub const TABLES: u8 = 0;
 pub const RECORD: u8 = 1;
@@ -43,9 +55,13 @@ pub const CHECK: u8 = 2;
 pub const DEFAULTS: u8 = 3;
 pub const LIST: u8 = 4;
 pub const OLDER: u8 = 5;
+pub const WAITING: u8 = 6;
+pub const CHECK_WAITING: u8 = 7;
+pub const HAND_IN: u8 = 8;
+pub const TAKE: u8 = 9;
 
 /// Fewest bytes that leave room for random sessions.
-pub const LEAST: usize = 200_000;
+pub const LEAST: usize = 260_000;
 const RECORDS_BETWEEN_CHECKS: usize = 100;
 
 pub struct Vectors {
@@ -56,8 +72,11 @@ pub struct Vectors {
     pub lists: usize,
     pub tested: usize,
     pub converted: usize,
+    pub hand_ins: usize,
+    pub takes: usize,
     pub histogram: Histogram,
     current: Option<Stored>,
+    waiting: Memory,
     defaults: Defaults,
     unchecked: usize,
 }
@@ -74,8 +93,11 @@ impl Vectors {
             lists: 0,
             tested: 0,
             converted: 0,
+            hand_ins: 0,
+            takes: 0,
             histogram: Histogram::new(),
             current: None,
+            waiting: Memory::fresh(),
             defaults: Defaults::none(),
             unchecked: 0,
         };
@@ -93,6 +115,8 @@ impl Vectors {
         vectors.roles();
         vectors.default_lists(&mut random);
         vectors.faults(&mut random);
+        vectors.turns();
+        vectors.waiting_faults(&mut Random::part(seed, 10));
         vectors.lists_to_load(&mut Random::part(seed, 7));
         vectors.older_lists(&mut Random::part(seed, 9));
         vectors.sessions(&mut random, limit);
@@ -120,22 +144,81 @@ impl Vectors {
         }
     }
 
+    fn set_waiting(&mut self, waiting: &Memory) {
+        if self.waiting != *waiting {
+            self.bytes.push(WAITING);
+            self.memory(waiting);
+            self.waiting = waiting.clone();
+        }
+    }
+
+    fn memory(&mut self, waiting: &Memory) {
+        self.behind_its_length(waiting.short());
+    }
+
+    fn behind_its_length(&mut self, bytes: &[u8]) {
+        self.bytes.extend((bytes.len() as u16).to_be_bytes());
+        self.bytes.extend(bytes);
+    }
+
     /// The record as a case, with a buffer that fits any reply.
     fn case(&self, clock: u32, record: &[u8]) -> Case {
-        let defaults = self.defaults.clone();
-        Case { clock, defaults, ..Case::new(&self.current.expect("tables come first"), record) }
+        let (defaults, waiting) = (self.defaults.clone(), self.waiting.clone());
+        Case { clock, defaults, waiting, ..Case::new(&self.current.expect("tables come first"), record) }
     }
 
     fn record(&mut self, clock: u32, record: &[u8], room: usize) {
-        let case = Case { room, ..self.case(clock, record) };
-        let outcome = judge(&case);
+        self.put(&Case { room, ..self.case(clock, record) });
+    }
+
+    fn hand_in(&mut self, record: &[u8]) {
+        self.put(&Case { call: Call::HandIn, ..self.case(0, record) });
+    }
+
+    fn take(&mut self, clock: u32, room: usize) {
+        self.put(&Case { call: Call::Take, room, ..self.case(clock, &[]) });
+    }
+
+    /// The call of a case on the current tables and memory, and its outcome.
+    fn put(&mut self, case: &Case) {
+        let outcome = judge(case);
+        match case.call {
+            Call::Judge => {
+                self.bytes.push(RECORD);
+                self.bytes.extend(case.clock.to_be_bytes());
+                self.behind_its_length(&case.record);
+                self.bytes.extend((case.room as u16).to_be_bytes());
+                self.outcome(&outcome);
+                self.records += 1;
+            }
+            Call::HandIn => {
+                self.bytes.push(HAND_IN);
+                self.behind_its_length(&case.record);
+                self.bytes.push(outcome.answer);
+                self.hand_ins += 1;
+            }
+            Call::Take => {
+                self.bytes.push(TAKE);
+                self.bytes.extend(case.clock.to_be_bytes());
+                self.bytes.extend((case.room as u16).to_be_bytes());
+                self.outcome(&outcome);
+                self.behind_its_length(&outcome.record);
+                self.takes += 1;
+            }
+        }
+        self.histogram.add(case, &outcome);
+        let (tables, waiting) = outcome.after();
+        self.current = Some(tables);
+        self.waiting = waiting;
+        self.unchecked += 1;
+        if self.unchecked == RECORDS_BETWEEN_CHECKS {
+            self.check();
+        }
+    }
+
+    fn outcome(&mut self, outcome: &Outcome) {
         let length = outcome.payload.len() as u16;
         let start = if length == 0 { 0 } else { outcome.payload.start as u16 };
-        self.bytes.push(RECORD);
-        self.bytes.extend(clock.to_be_bytes());
-        self.bytes.extend((record.len() as u16).to_be_bytes());
-        self.bytes.extend(record);
-        self.bytes.extend((room as u16).to_be_bytes());
         self.bytes.extend([outcome.answer, outcome.permission]);
         self.bytes.extend(start.to_be_bytes());
         self.bytes.extend(length.to_be_bytes());
@@ -144,19 +227,14 @@ impl Vectors {
         self.bytes.extend(outcome.set.to_be_bytes());
         self.bytes.push(outcome.size as u8);
         self.bytes.extend(&outcome.reply);
-        self.histogram.add(&case, &outcome);
-        self.records += 1;
-        self.current = Some(outcome.tables);
-        self.unchecked += 1;
-        if self.unchecked == RECORDS_BETWEEN_CHECKS {
-            self.check();
-        }
     }
 
     fn check(&mut self) {
         if self.unchecked > 0 {
             self.bytes.push(CHECK);
             self.bytes.extend(short_form(&self.current.expect("tables come first")));
+            self.bytes.push(CHECK_WAITING);
+            self.memory(&self.waiting.clone());
             self.checks += 1;
             self.unchecked = 0;
         }
@@ -375,6 +453,89 @@ impl Vectors {
         self.check();
     }
 
+    /// Partners who hand records in, one of whom floods; rows that come and go
+    /// beside records that wait.
+    fn turns(&mut self) {
+        let mut tables = examples::owned(State::Rfnop);
+        tables.accesses.push(examples::access(1, examples::AUTH, 6, 0, &[8, YARD]));
+        tables.accesses.push(examples::access(2, examples::ANON, 2, 0, &[8]));
+        for number in [9, 3, 7] {
+            tables.credentials.push(examples::credential(number, examples::uuid(number as u8)));
+        }
+        self.set_tables(&tables.bytes());
+        self.take(0, 0);
+        let weigh = |place: u16| compose(Verb::Update, 8, place, &place.to_be_bytes());
+        for place in [9, 3, 9, 0, 5, 7, 8, 3] {
+            self.hand_in(&weigh(place));
+        }
+        self.check();
+        for _ in 0..8 {
+            self.take(0, 0);
+            self.hand_in(&weigh(9));
+        }
+        for record in ["520000", "b2000009", "52010009", "42000009", "51400009", "52000008"] {
+            self.hand_in(&hex::literal(record));
+        }
+        for (place, resource) in [(7, YARD), (3, 14), (0, 9), (5, 2)] {
+            self.hand_in(&compose(Verb::Retrieve, resource, place, &[]));
+        }
+        for room in [0, 100, 108, 107, 0, 0] {
+            self.take(0, room);
+        }
+        self.check();
+        // Each change with all places occupied and each round, then a take.
+        let tables = Tables { state: State::Rfpro, ..tables };
+        let places = [0, 5, 9, 3, 7];
+        let waits = |&place: &u16| Waits { place, record: weigh(place) };
+        for last in [None, Some(99), Some(0), Some(9)] {
+            for body in [&[][..], &[0, 9], &[3; 16]] {
+                self.set_tables(&tables.bytes());
+                self.set_waiting(&Waiting { last, records: places.iter().rev().map(waits).collect() }.memory());
+                self.record(0, &compose(Verb::Delete, 2, 5, body), 0);
+                self.check();
+                self.take(0, 0);
+            }
+            self.set_tables(&tables.bytes());
+            self.set_waiting(&Waiting { last, records: vec![waits(&9)] }.memory());
+            for number in [9, 99, 98] {
+                let row = examples::credential(number, examples::uuid(0x98));
+                self.record(0, &compose(Verb::Update, 2, 5, &row.bytes()), 0);
+            }
+            self.hand_in(&weigh(98));
+            self.hand_in(&compose(Verb::Delete, 2, 5, &[0, 5]));
+            (0..3).for_each(|_| self.take(0, 0));
+            self.check();
+        }
+        self.set_waiting(&Memory::fresh());
+        for record in [compose(Verb::Update, 1, 5, &target_body(0)), compose(Verb::Update, 1, 0, &target_body(0))] {
+            self.set_tables(&tables.bytes());
+            self.hand_in(&weigh(3));
+            self.hand_in(&record);
+            (0..3).for_each(|_| self.take(0, 0));
+            self.record(0, &record, 0);
+            self.check();
+        }
+    }
+
+    /// Memory that is not sound, by each fault once.
+    fn waiting_faults(&mut self, random: &mut Random) {
+        let (credentials, accesses) = rows(random);
+        let tables = Tables { credentials, accesses, ..Tables::fresh() };
+        self.set_tables(&tables.bytes());
+        for (_, fault) in MEMORY_FAULTS {
+            let mut memory = generate::waiting(random, &tables).memory().bytes();
+            while !fault(&mut memory, random) {
+                memory = generate::waiting(random, &tables).memory().bytes();
+            }
+            self.set_waiting(&Memory::from_bytes(&memory));
+            self.record(0, &compose(Verb::Retrieve, 1, 0, &[]), 17);
+            self.hand_in(&compose(Verb::Retrieve, 1, 0, &[]));
+            self.take(0, LONGEST_REPLY);
+        }
+        self.check();
+        self.set_waiting(&Memory::fresh());
+    }
+
     fn list_to_load(&mut self, list: &[u8]) {
         let Tested { answer, row } = test(list);
         self.bytes.push(LIST);
@@ -464,8 +625,8 @@ impl Vectors {
 
     /// Random sessions from fresh, sound and full tables in turn.
     fn sessions(&mut self, random: &mut Random, limit: usize) {
-        // For new tables, a longest record and reply, and a last check.
-        let spare = 3 * SIZE + 2000;
+        // For new tables and memory, a longest record and reply, and a last check.
+        let spare = 3 * (SIZE + waiting::SIZE) + 2000;
         let mut turn = 0;
         while self.bytes.len() + spare < limit {
             let defaults = generate::defaults(random);
@@ -479,6 +640,7 @@ impl Vectors {
             };
             turn += 1;
             self.set_tables(&start);
+            self.set_waiting(&Memory::fresh());
             for _ in 0..random.between(60, 160) {
                 if self.bytes.len() + spare >= limit {
                     break;
@@ -489,16 +651,19 @@ impl Vectors {
                 let record = generate::record(random, style, &tables, clock);
                 // Long records and replies would use up the file, and most
                 // refusals for want of permission are alike.
-                let case = self.case(clock, &record);
+                let call = if turn % 2 == 0 { random.pick(&Call::ALL) } else { Call::Judge };
+                let case = Case { call, ..self.case(clock, if call == Call::Take { &[] } else { &record }) };
                 let outcome = judge(&case);
                 let dull = outcome.answer == Refusal::PermissionLacking as u8 && random.chance(70);
                 let long = record.len() > 40 && random.chance(85) || outcome.reply.len() > 90 && random.chance(90);
                 if !dull && !long {
-                    self.record(clock, &record, generate::room(random, &case));
+                    let room = generate::room(random, &case);
+                    self.put(&Case { room, ..case });
                 }
             }
         }
         self.check();
+        self.set_waiting(&Memory::fresh());
     }
 }
 
@@ -534,10 +699,11 @@ mod tests {
     use crate::rules::ANSWERS;
 
     /// Reads the file as another program would.
-    fn replay(mut bytes: &[u8]) -> [usize; 4] {
+    fn replay(mut bytes: &[u8]) -> [usize; 6] {
         let mut current: Option<Stored> = None;
+        let mut waiting = Memory::fresh();
         let mut defaults = Defaults::none();
-        let (mut records, mut checks, mut tested, mut converted) = (0, 0, 0, 0);
+        let (mut records, mut checks, mut tested, mut converted, mut hand_ins, mut takes) = (0, 0, 0, 0, 0, 0);
         let mut take = |count: usize| {
             let (taken, rest) = bytes.split_at_checked(count)?;
             bytes = rest;
@@ -559,28 +725,55 @@ mod tests {
                     }
                     current = Some(tables);
                 }
-                RECORD => {
-                    let clock = u32::from_be_bytes(take(4).unwrap().try_into().unwrap());
+                tag @ (WAITING | CHECK_WAITING) => {
                     let length = number(take(2).unwrap());
+                    let memory = Memory::from_bytes(take(length).unwrap());
+                    if tag == CHECK_WAITING {
+                        assert_eq!(memory, waiting);
+                    }
+                    waiting = memory;
+                }
+                tag @ (RECORD | HAND_IN | TAKE) => {
+                    let clock =
+                        if tag == HAND_IN { 0 } else { u32::from_be_bytes(take(4).unwrap().try_into().unwrap()) };
+                    let length = if tag == TAKE { 0 } else { number(take(2).unwrap()) };
                     let record = take(length).unwrap();
-                    let room = number(take(2).unwrap());
-                    let case = Case::new(&current.unwrap(), record);
-                    let outcome = judge(&Case { clock, room, defaults: defaults.clone(), ..case });
-                    assert_eq!(take(2).unwrap(), [outcome.answer, outcome.permission]);
-                    let start = number(take(2).unwrap());
-                    let length = number(take(2).unwrap());
-                    assert_eq!(length, outcome.payload.len());
-                    assert_eq!(start, if length == 0 { 0 } else { 4 });
-                    let length = number(take(2).unwrap());
-                    assert!(length <= room);
-                    let places = take(2).unwrap();
-                    assert_eq!(places[0] as usize, outcome.places.start);
-                    assert_eq!(places[1] as usize, outcome.places.len());
-                    assert_eq!(take(8).unwrap(), outcome.set.to_be_bytes());
-                    assert_eq!(take(1).unwrap()[0] as usize, outcome.size);
-                    assert_eq!(take(length).unwrap(), outcome.reply);
-                    current = Some(outcome.tables);
-                    records += 1;
+                    let room = if tag == HAND_IN { 0 } else { number(take(2).unwrap()) };
+                    let call = match tag {
+                        RECORD => Call::Judge,
+                        HAND_IN => Call::HandIn,
+                        _ => Call::Take,
+                    };
+                    let case =
+                        Case { call, clock, room, defaults: defaults.clone(), ..Case::new(&current.unwrap(), record) };
+                    let outcome = judge(&Case { waiting, ..case });
+                    if tag == HAND_IN {
+                        assert_eq!(take(1).unwrap(), [outcome.answer]);
+                        hand_ins += 1;
+                    } else {
+                        assert_eq!(take(2).unwrap(), [outcome.answer, outcome.permission]);
+                        let start = number(take(2).unwrap());
+                        let length = number(take(2).unwrap());
+                        assert_eq!(length, outcome.payload.len());
+                        assert_eq!(start, if length == 0 { 0 } else { 4 });
+                        let length = number(take(2).unwrap());
+                        assert!(length <= room);
+                        let places = take(2).unwrap();
+                        assert_eq!(places[0] as usize, outcome.places.start);
+                        assert_eq!(places[1] as usize, outcome.places.len());
+                        assert_eq!(take(8).unwrap(), outcome.set.to_be_bytes());
+                        assert_eq!(take(1).unwrap()[0] as usize, outcome.size);
+                        assert_eq!(take(length).unwrap(), outcome.reply);
+                    }
+                    if tag == TAKE {
+                        let length = number(take(2).unwrap());
+                        assert_eq!(take(length).unwrap(), outcome.record);
+                        takes += 1;
+                    }
+                    records += usize::from(tag == RECORD);
+                    let (tables, memory) = outcome.after();
+                    current = Some(tables);
+                    waiting = memory;
                 }
                 DEFAULTS => {
                     for list in [&mut defaults.credentials, &mut defaults.accesses] {
@@ -607,16 +800,16 @@ mod tests {
                 tag => panic!("tag {tag}"),
             }
         }
-        [records, checks, tested, converted]
+        [records, checks, tested, converted, hand_ins, takes]
     }
 
     #[test]
     fn the_file_holds_what_it_says() {
-        for (seed, limit, often) in [(1, 399_999, 15), (2, LEAST, 1), (3, LEAST, 1)] {
+        for (seed, limit, often) in [(1, 399_999, 12), (2, LEAST, 1), (3, LEAST, 1)] {
             let vectors = Vectors::build(seed, limit);
             assert!(vectors.bytes.len() <= limit, "{}", vectors.bytes.len());
-            let Vectors { records, checks, tested, converted, .. } = vectors;
-            assert_eq!(replay(&vectors.bytes), [records, checks, tested, converted]);
+            let Vectors { records, checks, tested, converted, hand_ins, takes, .. } = vectors;
+            assert_eq!(replay(&vectors.bytes), [records, checks, tested, converted, hand_ins, takes]);
             assert_eq!(Vectors::build(seed, limit).bytes, vectors.bytes);
             for answer in ANSWERS {
                 let count = vectors.histogram.answers[answer as usize];

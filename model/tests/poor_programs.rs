@@ -1,6 +1,6 @@
 //! Programs that only look right are told apart from the rules.
 
-use model::case::{Case, Seen};
+use model::case::{Call, Case, Seen};
 use model::defaults::{Defaults, ListFault};
 use model::directory::{find, set_bit, LINKS, ROLES, YARD};
 use model::examples::{access, ANON, AUTH};
@@ -10,13 +10,14 @@ use model::lists;
 use model::office::{text, Listed};
 use model::older::{convert, Converted, File, OldRow, LONGEST_RESULT};
 use model::provisioning::{opens_security, test, Tested};
-use model::record::{Header, Verb, ALL_BITS, CREATE_BIT, DELETE_BIT, UPDATE_BIT};
+use model::record::{Header, Verb, ALL_BITS, CREATE_BIT, DELETE_BIT, LONGEST, UPDATE_BIT};
 use model::rules::{effective_permission, Sender};
 use model::tables::{
     fresh_bytes, read_uuid, Access, Asserted, Credential, Period, Role, Row, Subject, Tables, Uuid, ACCESSES,
     ACCESS_COUNT, CREDENTIALS, CREDENTIAL_COUNT,
 };
 use model::texts::Picks;
+use model::waiting::{place_of, Memory, Place, Waiting, CAPACITY, SLOT, SLOTS, UNAUTHENTICATED};
 
 /// What a program makes of a case, given what is right.
 type Program = fn(&Case, Seen) -> Seen;
@@ -33,7 +34,10 @@ fn refused(answer: u8, case: &Case) -> Seen {
         many: 0,
         set: 0,
         size: 0,
+        taken: 0,
+        record: if case.call == Call::Take { vec![0; LONGEST] } else { Vec::new() },
         tables: case.tables,
+        waiting: case.waiting.clone(),
     }
 }
 
@@ -956,18 +960,21 @@ fn poor_programs_are_found() {
     // Both kinds in one walk, since the cases take more time than the programs.
     let mut visit = |_, case: &Case| {
         let right = case.expected();
-        for (count, (_, program)) in found.iter_mut().zip(PROGRAMS).filter(|(count, _)| **count < ENOUGH) {
+        // These programs know of no turns.
+        let alone = case.call == Call::Judge && case.waiting == Memory::fresh();
+        let programs = found.iter_mut().zip(PROGRAMS).filter(|(count, _)| alone && **count < ENOUGH);
+        for (count, (_, program)) in programs {
             *count += usize::from(!right.same(&program(case, right.clone())));
         }
-        if let Some(case) = picks.pick(&right.tables) {
+        if let Some(case) = picks.pick(&right.tables, &right.waiting) {
             let right = Listed::expected(&case);
             for (count, (_, writer)) in written.iter_mut().zip(WRITERS).filter(|(count, _)| **count < ENOUGH) {
                 *count += usize::from(writer(&case, right.clone()) != right);
             }
         }
-        right.tables
+        right.after()
     };
-    walk_sessions(1, 40_000, &mut visit);
+    walk_sessions(1, 60_000, &mut visit);
     walk_groups(1, u64::MAX, &mut visit);
     for (count, (name, _)) in found.iter().zip(PROGRAMS) {
         assert!(*count >= ENOUGH, "a program that {name}: {count}");
@@ -1628,3 +1635,353 @@ fn made_of(file: &[u8]) -> usize {
     let rows = file.chunks(25).map(|row| if row.iter().take(16).all(|&byte| byte == 0) { 2 } else { 1 });
     rows.sum()
 }
+
+#[test]
+fn poor_turns_are_found() {
+    let mut found = [0; TURNERS.len()];
+    let mut visit = |_, case: &Case| {
+        let right = case.expected();
+        // Without anything waiting, only calls that take turns can differ.
+        let told = case.call != Call::Judge || case.waiting != Memory::fresh();
+        for (count, (_, turner)) in found.iter_mut().zip(TURNERS).filter(|(count, _)| told && **count < ENOUGH) {
+            *count += usize::from(!right.same(&turner(case, right.clone())));
+        }
+        right.after()
+    };
+    walk_sessions(1, 40_000, &mut visit);
+    walk_groups(1, u64::MAX, &mut visit);
+    for (count, (name, _)) in found.iter().zip(TURNERS) {
+        assert!(*count >= ENOUGH, "a program that {name}: {count}");
+    }
+}
+
+/// The tables and what waits, when all is sound.
+fn sound(case: &Case) -> Option<(Tables, Waiting)> {
+    let tables = Tables::read(&case.tables).ok()?;
+    let waiting = Waiting::read(&case.waiting, &tables).ok()?;
+    Some((tables, waiting))
+}
+
+/// What waits afterwards, when all is sound.
+fn left(right: &Seen) -> Option<(Tables, Waiting)> {
+    let tables = Tables::read(&right.tables).ok()?;
+    let waiting = Waiting::read(&right.waiting, &tables).ok()?;
+    Some((tables, waiting))
+}
+
+/// What is right, but with something else waiting afterwards.
+fn leaving(case: &Case, right: Seen, change: impl Fn(&Tables, &Waiting, &mut Waiting)) -> Seen {
+    let (Some((tables, before)), Some((_, mut after))) = (sound(case), left(&right)) else {
+        return right;
+    };
+    change(&tables, &before, &mut after);
+    Seen { waiting: after.memory(), ..right }
+}
+
+/// Whether a take hands a record out.
+fn takes(case: &Case, right: &Seen) -> bool {
+    case.call == Call::Take && right.taken > 0
+}
+
+/// The places in the order of the round.
+fn round_of(tables: &Tables) -> Vec<Place> {
+    [UNAUTHENTICATED].into_iter().chain(tables.credentials.iter().map(Row::number)).collect()
+}
+
+/// What comes of a take of the record at another place.
+fn taken_from(case: &Case, right: Seen, choose: impl Fn(&Tables, &Waiting) -> Option<Place>) -> Seen {
+    if !takes(case, &right) {
+        return right;
+    }
+    let (tables, waiting) = sound(case).expect("taken");
+    let Some(place) = choose(&tables, &waiting).filter(|&place| waiting.occupied(place)) else {
+        return right;
+    };
+    let order = round_of(&tables);
+    let at = order.iter().position(|&other| other == place).expect("a place");
+    let last = at.checked_sub(1).map(|before| order[before]);
+    Case { waiting: Waiting { last, ..waiting }.memory(), ..case.clone() }.expected()
+}
+
+/// The first place with a record, of some.
+fn first_of(places: impl IntoIterator<Item = Place>, waiting: &Waiting) -> Option<Place> {
+    places.into_iter().find(|&place| waiting.occupied(place))
+}
+
+/// Whether a credential row went, and which were held before.
+fn rows_gone(tables: &Tables, right: &Seen) -> bool {
+    usize::from(right.tables[CREDENTIAL_COUNT]) < tables.credentials.len()
+}
+
+/// What a program makes of memory that is not sound, if it is when some of its
+/// bytes are set right.
+fn mended(case: &Case, right: Seen, mend: impl Fn(&mut Vec<u8>)) -> Seen {
+    if right.answer != 1 || Tables::read(&case.tables).is_err() {
+        return right;
+    }
+    let mut bytes = case.waiting.bytes();
+    mend(&mut bytes);
+    let other = Case { waiting: Memory::from_bytes(&bytes), ..case.clone() }.expected();
+    Seen { waiting: right.waiting, ..other }
+}
+
+const TURNERS: [(&str, Program); 42] = [
+    ("keeps nothing", |case, right| match case.call {
+        Call::HandIn => Seen { waiting: case.waiting.clone(), ..right },
+        _ => right,
+    }),
+    ("permits at the hand-in", |case, right| match case.call {
+        Call::HandIn if right.answer == 0 => {
+            let judged = Case { call: Call::Judge, ..case.clone() }.expected();
+            Seen { permission: judged.permission, payload: judged.payload, ..right }
+        }
+        _ => right,
+    }),
+    ("judges at the hand-in", |case, right| match case.call {
+        Call::HandIn if right.answer == 0 => match (Case { call: Call::Judge, ..case.clone() }).expected().answer {
+            0 => right,
+            answer => refused(answer, case),
+        },
+        _ => right,
+    }),
+    ("carries out at the hand-in", |case, right| match case.call {
+        Call::HandIn if right.answer == 0 => {
+            let judged = Case { call: Call::Judge, ..case.clone() }.expected();
+            Seen { tables: judged.tables, ..right }
+        }
+        _ => right,
+    }),
+    ("looks for no row at the hand-in", |case, right| match case.call {
+        Call::HandIn if right.answer == 7 => refused(0, case),
+        _ => right,
+    }),
+    ("never says 26", |case, right| if right.answer == 26 { refused(0, case) } else { right }),
+    ("keeps the newer of two records", |case, right| match (right.answer, sound(case)) {
+        (26, Some((_, mut waiting))) => {
+            let place = place_of(&case.record);
+            let slot = waiting.records.iter_mut().find(|waits| waits.place == place).expect("occupied");
+            slot.record = case.record.clone();
+            Seen { waiting: waiting.memory(), ..refused(0, case) }
+        }
+        _ => right,
+    }),
+    ("has a place for each record", |case, right| match (right.answer, sound(case)) {
+        (26, Some((_, waiting))) if waiting.records.len() < CAPACITY => refused(0, case),
+        _ => right,
+    }),
+    ("says 26 once anybody waits", |case, right| match (case.call, right.answer) {
+        (Call::HandIn, 0) if case.waiting.short().first().is_some_and(|&count| count > 0) => refused(26, case),
+        _ => right,
+    }),
+    ("says 26 before 7", |case, right| match sound(case) {
+        Some((_, waiting)) if case.call == Call::HandIn && (3..=6).contains(&right.answer) => {
+            if waiting.occupied(place_of(&case.record)) {
+                refused(26, case)
+            } else {
+                right
+            }
+        }
+        _ => right,
+    }),
+    ("puts a new record first", |case, right| {
+        leaving(case, right, |_, before, after| {
+            if after.records.len() > before.records.len() {
+                after.records.rotate_right(1);
+            }
+        })
+    }),
+    ("never says 27", |case, right| if right.answer == 27 { refused(0, case) } else { right }),
+    ("says 27 before 1", |case, right| match case.call {
+        Call::Take if right.answer == 1 && case.waiting == Memory::fresh() => refused(27, case),
+        _ => right,
+    }),
+    ("moves the round when nothing waits", |case, right| match right.answer {
+        27 => leaving(case, right, |_, _, after| after.last = Some(UNAUTHENTICATED)),
+        _ => right,
+    }),
+    ("has the round stand still", |case, right| {
+        if takes(case, &right) {
+            leaving(case, right, |_, before, after| after.last = before.last)
+        } else {
+            right
+        }
+    }),
+    ("takes the record that came first", |case, right| {
+        taken_from(case, right, |_, waiting| waiting.records.first().map(|waits| waits.place))
+    }),
+    ("takes the record that came last", |case, right| {
+        taken_from(case, right, |_, waiting| waiting.records.last().map(|waits| waits.place))
+    }),
+    ("begins every round anew", |case, right| {
+        taken_from(case, right, |tables, waiting| first_of(round_of(tables), waiting))
+    }),
+    ("begins at the place taken last", |case, right| {
+        taken_from(case, right, |_, waiting| first_of(waiting.last, waiting))
+    }),
+    ("takes unauthenticated senders last", |case, right| {
+        taken_from(case, right, |tables, waiting| first_of(round_of(tables).into_iter().skip(1), waiting))
+    }),
+    ("goes by the numbers of rows", |case, right| {
+        taken_from(case, right, |tables, waiting| {
+            let mut order = round_of(tables);
+            order.sort();
+            let behind = waiting
+                .last
+                .filter(|last| order.contains(last))
+                .map_or(0, |last| order.iter().position(|&place| place == last).expect("held") + 1);
+            order.rotate_left(behind);
+            first_of(order, waiting)
+        })
+    }),
+    ("goes round the other way", |case, right| {
+        taken_from(case, right, |tables, waiting| {
+            let mut order = round_of(tables);
+            let at = waiting.last.and_then(|last| order.iter().position(|&place| place == last));
+            order.rotate_left(at.unwrap_or(0));
+            first_of(order.into_iter().rev(), waiting)
+        })
+    }),
+    ("keeps a record that it refuses", |case, right| {
+        if takes(case, &right) && right.answer != 0 {
+            Seen { waiting: case.waiting.clone(), ..right }
+        } else {
+            right
+        }
+    }),
+    ("keeps a record whose reply does not fit", |case, right| {
+        if takes(case, &right) && right.answer == 15 {
+            Seen { waiting: case.waiting.clone(), ..right }
+        } else {
+            right
+        }
+    }),
+    (
+        "empties no place",
+        |case, right| {
+            if takes(case, &right) {
+                Seen { waiting: case.waiting.clone(), ..right }
+            } else {
+                right
+            }
+        },
+    ),
+    ("hands out no record that it refuses", |case, right| {
+        if takes(case, &right) && right.answer != 0 {
+            Seen { taken: 0, record: vec![0; LONGEST], ..right }
+        } else {
+            right
+        }
+    }),
+    ("hands out the payload alone", |case, mut right| {
+        if takes(case, &right) {
+            right.record.rotate_left(4);
+            right.record[LONGEST - 4..].fill(0);
+            right.taken -= 4;
+        }
+        right
+    }),
+    ("gives a refused record a payload", |case, right| {
+        if takes(case, &right) && right.answer != 0 {
+            Seen { payload: 4..right.taken, ..right }
+        } else {
+            right
+        }
+    }),
+    ("leaves the bytes behind the record as they are", |case, mut right| {
+        if takes(case, &right) {
+            right.record[right.taken..].fill(0x5B);
+        }
+        right
+    }),
+    ("judges at another clock than the take's", |case, right| match case.call {
+        Call::Take => Case { clock: 0, ..case.clone() }.expected(),
+        _ => right,
+    }),
+    ("closes up with the last slot", |case, right| {
+        if !takes(case, &right) {
+            return right;
+        }
+        let place = place_of(&right.record);
+        leaving(case, right, |_, before, after| {
+            if after.records.len() + 1 == before.records.len() {
+                let at = before.records.iter().position(|waits| waits.place == place).expect("waited");
+                let mut records = before.records.clone();
+                records.swap_remove(at);
+                after.records = records;
+            }
+        })
+    }),
+    ("keeps the record of a deleted row", |case, right| match sound(case) {
+        Some((tables, _)) if case.call == Call::Judge && rows_gone(&tables, &right) => {
+            Seen { waiting: case.waiting.clone(), ..right }
+        }
+        _ => right,
+    }),
+    ("drops the record of a replaced row", |case, right| match update_of(CRED, case, &right) {
+        Some(body) if case.call == Call::Judge && right.answer == 0 && body.len() > 20 => {
+            let place = Place::from_be_bytes([body[0], body[1]]);
+            leaving(case, right, |_, _, after| after.records.retain(|waits| waits.place != place))
+        }
+        _ => right,
+    }),
+    ("keeps what waits at a reset", |case, right| {
+        if case.call == Call::Judge && is_reset(case, &right) {
+            Seen { waiting: case.waiting.clone(), ..right }
+        } else {
+            right
+        }
+    }),
+    ("keeps the round of a deleted row", |case, right| match sound(case) {
+        Some((tables, _)) if rows_gone(&tables, &right) && right.tables[0] == case.tables[0] => {
+            leaving(case, right, |_, before, after| after.last = before.last)
+        }
+        _ => right,
+    }),
+    ("begins the round anew for every deleted row", |case, right| match sound(case) {
+        Some((tables, _)) if rows_gone(&tables, &right) => leaving(case, right, |_, _, after| after.last = None),
+        _ => right,
+    }),
+    ("keeps a round that is not held when rows come", |case, right| {
+        if case.call != Call::Judge {
+            return right;
+        }
+        leaving(case, right, |tables, before, after| {
+            let stale = before.last.is_some_and(|last| last != 0 && tables.credential(last).is_none());
+            if stale && !before.records.is_empty() && after.last.is_none() {
+                after.last = before.last;
+            }
+        })
+    }),
+    ("begins the round anew where it is not held", |case, right| match right.answer {
+        1 => right,
+        _ => leaving(case, right, |tables, _, after| {
+            after.last = after.last.filter(|&last| last == 0 || tables.credential(last).is_some())
+        }),
+    }),
+    ("takes a round that is not held for not sound", |case, right| match sound(case) {
+        Some((tables, Waiting { last: Some(last), .. })) if last != 0 && tables.credential(last).is_none() => {
+            refused(1, case)
+        }
+        _ => right,
+    }),
+    ("does not look at what waits for 1", |case, right| mended(case, right, |bytes| bytes.fill(0))),
+    ("does not look behind the records", |case, right| {
+        mended(case, right, |bytes| {
+            let used = SLOTS.start + usize::from(bytes[0]).min(CAPACITY) * SLOT;
+            bytes[used..].fill(0);
+            for slot in bytes[SLOTS].chunks_exact_mut(SLOT) {
+                let length = usize::from(slot[2]) << 8 | usize::from(slot[3]);
+                if let Some(behind) = slot[4..].get_mut(length..) {
+                    behind.fill(0);
+                }
+            }
+        })
+    }),
+    ("takes a record of another place for sound", |case, right| {
+        mended(case, right, |bytes| {
+            for slot in bytes[SLOTS].chunks_exact_mut(SLOT) {
+                slot.copy_within(6..8, 0);
+            }
+        })
+    }),
+];

@@ -1,5 +1,5 @@
 // Judges the records of vectors.bin, which the second model wrote, and compares what comes of each.
-// The file's form stands in model/src/vectors.rs: tables to take, records with their outcome, tables that must be reached, default lists, lists to load, older lists.
+// The file's form stands in model/src/vectors.rs: tables to take, records with their outcome, tables that must be reached, default lists, lists to load, older lists, what waits, hand-ins and takes.
 use conversion::Converted;
 use fields::after;
 use fields::double_word;
@@ -10,16 +10,20 @@ use rules::Judgement;
 use rules::Links;
 use rules::Places;
 use rules::Tables;
+use waiting::Taken;
 ghost use Prim.Native.Nat.{_≤_};
 
 // What is held from entry to entry.
 struct Progress {
     tables: Tables,
+    memory: [u8; 6504],
     // where the entry stands, and the last one with default lists
     at: usize,
     lists: usize,
     entry: u64,
     records: u64,
+    handed: u64,
+    takes: u64,
     tested: u64,
     converted: u64,
     differences: u64,
@@ -47,6 +51,10 @@ fn print_result(p: Progress) {
     io::write_all(1, b"vectors: ");
     io::print_decimal(1, p.records);
     io::write_all(1, b" records, ");
+    io::print_decimal(1, p.handed);
+    io::write_all(1, b" hand-ins, ");
+    io::print_decimal(1, p.takes);
+    io::write_all(1, b" takes, ");
     io::print_decimal(1, p.tested);
     io::write_all(1, b" lists, ");
     io::print_decimal(1, p.converted);
@@ -59,10 +67,13 @@ fn print_result(p: Progress) {
 fn walk(bytes: &[u8]) -> Progress {
     let mut p = Progress {
         tables: Tables::empty(),
+        memory: [0u8; 6504],
         at: 0,
         lists: usize::MAX,
         entry: 0,
         records: 0,
+        handed: 0,
+        takes: 0,
         tested: 0,
         converted: 0,
         differences: 0,
@@ -125,6 +136,10 @@ fn entry_size(s: &[u8]) -> usize {
         3 => 3 + byte_at(s, 1) as usize + second_length(s) as usize,
         4 => list_size(s),
         5 => older_size(s),
+        6 => memory_size(s),
+        7 => memory_size(s),
+        8 => hand_in_size(s),
+        9 => take_size(s),
         _ => 0,
     }
 }
@@ -153,6 +168,23 @@ fn older_size(s: &[u8]) -> usize {
     let length = word(after(s, 1)) as usize;
     let made = word(after(after(s, 6), length)) as usize;
     8 + length + made
+}
+
+// Tag, length and bytes of what waits.
+fn memory_size(s: &[u8]) -> usize {
+    3 + word(after(s, 1)) as usize
+}
+
+// Tag, length and bytes of a record to hand in, answer.
+fn hand_in_size(s: &[u8]) -> usize {
+    4 + word(after(s, 1)) as usize
+}
+
+// Tag, clock, room, the outcome as of a record, the reply, length and bytes of the record taken.
+fn take_size(s: &[u8]) -> usize {
+    let reply = word(after(s, 13)) as usize;
+    let record = word(after(after(s, 26), reply)) as usize;
+    28 + reply + record
 }
 
 // Of an entry with default lists: the length of the second, the first, and the second.
@@ -198,7 +230,11 @@ fn entry_done(p: Progress, s: &[u8], lists: &[u8]) -> Progress {
         2 => reached(p, after(s, 1)),
         3 => listed(p),
         4 => tested(p, after(s, 1)),
-        _ => converted(p, after(s, 1)),
+        5 => converted(p, after(s, 1)),
+        6 => lent(p, after(s, 1)),
+        7 => kept(p, after(s, 1)),
+        8 => handed_in(p, after(s, 1)),
+        _ => taken_turn(p, after(s, 1), lists),
     }
 }
 
@@ -257,6 +293,118 @@ fn convert_within(file: &[u8], buffer: &mut [u8], room: usize) -> Converted {
     conversion::convert(file, &mut buffer[..n])
 }
 
+// Goes on with the memory that begins with the bytes behind their length.
+fn lent(p: Progress, s: &[u8]) -> Progress {
+    let memory = memory_of(s);
+    let mut next = p;
+    next.memory = memory;
+    next
+}
+
+// Compares what waits with the bytes behind their length.
+fn kept(p: Progress, s: &[u8]) -> Progress {
+    let memory = p.memory;
+    let expected = memory_of(s);
+    if rows::same_bytes(&memory, &expected) {
+        p
+    } else {
+        differing(p)
+    }
+}
+
+// Zeros stand behind the bytes.
+fn memory_of(s: &[u8]) -> [u8; 6504] {
+    let mut memory = [0u8; 6504];
+    fill(&mut memory, part(s, 2, word(s) as usize));
+    memory
+}
+
+// Hands the record behind its length in, and compares the answer; nothing else is said of it, and the tables stay.
+fn handed_in(p: Progress, s: &[u8]) -> Progress {
+    let length = word(s) as usize;
+    let mut memory = p.memory;
+    let t = p.tables;
+    let j = intake::hand_in(t, &mut memory, part(s, 2, length));
+    let answer = j.answer;
+    let expected = after(after(s, 2), length);
+    let mut next = p;
+    next.memory = memory;
+    next.handed = more(p.handed);
+    if (answer == byte_at(expected, 0))
+        & (j.permission == 0)
+        & (j.length == 0)
+        & same_places(j.places, b"")
+        & same_links(j.links, b"")
+        & same_tables(j.tables, p.tables)
+    {
+        next
+    } else {
+        differing(next)
+    }
+}
+
+// Takes at the clock with a buffer of the room behind it, and compares the outcome and the record with those that follow.
+fn taken_turn(p: Progress, s: &[u8], lists: &[u8]) -> Progress {
+    let expected = after(s, 6);
+    let mut buffer = [165u8; 1300];
+    let mut memory = p.memory;
+    let t = p.tables;
+    let u = take_within(
+        t,
+        &mut memory,
+        default_creds(lists),
+        default_aces(lists),
+        double_word(s),
+        &mut buffer,
+        word(after(s, 4)) as usize,
+    );
+    let j = u.judgement;
+    let answer = j.answer;
+    let bytes = u.bytes;
+    let record = part(&bytes, 0, u.size);
+    let payload = outcome::payload(record, answer);
+    let t = j.tables;
+    let mut next = p;
+    next.tables = t;
+    next.memory = memory;
+    next.takes = more(p.takes);
+    if same_outcome(answer, j.permission, payload, record, expected)
+        & same_reply(j.length, &buffer, after(expected, 6))
+        & same_places(j.places, after(expected, 8))
+        & same_links(j.links, after(expected, 10))
+        & same_record(
+            u,
+            after(after(expected, 19), word(after(expected, 6)) as usize),
+        )
+    {
+        next
+    } else {
+        differing(next)
+    }
+}
+
+// Takes with the first `room` bytes of the buffer, or all where it has fewer.
+fn take_within(
+    t: Tables,
+    memory: &mut [u8; 6504],
+    creds: &[u8],
+    aces: &[u8],
+    clock: u32,
+    buffer: &mut [u8],
+    room: usize,
+) -> Taken {
+    let n = smaller(room, buffer.len());
+    judge::take(t, memory, creds, aces, clock, &mut buffer[..n])
+}
+
+// Whether the record taken is the one behind its length, with zeros behind it.
+fn same_record(u: Taken, expected: &[u8]) -> bool {
+    let record = part(expected, 2, word(expected) as usize);
+    let mut filled = [0u8; 256];
+    fill(&mut filled, record);
+    (u.size == record.len()) & rows::same_bytes(&u.bytes, &filled)
+}
+
 // Judges the record behind its clock and its length with a buffer of the room behind it, and compares the outcome with the one that follows.
 fn judged(p: Progress, s: &[u8], lists: &[u8]) -> Progress {
     let length = word(after(s, 4)) as usize;
@@ -264,9 +412,11 @@ fn judged(p: Progress, s: &[u8], lists: &[u8]) -> Progress {
     let behind = after(after(s, 6), length);
     let expected = after(behind, 2);
     let mut buffer = [165u8; 1300];
+    let mut memory = p.memory;
     let t = p.tables;
     let j = judge_within(
         t,
+        &mut memory,
         default_creds(lists),
         default_aces(lists),
         double_word(s),
@@ -279,6 +429,7 @@ fn judged(p: Progress, s: &[u8], lists: &[u8]) -> Progress {
     let t = j.tables;
     let mut next = p;
     next.tables = t;
+    next.memory = memory;
     next.records = more(p.records);
     if same_outcome(answer, j.permission, payload, record, expected)
         & same_reply(j.length, &buffer, after(expected, 6))
@@ -291,9 +442,10 @@ fn judged(p: Progress, s: &[u8], lists: &[u8]) -> Progress {
     }
 }
 
-// Judges a record beside fresh memory with the first `room` bytes of the buffer, or all where it has fewer.
+// Judges a record with the first `room` bytes of the buffer, or all where it has fewer.
 fn judge_within(
     t: Tables,
+    memory: &mut [u8; 6504],
     creds: &[u8],
     aces: &[u8],
     clock: u32,
@@ -302,8 +454,7 @@ fn judge_within(
     room: usize,
 ) -> Judgement {
     let n = smaller(room, buffer.len());
-    let mut memory = [0u8; 6504];
-    judge::judge(t, &mut memory, creds, aces, clock, record, &mut buffer[..n])
+    judge::judge(t, memory, creds, aces, clock, record, &mut buffer[..n])
 }
 
 fn smaller(a: usize, b: usize) -> usize

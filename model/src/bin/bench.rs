@@ -1,6 +1,7 @@
 //! Measures the proved library, with the model beside it, and with the same
 //! decision in C by hand.
 
+use std::cell::RefCell;
 use std::collections::BTreeMap;
 use std::ffi::c_void;
 use std::fs;
@@ -8,12 +9,12 @@ use std::hint::black_box;
 use std::process::exit;
 use std::time::Instant;
 
-use model::case::{shrink, Case as Put};
+use model::case::{shrink, Call, Case as Put};
 use model::defaults::{join, Defaults};
 use model::directory::{set_bit, ROLES, YARD};
 use model::examples::{access, asserted, credential, role, uuid, AUTH};
 use model::generate::{clock, record, session, walk};
-use model::library::{self, Outcome, Tables as Given};
+use model::library::{self, Outcome, Tables as Given, Waiting};
 use model::office::{self, LONGEST_TEXT};
 use model::older::{self, Converted, File, OldRow, LONGEST_RESULT};
 use model::options::{Options, Program};
@@ -22,6 +23,7 @@ use model::random::Random;
 use model::record::{compose, Verb, RETRIEVE_BIT, UPDATE_BIT};
 use model::rules::{judge, LONGEST_REPLY};
 use model::tables::{Access, Credential, Row, State, Stored, Subject, Tables, STATE};
+use model::waiting::{Memory, Waiting as RulesWaiting, Waits};
 
 const PROGRAM: Program = Program {
     name: "bench",
@@ -32,8 +34,9 @@ bench --only CASE --rows ROWS --side SIDE [--calls N]
 Measures the time of a decision through the library, and through the model on
 the same tables and records. Each time is the least of several repetitions, in
 which the two take turns. Then come the growth with the rows, the office text of
-the access rows, the test of lists to load, the conversion of older lists, the
-yardstick, the stack of one call and the size of the library.
+the access rows, the test of lists to load, the conversion of older lists,
+records that wait for their turn, the yardstick, the stack of one call and the
+size of the library.
 
 The yardstick is the decision on an application resource in C by hand,
 bench/yardstick.c. It is compared with the library over random records and
@@ -146,11 +149,17 @@ struct Case {
     what: &'static str,
     put: Put,
     given: Given,
+    /// The memory of what waits as it is lent, and what is in it before the call.
+    lent: RefCell<Waiting>,
+    waiting: Waiting,
 }
 
 impl Case {
     fn new(name: &'static str, what: &'static str, stored: Stored, record: Vec<u8>, answer: u8) -> Case {
-        let put = Put::new(&stored, &record);
+        Case::of(name, what, Put::new(&stored, &record), answer)
+    }
+
+    fn of(name: &'static str, what: &'static str, put: Put, answer: u8) -> Case {
         let (expected, found) = (put.expected(), library::judge(&put));
         if expected.answer != answer || !expected.same(&found) {
             PROGRAM.stop(format!(
@@ -158,20 +167,29 @@ impl Case {
                 expected.answer, found.answer
             ));
         }
-        Case { name, what, put, given: Given::from_bytes(&stored) }
+        let (given, waiting) = (Given::from_bytes(&put.tables), Waiting::from_memory(&put.waiting));
+        Case { name, what, put, given, lent: RefCell::new(waiting.clone()), waiting }
     }
 
     fn ask_library(&self, reply: &mut Reply) {
-        black_box(library::beside_fresh(|w| {
-            library::decide(
-                black_box(&self.given),
-                w,
-                &self.put.defaults,
-                black_box(self.put.clock),
-                black_box(&self.put.record),
-                black_box(reply),
-            )
-        }));
+        let Put { call, clock, record, defaults, .. } = &self.put;
+        let given = black_box(&self.given);
+        let mut lent = self.lent.borrow_mut();
+        let waiting = black_box(&mut *lent);
+        match call {
+            Call::Judge => {
+                let record = black_box(record);
+                black_box(library::decide(given, waiting, defaults, black_box(*clock), record, black_box(reply)));
+            }
+            Call::HandIn => {
+                waiting.bytes.copy_from_slice(&self.waiting.bytes);
+                black_box(library::hand_in(given, waiting, black_box(record)));
+            }
+            Call::Take => {
+                waiting.bytes.copy_from_slice(&self.waiting.bytes);
+                black_box(library::take(given, waiting, defaults, black_box(*clock), black_box(reply)));
+            }
+        }
     }
 
     fn ask_model(&self) {
@@ -181,6 +199,7 @@ impl Case {
     fn ask_yardstick(&self, reply: &mut Reply) {
         black_box(yardstick::decide(
             black_box(&self.given),
+            black_box(&self.waiting),
             &self.put.defaults,
             black_box(self.put.clock),
             black_box(&self.put.record),
@@ -360,6 +379,7 @@ fn main() {
         texts(repetitions);
         lists(repetitions);
         older(repetitions);
+        turns(repetitions);
     }
     yardstick(5 * repetitions);
     stack();
@@ -432,6 +452,7 @@ fn mixed(repetitions: u64) {
         let mut stored = session.tables;
         for _ in 0..session.records {
             let clock = clock(&mut random, &stored);
+            // Each is judged at once, with nothing waiting.
             let put = Put { clock, ..Put::new(&stored, &record(&mut random, session.style, &stored, clock)) };
             let next = judge(&put).tables;
             cases.push((put, Given::from_bytes(&stored)));
@@ -440,11 +461,11 @@ fn mixed(repetitions: u64) {
     }
     let count = cases.len() as f64;
     let all = [cases];
+    let fresh = RefCell::new(Waiting::from_memory(&Memory::fresh()));
     let library = |cases: &Vec<(Put, Given)>, reply: &mut Reply| {
         for (put, given) in cases {
-            black_box(library::beside_fresh(|w| {
-                library::decide(given, w, &put.defaults, put.clock, &put.record, reply)
-            }));
+            let waiting = &mut *fresh.borrow_mut();
+            black_box(library::decide(given, waiting, &put.defaults, put.clock, &put.record, reply));
         }
     };
     let model = |cases: &Vec<(Put, Given)>| {
@@ -487,22 +508,23 @@ fn texts(repetitions: u64) {
     println!("\ntime of the office text\n");
     println!("tables   bytes    library       model  ratio");
     let cases: Vec<(Rows, Stored)> = Rows::KINDS.iter().map(|&rows| (rows, rows.serving().bytes())).collect();
-    let library = |(_, stored): &(Rows, Stored), _: &mut Reply| ask_text(&Given::from_bytes(stored));
+    let fresh = Waiting::from_memory(&Memory::fresh());
+    let library = |(_, stored): &(Rows, Stored), _: &mut Reply| ask_text(&Given::from_bytes(stored), &fresh);
     let model = |(_, stored): &(Rows, Stored)| {
         let mut text = [0; LONGEST_TEXT];
-        let _ = black_box(office::write(black_box(stored), black_box(&mut text)));
+        let _ = black_box(office::write(black_box(stored), &Memory::fresh(), black_box(&mut text)));
     };
     let times = measure(&cases, repetitions, library, model);
     for ((rows, stored), time) in cases.iter().zip(&times) {
         let mut text = [0; LONGEST_TEXT];
-        let length = library::beside_fresh(|w| library::write_list(&Given::from_bytes(stored), w, &mut text)).length;
+        let length = library::write_list(&Given::from_bytes(stored), &fresh, &mut text).length;
         println!("{:6}  {:6}  {:6.0} ns  {:7.0} ns  {:5.2}", rows.name, length, time.library, time.other, time.ratio());
     }
 }
 
-fn ask_text(given: &Given) {
+fn ask_text(given: &Given, waiting: &Waiting) {
     let mut text = [0; LONGEST_TEXT];
-    black_box(library::beside_fresh(|w| library::write_list(black_box(given), w, black_box(&mut text))));
+    black_box(library::write_list(black_box(given), black_box(waiting), black_box(&mut text)));
 }
 
 /// A list to load that is accepted: rows whose numbers have one high byte, or one low byte.
@@ -576,14 +598,65 @@ fn older(repetitions: u64) {
     }
 }
 
+/// A served record of every place that full tables have, and the calls that such records may get.
+fn turns_of(rows: Rows) -> Vec<Case> {
+    let tables = rows.serving();
+    let sender = rows.credentials as u16;
+    let served = compose(Verb::Update, TARE, sender, &[0x55; 64]);
+    let others = (0..sender).map(|place| Waits { place, record: compose(Verb::Update, WEIGHT, place, &[0x55; 64]) });
+    // The turn is the last row's.
+    let last = Some(sender - 1);
+    let waits = Waits { place: sender, record: served.clone() };
+    let none = Put::new(&tables.bytes(), &served);
+    let beside = |records: Vec<Waits>| Put { waiting: RulesWaiting { last, records }.memory(), ..none.clone() };
+    let all: Vec<Waits> = others.clone().chain([waits.clone()]).collect();
+    let take = |put: Put| Put { call: Call::Take, record: Vec::new(), ..put };
+    let hand_in = |put: Put| Put { call: Call::HandIn, ..put };
+    vec![
+        Case::of("judge0", "judged at once, nothing waits", none.clone(), 0),
+        Case::of("judge25", "judged at once, 25 wait", beside(all.clone()), 0),
+        Case::of("hand-in0", "handed in, nothing waits", hand_in(none.clone()), 0),
+        Case::of("hand-in24", "handed in, 24 wait", hand_in(beside(others.collect())), 0),
+        Case::of("take1", "taken, it waits alone", take(beside(vec![waits])), 0),
+        Case::of("take25", "taken, 25 wait", take(beside(all)), 0),
+        Case::of("take0", "27: nothing waits", take(none), 27),
+    ]
+}
+
+/// Records that wait for their turn, beside one that is judged at once.
+fn turns(repetitions: u64) {
+    println!("\ntime of a served record on full tables: UPDATE /tare, 64 bytes, by the last rows\n");
+    println!("case         library       model  ratio  to judge0  what");
+    let cases = turns_of(Rows::KINDS[2]);
+    let times = measure(&cases, repetitions, |case, reply| case.ask_library(reply), |case| case.ask_model());
+    // Calls that change the memory are lent it anew, which is none of their time.
+    let restore = |case: &Case, _: &mut Reply| {
+        black_box(&mut *case.lent.borrow_mut()).bytes.copy_from_slice(&black_box(&case.waiting).bytes);
+    };
+    let copied = measure(&cases[..1], repetitions, restore, |_| {})[0].library;
+    let net = |at: usize| times[at].library - if cases[at].put.call == Call::Judge { 0.0 } else { copied };
+    for (at, case) in cases.iter().enumerate() {
+        println!(
+            "{:10}  {:6.0} ns  {:7.0} ns  {:5.2}  {:9.2}  {}",
+            case.name,
+            net(at),
+            times[at].other,
+            net(at) / times[at].other,
+            net(at) / net(0),
+            case.what
+        );
+    }
+}
+
 // ---- The yardstick: the same decision in C by hand.
 
 mod yardstick {
-    use super::{Defaults, Given, Outcome};
+    use super::{Defaults, Given, Outcome, Waiting};
 
     extern "C" {
         fn yardstick_judge(
             t: Given,
+            waiting: *const Waiting,
             creds: *const u8,
             creds_length: usize,
             aces: *const u8,
@@ -601,12 +674,20 @@ mod yardstick {
 
     /// One call, as `model::library::decide` makes it.
     #[inline]
-    pub fn decide(tables: &Given, defaults: &Defaults, clock: u32, record: &[u8], reply: &mut [u8]) -> Outcome {
+    pub fn decide(
+        tables: &Given,
+        waiting: &Waiting,
+        defaults: &Defaults,
+        clock: u32,
+        record: &[u8],
+        reply: &mut [u8],
+    ) -> Outcome {
         let Defaults { credentials, accesses } = defaults;
         // The pointers and lengths are those of living slices.
         unsafe {
             yardstick_judge(
                 *tables,
+                waiting,
                 credentials.as_ptr(),
                 credentials.len(),
                 accesses.as_ptr(),
@@ -628,10 +709,11 @@ const BY_HAND: [&str; 6] = ["serve", "foreman", "poll", "refuse1", "refuse2", "r
 /// What the two make of a case: the library first.
 fn both(put: &Put) -> [Outcome; 2] {
     let given = Given::from_bytes(&put.tables);
+    let waiting = Waiting::from_memory(&put.waiting);
     let (mut one, mut other) = (EMPTY, EMPTY);
     [
-        library::beside_fresh(|w| library::decide(&given, w, &put.defaults, put.clock, &put.record, &mut one)),
-        yardstick::decide(&given, &put.defaults, put.clock, &put.record, &mut other),
+        library::decide(&given, &mut waiting.clone(), &put.defaults, put.clock, &put.record, &mut one),
+        yardstick::decide(&given, &waiting, &put.defaults, put.clock, &put.record, &mut other),
     ]
 }
 
@@ -668,15 +750,16 @@ fn agree() {
     let mut random = Random::new(3);
     let mut counts: BTreeMap<u8, u64> = BTreeMap::new();
     walk(1, COMPARED, |_, put| {
-        agreed(put);
-        let mut aimed = put.clone();
+        // A record that is handed in or taken is judged at once instead.
+        let mut aimed = Put { call: Call::Judge, ..put.clone() };
+        agreed(&aimed);
         if let [first, second, ..] = &mut aimed.record[..] {
             let resource = if random.chance(25) { YARD } else { random.between(8, 14) as u8 };
             *first = *first & 0xF0 | resource >> 2;
             *second = *second & 0x3F | resource << 6;
         }
         *counts.entry(agreed(&aimed)).or_default() += 1;
-        library::judge(put).tables
+        library::judge(put).after()
     });
     let counts: Vec<String> = counts.iter().map(|(answer, count)| format!("{count} answered {answer}")).collect();
     println!(
@@ -746,7 +829,7 @@ const STACK: usize = 256 * 1024;
 #[repr(C, align(4096))]
 struct Painted([u8; STACK]);
 
-struct Call<'a> {
+struct Asked<'a> {
     ask: &'a dyn Fn(&mut Buffer),
     buffer: Buffer,
     /// Where the caller's frame stands.
@@ -755,7 +838,7 @@ struct Call<'a> {
 
 extern "C" fn call(argument: *mut c_void) -> *mut c_void {
     // The pointer is that of `depth`'s own call, which waits for this thread.
-    let call = unsafe { &mut *argument.cast::<Call>() };
+    let call = unsafe { &mut *argument.cast::<Asked>() };
     let mark = 0u8;
     call.above = black_box(&raw const mark) as usize;
     (call.ask)(&mut call.buffer);
@@ -769,7 +852,7 @@ type Buffer = Box<[u8; LONGEST_TEXT]>;
 fn depth(ask: &dyn Fn(&mut Buffer)) -> usize {
     // A vector, so that the paint is not on a stack itself.
     let mut stack: Vec<Painted> = Vec::with_capacity(1);
-    let mut arguments = Call { ask, buffer: Box::new([0; LONGEST_TEXT]), above: 0 };
+    let mut arguments = Asked { ask, buffer: Box::new([0; LONGEST_TEXT]), above: 0 };
     let bytes = stack.spare_capacity_mut()[0].as_mut_ptr().cast::<u8>();
     // The stack is this function's until the thread is joined.
     unsafe {
@@ -802,9 +885,12 @@ fn stack() {
     cases.retain(|case| BY_HAND.contains(&case.name));
     let (bytes, name) = deepest(&cases, Case::ask_yardstick);
     println!("the same by hand: at most {bytes} bytes (`{name}`)");
+    let (bytes, name) = deepest(&turns_of(Rows::KINDS[2]), Case::ask_library);
+    println!("stack of a record that waits, or of one beside it: at most {bytes} bytes (`{name}`)");
     let given = Given::from_bytes(&Rows::KINDS[2].serving().bytes());
+    let fresh = Waiting::from_memory(&Memory::fresh());
     let text = depth(&|buffer| {
-        black_box(library::beside_fresh(|w| library::write_list(black_box(&given), w, black_box(&mut buffer[..]))));
+        black_box(library::write_list(black_box(&given), &fresh, black_box(&mut buffer[..])));
     });
     println!("stack of an office text of full tables, tables included: {text} bytes");
     let full = list(Access::CAPACITY as u16, 1);

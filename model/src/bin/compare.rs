@@ -1,8 +1,8 @@
 //! Compares the proved library with the model, record by record and list by list.
 
-use model::case::{field, first_change, shrink, Case, Seen};
+use model::case::{field, first_change, shrink, Call, Case, Seen};
 use model::files;
-use model::generate::{any_bytes, defaults, walk};
+use model::generate::{any_bytes, any_memory, defaults, walk};
 use model::hex;
 use model::histogram::Histogram;
 use model::library;
@@ -13,33 +13,36 @@ use model::options::Program;
 use model::provisioning::{test, Tested};
 use model::random::Random;
 use model::rules::judge;
-use model::tables::SIZE;
+use model::tables::{Stored, SIZE};
 use model::texts::{self, Picks};
+use model::waiting::{self, Memory};
 
 const PROGRAM: Program = Program {
     name: "compare",
     help: "\
 compare [--records N] [--seed S] [--trace]
-compare --replay TABLES:CLOCK:RECORD:ROOM:CREDENTIALS:ACCESSES
+compare --replay CALL:TABLES:WAITING:CLOCK:RECORD:ROOM:CREDENTIALS:ACCESSES
 compare --replay-list LIST
 compare --replay-older FILE:ROOM
 
 Judges the same records on the same tables at the same clock by the library and
-by the model, and compares answer, permission, payload, length of the reply,
-every byte of the lent buffer (and some behind it), the places to store after a
-delete, the set of the yard and its size, and every byte of the tables; fresh
-tables and the clear button too. Default lists, good and bad, are drawn with the
-cases. The office text of many of the tables, and of some for it alone, is
+by the model, hands the same records in and takes them, and compares answer,
+permission, payload, length of the reply, every byte of the lent buffer (and some
+behind it), the places to store after a delete, the set of the yard and its size,
+the record handed out, and every byte of the tables and of the memory of what
+waits; fresh tables and the clear button too. Default lists, good and bad, are
+drawn with the cases. The office text of many of the tables, and of some for it alone, is
 compared in the same way, and so are what both say of lists to load, and the
 rows that they make of lists from older terminals.
 
   --records N   so many records (default 300000)
   --seed S      another choice of records (default 1)
   --trace       print each case before it is judged
-  --replay CASE judge this one case and show both outcomes, also those of the
-                office text of its tables; CLOCK and ROOM, the length of the
-                buffer for either, are decimal numbers, all else hexadecimal
-                digits
+  --replay CASE make this one call and show both outcomes, also those of the
+                office text of its tables; CALL is judge, hand-in or take, CLOCK
+                and ROOM, the length of the buffer for a reply or the text, are
+                decimal numbers, all else hexadecimal digits, WAITING without
+                the zeros at its end
   --replay-list LIST
                 test this one list, rows in hexadecimal digits, and show what
                 both say of it
@@ -130,7 +133,9 @@ fn compare(records: u64, seed: u64, trace: bool) -> u64 {
     let mut random = Random::part(seed, 3);
     for _ in 0..CLEARED {
         let tables = any_bytes(&mut random);
-        elsewhere += check_clear(&Case { defaults: defaults(&mut random), ..Case::new(&tables, &[]) });
+        let waiting = any_memory(&mut random, &tables);
+        let defaults = defaults(&mut random);
+        elsewhere += check_clear(&Case { waiting, defaults, ..Case::new(&tables, &[]) });
     }
 
     let mut lists = Lists { trace, ..Lists::default() };
@@ -149,7 +154,7 @@ fn compare(records: u64, seed: u64, trace: bool) -> u64 {
         }
         let outcome = judge(case);
         histogram.add(case, &outcome);
-        let expected = Seen::new(outcome, case.room);
+        let expected = Seen::new(outcome, case);
         let found = library::judge(case);
         let pair = (expected.answer, found.answer);
         if !expected.same(&found) && differences.add(pair) {
@@ -162,10 +167,10 @@ fn compare(records: u64, seed: u64, trace: bool) -> u64 {
         if judged % RECORDS_BETWEEN_CLEARS == 0 {
             elsewhere += check_clear(case);
         }
-        if let Some(case) = picks.pick(&expected.tables) {
+        if let Some(case) = picks.pick(&expected.tables, &expected.waiting) {
             texts.compare(&case);
         }
-        expected.tables
+        expected.after()
     });
     print!("{histogram}");
     println!("fresh tables: {begun}, tables cleared: {cleared}");
@@ -313,20 +318,25 @@ fn show_file(file: &File) {
     }
 }
 
-/// Where fresh tables differ.
-fn fresh_differs(case: &Case) -> Option<usize> {
-    first_change(&library::fresh(&case.defaults), &case.defaults.fresh().bytes())
+/// Where fresh tables or memory differ.
+fn fresh_differs(case: &Case) -> Option<String> {
+    not_fresh(case, library::fresh(case))
 }
 
-/// Where cleared tables differ.
-fn clear_differs(case: &Case) -> Option<usize> {
-    first_change(&library::clear(case), &case.defaults.fresh().bytes())
+/// Where cleared tables or memory differ.
+fn clear_differs(case: &Case) -> Option<String> {
+    not_fresh(case, library::clear(case))
 }
 
-fn show_small(case: &Case, what: &str, differs: fn(&Case) -> Option<usize>) {
-    let case = Case { clock: 0, record: Vec::new(), room: 0, ..case.clone() };
+fn not_fresh(case: &Case, (tables, waiting): (Stored, Memory)) -> Option<String> {
+    let in_tables = first_change(&tables, &case.defaults.fresh().bytes()).map(field);
+    in_tables.or_else(|| waiting.short().iter().position(|&byte| byte != 0).map(waiting::field))
+}
+
+fn show_small(case: &Case, what: &str, differs: fn(&Case) -> Option<String>) {
+    let case = Case { call: Call::Judge, clock: 0, record: Vec::new(), room: 0, ..case.clone() };
     let small = shrink(case, |case| differs(case).is_some());
-    println!("{what} {}", differs(&small).map_or("no difference".into(), field));
+    println!("{what} {}", differs(&small).unwrap_or("no difference".into()));
     show_command("--replay", &small.line());
 }
 
@@ -348,8 +358,14 @@ fn show_case(case: &Case) {
     if let Some(place) = first_change(&expected.buffer, &found.buffer) {
         println!("  the buffers afterwards differ first at byte {place}");
     }
+    if let Some(place) = first_change(&expected.record, &found.record) {
+        println!("  the records handed out differ first at byte {place}");
+    }
     if let Some(place) = first_change(&expected.tables, &found.tables) {
         println!("  the tables afterwards differ first at {}", field(place));
+    }
+    if let Some(place) = first_change(&expected.waiting.bytes(), &found.waiting.bytes()) {
+        println!("  what waits afterwards differs first at {}", waiting::field(place));
     }
 }
 
@@ -383,11 +399,11 @@ fn replay(case: &Case) -> u64 {
     let (expected, found) = outcomes(case);
     let mut differences = u64::from(!expected.same(&found));
     if let Some(place) = fresh_differs(case) {
-        println!("  fresh tables differ at {}", field(place));
+        println!("  fresh tables differ at {place}");
         differences += 1;
     }
     if let Some(place) = clear_differs(case) {
-        println!("  the clear button leaves {}", field(place));
+        println!("  the clear button leaves {place}");
         differences += 1;
     }
     show_text(case);

@@ -41,7 +41,7 @@ fn main() {
         });
         parts[place].1.add(case, &outcome);
         whole.add(case, &outcome);
-        outcome.tables
+        outcome.after()
     });
 
     print!("{:<20}", "part");

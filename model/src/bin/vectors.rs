@@ -38,8 +38,10 @@ fn main() {
     }
     print!("{}", vectors.histogram);
     println!(
-        "vectors: {} records, {} tables, {} checks, {} pairs of default lists, {} lists to load, {} older lists, {} bytes",
+        "vectors: {} records, {} hand-ins, {} takes, {} tables, {} checks, {} pairs of default lists, {} lists to load, {} older lists, {} bytes",
         vectors.records,
+        vectors.hand_ins,
+        vectors.takes,
         vectors.tables,
         vectors.checks,
         vectors.lists,

@@ -1,0 +1,16 @@
+-- `take_within` is safe and ends: the lent part is as long as its room.
+use mathlib.Core.Path.{sym}
+use borrow.Author.Needs.{needs}
+use lib.Seq.{length-take-le}
+use Rattle.vectors.proofs.take_within.Statement.{statement}
+use Rattle.vectors.proofs.take_within.Tie as tie
+
+slice-aggregate-take : tie.Need-slice-aggregate-take
+slice-aggregate-take c = let n = c .before .before in sym (length-take-le (n .smaller .result) _ (n .smaller .ensures))
+
+pub take-within-spec : {M : Type 1} → statement M
+take-within-spec =
+    tie.close
+    (tie.spec
+    (λ c κs. search needs) (λ c. search needs) slice-aggregate-take
+    (λ c κs. search needs) (λ c. search needs) (λ c. search needs))
