@@ -1,10 +1,10 @@
 //! Access rows in any order (U14): two tables that hold the same access rows,
-//! each in its own order, give every run of records the same, but for that
-//! order.
+//! each in its own order, give every run of records, hand-ins and takes the same,
+//! but for that order.
 
-use model::case::Case;
+use model::case::{Call, Case};
 use model::directory::find;
-use model::generate::{any_sound, clock, defaults, full_sound, record, room, Style};
+use model::generate::{any_sound, clock, defaults, full_sound, record, room, waiting, Style};
 use model::random::Random;
 use model::record::{Header, Verb, HEADER};
 use model::rules::{fits, judge, Outcome, Sender};
@@ -56,8 +56,10 @@ fn same_listed(one: &[u8], other: &[u8]) -> bool {
 fn same_but_order(record: &[u8], one: &Outcome, other: &Outcome) -> bool {
     let same_reply = if is_listing(record) { same_listed(&one.reply, &other.reply) } else { one.reply == other.reply };
     let same_places = one.places == other.places || header(record).is_some_and(|header| header.resource == ACL2);
-    let said =
-        |outcome: &Outcome| (outcome.answer, outcome.permission, outcome.payload.clone(), outcome.set, outcome.size);
+    let said = |outcome: &Outcome| {
+        let handed_out = (outcome.record.clone(), outcome.waiting.clone());
+        (outcome.answer, outcome.permission, outcome.payload.clone(), outcome.set, outcome.size, handed_out)
+    };
     said(one) == said(other) && same_reply && same_places
 }
 
@@ -82,6 +84,7 @@ struct Seen {
     places: usize,
     ends: usize,
     first_rows: usize,
+    taken: usize,
 }
 
 fn run(random: &mut Random, seen: &mut Seen) {
@@ -91,19 +94,24 @@ fn run(random: &mut Random, seen: &mut Seen) {
     let defaults = defaults(random);
     let style = random.weighted(&[(6, Style::Purposeful), (5, Style::Mixed), (1, Style::Damaged)]);
     let (mut left, mut right) = (start.bytes(), sorted.bytes());
+    let mut memory = waiting(random, &start).memory();
     for _ in 0..random.between(1, LONGEST_RUN) {
         let clock = clock(random, &left);
-        let mut one =
-            Case { clock, defaults: defaults.clone(), ..Case::new(&left, &record(random, style, &left, clock)) };
+        let call = random.weighted(&[(3, Call::Judge), (1, Call::HandIn), (1, Call::Take)]);
+        let sent = if call == Call::Take { Vec::new() } else { record(random, style, &left, clock) };
+        let mut one = Case { call, waiting: memory, clock, defaults: defaults.clone(), ..Case::new(&left, &sent) };
         one.room = room(random, &one);
         let other = Case { tables: right, ..one.clone() };
         let (here, there) = (judge(&one), judge(&other));
-        assert!(same_but_order(&one.record, &here, &there), "{}\n{}", one.line(), other.line());
+        let judged = if call == Call::Take { &here.record } else { &one.record };
+        assert!(same_but_order(judged, &here, &there), "{}\n{}", one.line(), other.line());
         assert_eq!(in_one_order(&here.tables), in_one_order(&there.tables), "{}\n{}", one.line(), other.line());
         seen.replies += usize::from(here.reply != there.reply);
         seen.places += usize::from(here.places != there.places);
         seen.first_rows += usize::from(first_row_gives(&one) != first_row_gives(&other));
+        seen.taken += usize::from(!here.record.is_empty());
         (left, right) = (here.tables, there.tables);
+        memory = here.waiting;
     }
     seen.ends += usize::from(left != right);
 }
@@ -114,8 +122,9 @@ fn the_order_of_access_rows_changes_no_decision() {
     let mut seen = Seen::default();
     (0..RUNS).for_each(|_| run(&mut random, &mut seen));
     // The claim is not empty: each of these occurred, and not rarely.
-    println!("replies {} places {} ends {} first rows {}", seen.replies, seen.places, seen.ends, seen.first_rows);
-    assert!(seen.replies > 100 && seen.places > 100 && seen.ends > 300 && seen.first_rows > 300);
+    let Seen { replies, places, ends, first_rows, taken } = seen;
+    println!("replies {replies} places {places} ends {ends} first rows {first_rows} taken {taken}");
+    assert!(replies > 100 && places > 100 && ends > 300 && first_rows > 300 && taken > 1000);
 }
 
 /// Two tables with other rows are told apart.
