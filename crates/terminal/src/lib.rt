@@ -122,11 +122,7 @@ pub extern "C" fn tillerclover_judge(
 // Hands a record in.
 // Rules out: a payload, or a permission, of a record that is only kept; a byte of the memory changed on a refusal.
 #[no_mangle]
-pub extern "C" fn tillerclover_hand_in(
-    t: Tables,
-    memory: &mut [u8; 6504],
-    record: &[u8],
-) -> Outcome
+pub extern "C" fn tillerclover_hand_in(t: Tables, memory: &mut [u8; 6504], record: &[u8]) -> Outcome
     ensures said { λ r. ⌜ r ≡ exported (handedIn (terminal t (now (memory .entry))) (now («record» .entry))) ⌝ }
     ensures memory { λ _. ⌜ now (memory .exit) ≡ handedIn (terminal t (now (memory .entry))) (now («record» .entry)) .terminal .memory ⌝ }
 {
