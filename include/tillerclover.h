@@ -1,4 +1,4 @@
-/* Tillerclover: the access decision of a weighbridge terminal, for C11 and C++11.
+/* Tillerclover: the access decision of a weighbridge terminal, for C11 and for C++11 and later.
  *
  * Link libterminal.a, which `rt staticlib terminal` writes to target/staticlib/. It is code for
  * x86-64 with the System V calling convention and needs nothing but memcpy, memmove and memset.
@@ -13,6 +13,9 @@
  * handed back. The memory of waiting records belongs to the tables: it is lent with them to each call,
  * which changes it in place. A caller that shares both between threads holds its own lock from reading
  * them to storing what came back, or one record's change is lost.
+ *
+ * A pointer to bytes goes with their length. A null pointer with length 0 is as good as any other: it stands for no bytes,
+ * and is neither read nor written through. With any other length it is an error of the caller.
  */
 #ifndef TILLERCLOVER_H
 #define TILLERCLOVER_H
@@ -20,12 +23,41 @@
 #include <stddef.h>
 #include <stdint.h>
 
+/* The two macros of this block are the header's own, and undefined at its end. A result that is dropped is an error: with it
+ * go the tables, or whether a record is kept. */
 #ifdef __cplusplus
 #define TILLERCLOVER_ASSERT(condition, text) static_assert(condition, text)
-extern "C" {
 #else
 #define TILLERCLOVER_ASSERT(condition, text) _Static_assert(condition, text)
 #endif
+#if defined(__cplusplus) && __cplusplus >= 201703L || !defined(__cplusplus) && __STDC_VERSION__ >= 202311L
+#define TILLERCLOVER_RESULT [[nodiscard]]
+#elif defined(__GNUC__)
+#define TILLERCLOVER_RESULT __attribute__((warn_unused_result))
+#else
+#define TILLERCLOVER_RESULT
+#endif
+
+#ifdef __cplusplus
+extern "C" {
+#endif
+
+/* ---- Version
+ *
+ * MAJOR changes with the bytes of the tables or of waiting records: what was stored under another MAJOR means other things,
+ * and is not to be handed to a function but tillerclover_clear. Keep it beside the tables, as examples/terminal does. MINOR
+ * changes with all else that a caller can see. Both are of this header; the archive carries none, so take the two from one
+ * build.
+ */
+#define TILLERCLOVER_VERSION_MAJOR 1
+#define TILLERCLOVER_VERSION_MINOR 0
+#define TILLERCLOVER_VERSION (TILLERCLOVER_VERSION_MAJOR * 1000 + TILLERCLOVER_VERSION_MINOR)
+
+/* The version that the caller was compiled with. */
+static inline unsigned tillerclover_version(void)
+{
+    return TILLERCLOVER_VERSION;
+}
 
 /* ---- Sizes, in bytes unless said otherwise */
 
@@ -35,6 +67,9 @@ enum {
     TILLERCLOVER_HEADER_LENGTH = 4,
     /* a longer record is refused with TILLERCLOVER_BAD_LENGTH */
     TILLERCLOVER_RECORD_MAX = 256,
+    /* the bodies of doxm and pstat; one of TILLERCLOVER_UUID_LENGTH sets a row owner */
+    TILLERCLOVER_DOXM_LENGTH = 17,
+    TILLERCLOVER_PSTAT_LENGTH = 1,
     /* the body that stores a credential row; one of 21 bytes, without the authority, also stores a row */
     TILLERCLOVER_CRED_LENGTH = 23,
     /* the body that asserts a role, and its place in the credential row; a row has two */
@@ -59,8 +94,9 @@ enum {
     TILLERCLOVER_OLD_ROW_LENGTH = 25,
     /* the longest result of tillerclover_convert_list: as many access rows as the tables hold */
     TILLERCLOVER_CONVERTED_MAX = 1152,
-    /* the memory of waiting records */
-    TILLERCLOVER_WAITING_LENGTH = 6504
+    /* the memory of waiting records, and a slot of it */
+    TILLERCLOVER_WAITING_LENGTH = 6504,
+    TILLERCLOVER_SLOT_LENGTH = 260
 };
 
 /* ---- Numbers in tables and records */
@@ -111,6 +147,23 @@ enum tillerclover_resource {
 /* The bit of a resource in a set of 64. */
 #define TILLERCLOVER_SET_BIT(resource) (UINT64_C(1) << (63 - (resource)))
 
+/* What the subject of an access row is. */
+enum tillerclover_subject {
+    TILLERCLOVER_SUBJECT_UUID = 0,
+    TILLERCLOVER_SUBJECT_ROLE = 1,
+    TILLERCLOVER_SUBJECT_CONNECTION = 2
+};
+
+/* What an access row reaches beside its set: no security resource, and of the others */
+enum tillerclover_wildcard {
+    /* "*": all */
+    TILLERCLOVER_WILDCARD_STAR = 1,
+    /* "-": those that are discoverable and have an unsecure endpoint */
+    TILLERCLOVER_WILDCARD_MINUS = 2,
+    /* "+": those that are discoverable and have a secure endpoint */
+    TILLERCLOVER_WILDCARD_PLUS = 4
+};
+
 /* Permission bits. OBSERVE needs RETRIEVE's; no verb needs NOTIFY's. */
 enum tillerclover_permission {
     TILLERCLOVER_MAY_CREATE = 1,
@@ -121,7 +174,65 @@ enum tillerclover_permission {
     TILLERCLOVER_MAY_ALL = 31
 };
 
-/* Answers. 1 to 16 and 22 are refusals of a record. The checks are made in this order, and the first
+/* ---- Where the fields stand, in records, bodies, rows and what waits
+ *
+ * AT is the field's first byte, counted from 0; numbers have their most significant byte first. A field of a few bits is
+ * SHIFT bits to the left in its byte, or in the 16 bits from WORD on. docs/PICTURES.md draws the layouts.
+ */
+enum {
+    /* a record's header */
+    TILLERCLOVER_HEADER_WORD = 0,
+    TILLERCLOVER_VERB_SHIFT = 13,
+    TILLERCLOVER_CONNECTION_SHIFT = 12,
+    TILLERCLOVER_RESOURCE_SHIFT = 6,
+    TILLERCLOVER_SENDER_AT = 2,
+    /* the body of doxm: owned is the top bit of its first byte */
+    TILLERCLOVER_DOXM_OWNED_SHIFT = 7,
+    TILLERCLOVER_DOXM_OWNER_AT = 1,
+    /* the byte of pstat */
+    TILLERCLOVER_PSTAT_TARGET_SHIFT = 5,
+    /* a credential row, and the body of TILLERCLOVER_CRED_LENGTH bytes; ROLES is of the row alone */
+    TILLERCLOVER_CRED_NUMBER_AT = 0,
+    TILLERCLOVER_CRED_SUBJECT_AT = 2,
+    TILLERCLOVER_CRED_ROLE_AT = 18,
+    TILLERCLOVER_CRED_AUTHORITY_AT = 20,
+    TILLERCLOVER_CRED_TYPE_AT = 22,
+    TILLERCLOVER_CRED_TYPE_SHIFT = 2,
+    TILLERCLOVER_CRED_ROLES_AT = 23,
+    /* an asserted role, in its body and in its place */
+    TILLERCLOVER_ASSERTED_AUTHORITY_AT = 0,
+    TILLERCLOVER_ASSERTED_ROLE_AT = 2,
+    TILLERCLOVER_ASSERTED_LAST_AT = 4,
+    /* an access row; AUTHORITY and ROLE are of a role subject, CONNECTION of a connection */
+    TILLERCLOVER_ACE_NUMBER_AT = 0,
+    TILLERCLOVER_ACE_WORD = 2,
+    TILLERCLOVER_ACE_KIND_SHIFT = 14,
+    TILLERCLOVER_ACE_PERMISSION_SHIFT = 9,
+    TILLERCLOVER_ACE_WILDCARDS_SHIFT = 6,
+    TILLERCLOVER_ACE_SET_AT = 4,
+    TILLERCLOVER_ACE_SUBJECT_AT = 12,
+    TILLERCLOVER_ACE_AUTHORITY_AT = 24,
+    TILLERCLOVER_ACE_ROLE_AT = 26,
+    TILLERCLOVER_ACE_CONNECTION_AT = 27,
+    TILLERCLOVER_ACE_FIRST_AT = 28,
+    TILLERCLOVER_ACE_LAST_AT = 32,
+    /* a row of an older terminal's list */
+    TILLERCLOVER_OLD_SUBJECT_AT = 0,
+    TILLERCLOVER_OLD_PERMISSION_AT = 16,
+    TILLERCLOVER_OLD_PERMISSION_SHIFT = 3,
+    TILLERCLOVER_OLD_SET_AT = 17,
+    /* the memory of waiting records, and a slot of it */
+    TILLERCLOVER_WAITING_COUNT_AT = 0,
+    TILLERCLOVER_WAITING_ROUND_AT = 1,
+    TILLERCLOVER_WAITING_SLOTS_AT = 4,
+    TILLERCLOVER_SLOT_SENDER_AT = 0,
+    TILLERCLOVER_SLOT_LENGTH_AT = 2,
+    TILLERCLOVER_SLOT_RECORD_AT = 4
+};
+
+/* ---- Answers
+ *
+ * 1 to 16 and 22 are refusals of a record. The checks are made in this order, and the first
  * that applies is given: 1 to 7, then 16, then 8 to 14, then 22, then 15. Handing in makes 1 to 7 and
  * then 26; a take makes 1 and then 27, and then those of the record taken. 17 and 18 are
  * tillerclover_access_list's, 19 to 21 tillerclover_test_list's, 23 to 25
@@ -255,10 +366,10 @@ typedef struct tillerclover_outcome {
      * every record but a permitted RETRIEVE of a security resource. */
     size_t reply;
     /* The places of cred or acl2 that a DELETE leaves to store, for memory that wears: `many` rows
-     * from place `first` on, counted from 0. They go from the first deleted row to the last one held
-     * before; each holds another row number than before, 0 when unused, and no other place does. The
-     * count, ncreds or naces, changes as well. Both are 0 for every other record, and for a DELETE
-     * that finds no rows. */
+     * from place `first` on, counted from 0; tillerclover_places says of which table. They go from the
+     * first deleted row to the last one held before; each holds another row number than before, 0 when
+     * unused, and no other place does. The count, ncreds or naces, changes as well. Both are 0 for every
+     * other record, and for a DELETE that finds no rows. */
     size_t first;
     size_t many;
     /* The links of TILLERCLOVER_YARD, 8 to 14, that the sender may use now: those whose own record,
@@ -270,6 +381,24 @@ typedef struct tillerclover_outcome {
     /* the tables afterwards: of a refusal those that were handed in, byte for byte */
     tillerclover_tables tables;
 } tillerclover_outcome;
+
+/* The table that `first` and `many` speak of. */
+enum tillerclover_table {
+    TILLERCLOVER_NO_TABLE = 0,
+    TILLERCLOVER_CREDS = 1,
+    TILLERCLOVER_ACES = 2
+};
+
+/* The table whose places the outcome of this record names, by the record's resource. Where there are none, the record is
+ * not looked at. */
+static inline enum tillerclover_table tillerclover_places(const tillerclover_outcome *outcome, const uint8_t *record)
+{
+    if (outcome->many == 0) {
+        return TILLERCLOVER_NO_TABLE;
+    }
+    unsigned word = (unsigned)record[0] << 8 | record[1];
+    return (word >> TILLERCLOVER_RESOURCE_SHIFT & 63) == TILLERCLOVER_CRED ? TILLERCLOVER_CREDS : TILLERCLOVER_ACES;
+}
 
 /* What becomes of a take: the record whose turn it was, by value, and its outcome.
  *
@@ -319,15 +448,16 @@ typedef struct tillerclover_converted {
  * bytes, each the longest body that stores the row, with the length of the list in bytes. A list has at
  * most TILLERCLOVER_DEFAULTS_MAX rows. One with more, with a row that no record could store, with a
  * number twice or with half a row counts as none, by itself and wholly. Hand all calls of a terminal
- * the same lists: they belong to its build. A list of length 0 is none; its pointer is treated as
- * that of a record of length 0.
+ * the same lists: they belong to its build. A list of length 0 is none.
  */
 
 /* The tables of a new terminal: state RFOTM, no owner, the default rows. Nothing waits in `waiting` then. */
+TILLERCLOVER_RESULT
 tillerclover_tables tillerclover_fresh(tillerclover_waiting *waiting, const uint8_t *creds, size_t creds_length,
                                        const uint8_t *aces, size_t aces_length);
 
 /* The clear button: the tables of a new terminal, whatever the content of `tables`, and nothing waits. */
+TILLERCLOVER_RESULT
 tillerclover_tables tillerclover_clear(tillerclover_tables tables, tillerclover_waiting *waiting,
                                        const uint8_t *creds, size_t creds_length, const uint8_t *aces,
                                        size_t aces_length);
@@ -343,14 +473,11 @@ tillerclover_tables tillerclover_clear(tillerclover_tables tables, tillerclover_
  * record  points to at least `length` bytes that nothing changes during the call. They are read,
  *         never written, and no pointer to them is kept; a byte past `length` is not read. Any
  *         content and any length are allowed: one that is no record is refused.
- *         A record of length 0 needs a pointer too, and any one that is not null will do, as that
- *         of an empty buffer. A null pointer is never read through with length 0, which
- *         examples/yard.c tries; with any other length it is an error of the caller.
- * reply   points to at least `room` bytes that nothing else reads or writes during the call, none of
- *         them a byte of the record or of the default rows. Any content and any length are allowed,
- *         and TILLERCLOVER_REPLY_MAX fits every reply. The bytes behind the reply keep their contents,
- *         and so do all of them where there is no reply. With room 0 the pointer is treated as that
- *         of a record of length 0.
+ * reply   is a buffer of its own: the one that the record came in must not be lent for it. It points to
+ *         at least `room` bytes that nothing else reads or writes during the call, none of them a byte
+ *         of the record or of the default rows. Any content and any length are allowed, and
+ *         TILLERCLOVER_REPLY_MAX fits every reply. The bytes behind the reply keep their contents, and
+ *         so do all of them where there is no reply.
  *
  * A permitted RETRIEVE of a security resource is replied to: doxm with its body of 17 bytes, pstat
  * with its byte, the present state as target; then for these two, cred and acl2 the row owner, a UUID;
@@ -362,6 +489,7 @@ tillerclover_tables tillerclover_clear(tillerclover_tables tables, tillerclover_
  * Who sent the record is believed: the session layer vouches for the connection bit and the
  * credential number, and hands over no record whose number is another sender's.
  */
+TILLERCLOVER_RESULT
 tillerclover_outcome tillerclover_judge(tillerclover_tables tables, tillerclover_waiting *waiting,
                                         const uint8_t *creds, size_t creds_length, const uint8_t *aces,
                                         size_t aces_length, uint32_t clock, const uint8_t *record, size_t length,
@@ -372,6 +500,7 @@ tillerclover_outcome tillerclover_judge(tillerclover_tables tables, tillerclover
  * outcome's other fields are empty, and its tables are those that were handed in. A sender whose record waits
  * gets TILLERCLOVER_OCCUPIED. On a refusal the memory stays byte for byte.
  */
+TILLERCLOVER_RESULT
 tillerclover_outcome tillerclover_hand_in(tillerclover_tables tables, tillerclover_waiting *waiting,
                                           const uint8_t *record, size_t length);
 
@@ -381,6 +510,7 @@ tillerclover_outcome tillerclover_hand_in(tillerclover_tables tables, tillerclov
  * removed and the tables are not cleared. The place is emptied also where the record is refused. With
  * TILLERCLOVER_NOTHING_WAITING, and where the tables or the memory are not sound, nothing changes.
  */
+TILLERCLOVER_RESULT
 tillerclover_taken tillerclover_take(tillerclover_tables tables, tillerclover_waiting *waiting,
                                      const uint8_t *creds, size_t creds_length, const uint8_t *aces,
                                      size_t aces_length, uint32_t clock, uint8_t *reply, size_t room);
@@ -392,9 +522,9 @@ tillerclover_taken tillerclover_take(tillerclover_tables tables, tillerclover_wa
  *
  * text    points to at least `room` bytes that nothing else reads or writes during the call.
  *         TILLERCLOVER_TEXT_MAX fits every text. The bytes behind the text keep their contents, and so
- *         do all of them where there is none. With room 0 the pointer is treated as that of a record
- *         of length 0.
+ *         do all of them where there is none.
  */
+TILLERCLOVER_RESULT
 tillerclover_listed tillerclover_access_list(tillerclover_tables tables, const tillerclover_waiting *waiting,
                                              uint8_t *text, size_t room);
 
@@ -408,9 +538,9 @@ tillerclover_listed tillerclover_access_list(tillerclover_tables tables, const t
  * sound tables in TILLERCLOVER_RFPRO without access rows. The access rows are then the list's, in its order.
  *
  * rows    points to at least `length` bytes that nothing changes during the call. They are read, never
- *         written, and no pointer to them is kept. With length 0 the pointer is treated as that of a record
- *         of length 0.
+ *         written, and no pointer to them is kept.
  */
+TILLERCLOVER_RESULT
 tillerclover_tested tillerclover_test_list(const uint8_t *rows, size_t length);
 
 /* A list of an older terminal, `length` bytes in the earlier /oic/sec/acl form, as access rows.
@@ -423,13 +553,12 @@ tillerclover_tested tillerclover_test_list(const uint8_t *rows, size_t length);
  * A file that is bad in any row is answered before rows that are too many, and those before a buffer that
  * is too short. An empty file gives no rows.
  *
- * file    points to at least `length` bytes that nothing changes during the call, of any content. With
- *         length 0 the pointer is treated as that of a record of length 0.
+ * file    points to at least `length` bytes that nothing changes during the call, of any content.
  * rows    points to at least `room` bytes that nothing else reads or writes during the call, none of them
  *         a byte of the file. TILLERCLOVER_CONVERTED_MAX fits every result. The bytes behind the rows keep
- *         their contents, and so do all of them where there are none. With room 0 the pointer is treated
- *         as that of a record of length 0.
+ *         their contents, and so do all of them where there are none.
  */
+TILLERCLOVER_RESULT
 tillerclover_converted tillerclover_convert_list(const uint8_t *file, size_t length, uint8_t *rows, size_t room);
 
 /* ---- The layout that the library has */
@@ -478,5 +607,8 @@ TILLERCLOVER_ASSERT(offsetof(tillerclover_converted, length) == 8, "length");
 #ifdef __cplusplus
 }
 #endif
+
+#undef TILLERCLOVER_ASSERT
+#undef TILLERCLOVER_RESULT
 
 #endif

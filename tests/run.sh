@@ -2,13 +2,13 @@
 # Tests of what no proof covers: the library against the second model, the C interface, the programs on bad input.
 #
 #     tests/run.sh              all tests
-#     tests/run.sh NAME..       some: model, compare, runs, example, vectors, inputs, terminal
+#     tests/run.sh NAME..       some: model, compare, runs, example, interface, vectors, inputs, terminal
 #
 # The last line counts the tests that passed and failed; a failure makes the script exit with 1.
 set -uo pipefail
 cd "$(dirname "$0")/.." || exit 2
 
-ALL=(model compare runs example vectors inputs terminal)
+ALL=(model compare runs example interface vectors inputs terminal)
 work=$(mktemp -d) || exit 2
 trap 'rm -rf "$work"' EXIT
 
@@ -71,12 +71,41 @@ test_runs() {
         tail -n 1 "$work/log"
 }
 
-# The C example is built without a warning and prints what it is to print; C++ takes the header.
+# c_program NAME FLAG.. FILE..: a C program over the library, without a warning
+c_program() {
+    log cc -std=c11 -Wall -Wextra -Wpedantic -Werror -Iinclude "${@:2}" examples/requests.c examples/terminal/record.c \
+        target/staticlib/libterminal.a -o "$work/$1"
+}
+
+# The C example is built without a warning and prints what it is to print.
 test_example() {
-    need cc gcc && need c++ g++ && library &&
-        log cc -std=c11 -Wall -Wextra -Werror -Iinclude examples/yard.c target/staticlib/libterminal.a -o "$work/yard" &&
-        log "$work/yard" && log diff examples/yard.expected <("$work/yard") &&
-        log c++ -std=c++11 -Wall -Wextra -Werror -fsyntax-only -x c++ include/tillerclover.h
+    need cc gcc && library && c_program yard examples/yard.c && log "$work/yard" && log diff examples/yard.expected <("$work/yard")
+}
+
+# compiles LANGUAGE TEXT: the compiler takes the text behind the header, without a warning
+compiles() {
+    local compiler=cc
+    [[ $1 != c++* ]] || compiler=c++
+    printf '#include "tillerclover.h"\n%s\n' "$2" |
+        "$compiler" -std="$1" -Wall -Wextra -Wpedantic -Werror -Iinclude -x "${compiler/cc/c}" -S -o /dev/null - >"$work/log" 2>&1
+}
+
+# The header in C and C++, and what C sees of the library: layouts, edges, no bytes; also under the sanitizers.
+test_interface() {
+    need cc gcc && need c++ g++ && library || return 1
+    local language failed=0
+    for language in c11 c17 c++11 c++17; do
+        compiles $language 'int main(void) { return tillerclover_version() != TILLERCLOVER_VERSION; }' ||
+            { cat "$work/log" && echo "interface: $language does not take the header" && failed=1; }
+        ! compiles $language 'void dropped(tillerclover_waiting *w) { tillerclover_fresh(w, 0, 0, 0, 0); }' ||
+            { echo "interface: in $language a result may be dropped" && failed=1; }
+        compiles $language $'#if defined TILLERCLOVER_ASSERT || defined TILLERCLOVER_RESULT\n#error\n#endif' ||
+            { echo "interface: in $language the header leaves a macro of its own" && failed=1; }
+    done
+    c_program interface tests/interface.c && log "$work/interface" &&
+        c_program sanitized -g -fsanitize=address,undefined -fno-sanitize-recover=all tests/interface.c && log "$work/sanitized" ||
+        failed=1
+    return "$failed"
 }
 
 # The vectors are those that the model writes today.

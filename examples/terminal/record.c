@@ -5,8 +5,8 @@
 struct record record_of(unsigned verb, enum tillerclover_connection connection, unsigned resource, unsigned sender,
                         const uint8_t *body, size_t length)
 {
-    /* verb (3 bits), connection (1), resource (6), six zero bits, credential number (16) */
-    unsigned first = verb << 13 | (unsigned)connection << 12 | resource << 6;
+    unsigned first = verb << TILLERCLOVER_VERB_SHIFT | (unsigned)connection << TILLERCLOVER_CONNECTION_SHIFT |
+                     resource << TILLERCLOVER_RESOURCE_SHIFT;
     struct record r = {.bytes = {(uint8_t)(first >> 8), (uint8_t)first, (uint8_t)(sender >> 8), (uint8_t)sender}};
     if (length > RECORD_ROOM - TILLERCLOVER_HEADER_LENGTH) {
         length = RECORD_ROOM - TILLERCLOVER_HEADER_LENGTH;
@@ -18,17 +18,23 @@ struct record record_of(unsigned verb, enum tillerclover_connection connection, 
     return r;
 }
 
+/* The 16 bits from `at` on. */
+static unsigned word(const uint8_t *record, size_t at)
+{
+    return (unsigned)record[at] << 8 | record[at + 1];
+}
+
 unsigned record_verb(const uint8_t *record)
 {
-    return record[0] >> 5;
+    return word(record, TILLERCLOVER_HEADER_WORD) >> TILLERCLOVER_VERB_SHIFT;
 }
 
 unsigned record_resource(const uint8_t *record)
 {
-    return (record[0] & 15u) << 2 | record[1] >> 6;
+    return word(record, TILLERCLOVER_HEADER_WORD) >> TILLERCLOVER_RESOURCE_SHIFT & 63;
 }
 
 unsigned record_sender(const uint8_t *record)
 {
-    return (unsigned)record[2] << 8 | record[3];
+    return word(record, TILLERCLOVER_SENDER_AT);
 }

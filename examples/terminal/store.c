@@ -20,7 +20,10 @@ struct image {
 _Static_assert(sizeof(struct image) == 8 + sizeof(tillerclover_tables) + sizeof(tillerclover_waiting) + 4,
                "the file has no padding");
 
-static const uint8_t KIND[8] = {'t', 'i', 'l', 'l', 'e', 'r', '0', '1'};
+/* With the version of the tables' bytes: a file of another one is not taken. */
+static const uint8_t KIND[8] = {
+    't', 'i', 'l', 'l', 'e', 'r', '0' + TILLERCLOVER_VERSION_MAJOR / 10, '0' + TILLERCLOVER_VERSION_MAJOR % 10,
+};
 
 /* CRC-32 as in gzip, the low byte first. */
 static void checksum(const void *bytes, size_t length, uint8_t sum[4])
