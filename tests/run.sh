@@ -2,13 +2,13 @@
 # Tests of what no proof covers: the library against the second model, the C interface, the programs on bad input.
 #
 #     tests/run.sh              all tests
-#     tests/run.sh NAME..       some: model, compare, runs, example, interface, vectors, inputs, terminal
+#     tests/run.sh NAME..       some: model, compare, runs, example, interface, documents, vectors, inputs, terminal
 #
 # The last line counts the tests that passed and failed; a failure makes the script exit with 1.
 set -uo pipefail
 cd "$(dirname "$0")/.." || exit 2
 
-ALL=(model compare runs example interface vectors inputs terminal)
+ALL=(model compare runs example interface documents vectors inputs terminal)
 work=$(mktemp -d) || exit 2
 trap 'rm -rf "$work"' EXIT
 
@@ -106,6 +106,11 @@ test_interface() {
         c_program sanitized -g -fsanitize=address,undefined -fno-sanitize-recover=all tests/interface.c && log "$work/sanitized" ||
         failed=1
     return "$failed"
+}
+
+# What the documents and the header say of the sources is so.
+test_documents() {
+    need python3 python3 && log tests/documents.py
 }
 
 # The vectors are those that the model writes today.

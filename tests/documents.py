@@ -1,0 +1,640 @@
+#!/usr/bin/env python3
+"""Compares the documents with the sources. Exit status 1: a line for each thing that is not as it is said.
+
+    tests/documents.py            compares
+    tests/documents.py --write    first draws the pictures of docs/PICTURES.md anew
+
+README.md       the layers with crates.txt; what must be believed with what the contracts cite
+PROOFS.md       each theorem and function that its tables name stands in the file named
+MUST-FAIL.md    each edit has a row, and each row its edit
+PICTURES.md     the pictures with those made from the definitions
+tillerclover.h  offsets, lengths and shifts with the definitions
+"""
+import difflib
+import glob
+import math
+import os
+import re
+import sys
+
+os.chdir(os.path.join(os.path.dirname(os.path.abspath(__file__)), ".."))
+
+PAGE = "docs/PICTURES.md"
+HEADER = "include/tillerclover.h"
+faults = []
+
+
+class Changed(Exception):
+    """A source does not have the form that the pictures are made from."""
+
+
+def fault(text):
+    faults.append(text)
+
+
+def read(path):
+    with open(path, encoding="utf-8") as file:
+        return file.read()
+
+
+# ---- definitions
+
+
+def definitions(path):
+    """The right side of each definition of one clause: its lines joined, without comments."""
+    found = {}
+    for block in re.split(r"\n\s*\n", read(path)):
+        lines = [line for line in block.split("\n") if line.strip() and not line.lstrip().startswith("--")]
+        for place, line in enumerate(lines):
+            match = re.match(r"(\w+)(?: [^=]*?)? =(?: |$)(.*)", line)
+            if match and not line.startswith(" "):
+                rest = []
+                for more in lines[place + 1 :]:
+                    if not more.startswith(" "):
+                        break
+                    rest.append(more.strip())
+                found.setdefault(line[: match.start(2)].rstrip("= "), " ".join([match.group(2)] + rest).strip())
+    return found
+
+
+SPECS = {
+    name: definitions(f"crates/{path}.antt")
+    for name, path in {
+        "Record": "rules/specs/Record",
+        "Bodies": "rules/specs/Bodies",
+        "Roles": "rules/specs/Roles",
+        "Action": "rules/specs/Action",
+        "States": "rules/specs/States",
+        "Tables": "rules/specs/Tables",
+        "Old": "legacy/specs/OldList",
+        "Slots": "waiting/specs/Slots",
+    }.items()
+}
+
+
+def right_side(spec, left):
+    """The definition whose left side is `left`, or starts with it and a parameter."""
+    for key, text in SPECS[spec].items():
+        if key == left or key.startswith(left + " "):
+            return text
+    raise Changed(f"{spec}.antt has no definition of {left}")
+
+
+def number(spec, left):
+    text = right_side(spec, left)
+    if not text.isdigit():
+        raise Changed(f"{spec}.antt: {left} is '{text}', and not a number")
+    return int(text)
+
+
+def found(spec, left, pattern):
+    """The number that the pattern finds in a definition."""
+    match = re.search(pattern, right_side(spec, left))
+    if not match:
+        raise Changed(f"{spec}.antt: {left} has no '{pattern}'")
+    return int(match.group(1))
+
+
+def span(spec, name, end):
+    """First bit and number of bits of a field, by its definition; `end` is where its layout ends."""
+    text = right_side(spec, name)
+    for pattern, bits_of in (
+        (r"(?:eqb \()?bits \w+ (\d+) (\d+)(?:\) 1)?", lambda a, b: (a, b)),
+        (r"eqb \(bit \w+ \((\d+) \+ n\)\) 1", lambda a: (a, 64)),
+        (r"take (\d+) \(drop (\d+) \w+\)", lambda a, b: (8 * b, 8 * a)),
+        (r"take (\d+) \w+", lambda a: (0, 8 * a)),
+        (r"drop (\d+) \w+", lambda a: (8 * a, end - 8 * a)),
+    ):
+        match = re.fullmatch(pattern, text)
+        if match:
+            return bits_of(*map(int, match.groups()))
+    raise Changed(f"{spec}.antt: {name} is '{text}', which is no field")
+
+
+# ---- layouts
+
+
+class Layout:
+    """Fields of a record, a body or a row. What lies between them must be tested to be zero by one of the `zeros`."""
+
+    def __init__(self, size, fields, zeros=(), start=0):
+        self.start, self.end = start, 8 * size
+        self.fields = []
+        for label, spec, name in fields:
+            first, width = span(spec, name, self.end)
+            self.fields.append((first, width, label))
+        self.fields.sort()
+        tested = {
+            (int(a), int(b))
+            for spec, name in zeros
+            for a, b in re.findall(r"eqb \(bits \w+ (\d+) (\d+)\) 0", right_side(spec, name))
+        }
+        at, whole = start, []
+        for first, width, label in self.fields + [(self.end, 0, None)]:
+            if first < at:
+                raise Changed(f"{label} stands at bit {first}, and the field before it ends at {at}")
+            if first > at:
+                if (at, first - at) not in tested:
+                    raise Changed(f"bits {at} to {first - 1}, before {label}, belong to no field and are not tested")
+                whole.append((at, first - at, "zeros"))
+            if label is not None:
+                whole.append((first, width, label))
+            at = first + width
+        if at != self.end:
+            raise Changed(f"the last field ends at bit {at}, and the layout at {self.end}")
+        self.whole = whole
+
+    def at(self, bit):
+        return next(field for field in self.whole if field[0] <= bit < field[0] + field[1])
+
+    def draw(self):
+        """Rows of 32 bits, three columns for a bit; rows that one field fills are drawn as one."""
+        rows, bit = [], self.start
+        while bit < self.end:
+            last = min(bit + 32, self.end)
+            if rows and last - bit == 32 and rows[-1][1] - rows[-1][0] == 32:
+                field = self.at(bit)
+                if all(self.at(b) is field for b in (bit, last - 1, rows[-1][0], rows[-1][1] - 1)):
+                    bit = last
+                    continue
+            rows.append((bit, last))
+            bit = last
+        parts = []
+        for first, last in rows:
+            cells, bit = [], first
+            while bit < last:
+                field = self.at(bit)
+                stop = min(last, field[0] + field[1])
+                cells.append((bit, stop, field))
+                bit = stop
+            parts.append(cells)
+        labelled = {}
+        for place, cells in enumerate(parts):
+            for cell in cells:
+                best = labelled.get(cell[2])
+                if best is None or cell[1] - cell[0] > best[1][1] - best[1][0]:
+                    labelled[cell[2]] = (place, cell)
+        text = ["byte  " + "".join(f"{b:<3}" for b in range(32 if self.end - self.start > 31 else self.end - self.start)).rstrip()]
+        for place, cells in enumerate(parts):
+            text.append("      " + self.border(parts[place - 1] if place else [], cells))
+            line = ""
+            for first, stop, field in cells:
+                words = ""
+                if labelled[field] == (place, (first, stop, field)):
+                    many = field[1] // 8
+                    longer = f"{field[2]} ({many} bytes)"
+                    words = longer if field[1] > 32 and len(longer) < 3 * (stop - first) else field[2]
+                    if len(words) > 3 * (stop - first) - 1:
+                        raise Changed(f"'{words}' is too long for {stop - first} bits")
+                line += "|" + words.center(3 * (stop - first) - 1)
+            text.append(f"{cells[0][0] // 8:>4}  {line}|")
+        text.append("      " + self.border(parts[-1], []))
+        return "\n".join(line.rstrip() for line in text)
+
+    @staticmethod
+    def border(above, below):
+        """A line between two rows, left out where one field goes on from the end of the row above."""
+
+        def column(cells, i):
+            origin = cells[0][0] if cells else 0
+            return next((c for c in cells if c[0] - origin <= i < c[1] - origin), None)
+
+        width = max((cells[-1][1] - cells[0][0] for cells in (above, below) if cells), default=0)
+        marks = set()
+        for cells in (above, below):
+            for first, stop, _ in cells:
+                marks |= {first - cells[0][0], stop - cells[0][0]}
+        line = ""
+        for i in range(width):
+            a, b = column(above, i), column(below, i)
+            goes_on = a is not None and b is not None and a[2] is b[2]
+            line += ("+" if i in marks else " " if goes_on else "-") + ("  " if goes_on else "--")
+        return line + "+"
+
+
+def layouts():
+    body_start = found("Record", "body", r"drop (\d+)")
+    header = Layout(
+        body_start,
+        [("verb", "Record", "verb"), ("c", "Record", "connection"), ("resource", "Record", "resource"),
+         ("zeros", "Record", "headerZeros"), ("credential number", "Record", "credential")],
+    )
+    doxm = Layout(
+        found("Action", "updateDoxm", r"\((\d+), ifAllowed \(ownerBody"),
+        [("o", "Bodies", "newOwned"), ("device owner UUID", "Bodies", "newOwner")],
+        [("Bodies", "ownerBody")],
+    )
+    pstat = Layout(
+        found("Action", "updatePstat", r"\((\d+), ifAllowed \(stateBody"), [("target", "Bodies", "target")], [("Bodies", "stateBody")]
+    )
+    cred = Layout(
+        number("Tables", "stride Creds"),
+        [("number", "Bodies", "rowNumber"), ("subject UUID", "Bodies", "credSubject"), ("role", "Bodies", "credRole"),
+         ("authority", "Bodies", "credAuthority"), ("type", "Bodies", "credType"), ("first asserted role", "Roles", "firstRole"),
+         ("second asserted role", "Roles", "secondRole")],
+        [("Bodies", "credStorable")],
+    )
+    asserted = Layout(
+        found("Action", "updateRoles", r"\((\d+), ifAllowed \(not \(noRole"),
+        [("authority", "Roles", "assertedAuthority"), ("role", "Roles", "assertedRole"), ("last second", "Roles", "assertedLast")],
+    )
+    ace = Layout(
+        number("Tables", "stride Aces"),
+        [("number", "Bodies", "rowNumber"), ("kind", "Bodies", "aceKind"), ("permission", "Bodies", "acePermission"),
+         ("+", "Bodies", "acePlus"), ("-", "Bodies", "aceMinus"), ("*", "Bodies", "aceStar"), ("set of resources", "Bodies", "inSet"),
+         ("subject", "Bodies", "aceSubject"), ("first second", "Bodies", "aceFirst"), ("last second", "Bodies", "aceLast")],
+        [("Bodies", "aceStorable")],
+    )
+    # the subject's last four bytes, by its kind; the zeros before them are tested as bytes
+    end = sum(span("Bodies", "aceSubject", 0)) // 8
+    role = Layout(end, [("authority", "Bodies", "aceAuthority"), ("role", "Bodies", "aceRole")], start=8 * end - 32)
+    old = Layout(
+        found("Old", "oldRows", r"rowsOf (\d+)"),
+        [("subject UUID", "Old", "oldSubject"), ("permission", "Old", "oldPermission"), ("zeros", "Old", "oldZeros"),
+         ("set of resources", "Old", "oldSet")],
+    )
+    return {"header": header, "doxm": doxm, "pstat": pstat, "cred": cred, "asserted": asserted, "ace": ace, "role": role, "old": old}
+
+
+# ---- tables and what waits
+
+
+def plain_number(text, constants):
+    """A number, or a sum or product of numbers and constants."""
+    return sum(math.prod(int(constants.get(f.strip(), f.strip())) for f in part.split("*")) for part in text.split("+"))
+
+
+def struct_fields():
+    source = read("crates/rules/src/lib.rt")
+    constants = {}
+    for name, value in re.findall(r"pub const (\w+): usize = ([^;]+);", source):
+        constants[name] = plain_number(value, constants)
+    block = re.search(r"pub struct Tables \{(.*?)\n\}", source, re.S)
+    if not block:
+        raise Changed("crates/rules/src/lib.rt has no struct Tables")
+    fields, at = [], 0
+    for name, array, one in re.findall(r"pub (\w+): (?:\[u8; (\w+)\]|(u8)),", block.group(1)):
+        long = 1 if one else plain_number(array, constants)
+        fields.append((name, at, long))
+        at += long
+    return fields, at
+
+
+MEANINGS = {
+    "state": "device state",
+    "owned": "1 where there is a device owner",
+    "ncreds": "credential rows held",
+    "naces": "access rows held",
+    "devowner": "device owner UUID, or nil",
+    "rowners": "row owners of doxm, pstat, cred and acl2",
+    "creds": "{} credential rows of {} bytes, zeros behind those held",
+    "aces": "{} access rows of {} bytes, zeros behind those held",
+}
+
+
+def tables_table():
+    fields, whole = struct_fields()
+    text = ["| byte | bytes | field | |", "|---|---|---|---|"]
+    for name, at, long in fields:
+        if name not in MEANINGS:
+            raise Changed(f"the tables have a new field, {name}")
+        table = {"creds": "Creds", "aces": "Aces"}.get(name)
+        words = MEANINGS[name]
+        if table:
+            rows, row = number("Tables", f"capacity {table}"), number("Tables", f"stride {table}")
+            if rows * row != long:
+                raise Changed(f"{name} has {long} bytes, and not {rows} rows of {row}")
+            words = words.format(rows, row)
+        text.append(f"| {at} | {long} | {name} | {words} |")
+    text.append(f"| | {whole:,} | | in all |")
+    return "\n".join(text)
+
+
+def waiting_offsets():
+    """Of the memory: round, slots; of a slot: length, record."""
+    rounds = found("Slots", "roundOf", r"getD m (\d+) 0")
+    slots = found("Slots", "waiting", r"drop (\d+) m")
+    length = found("Slots", "recordOf", r"bits \(drop (\d+) w\) 0 16")
+    record = found("Slots", "recordOf", r"\(drop (\d+) w\)$")
+    return rounds, slots, length, record
+
+
+def waiting_table():
+    rounds, slots, length, record = waiting_offsets()
+    long, most, whole = (number("Slots", name) for name in ("slotLong", "slotsMost", "memoryLong"))
+    if slots + most * long != whole:
+        raise Changed("the memory of waiting records is not its head and its slots")
+    return "\n".join(
+        ["| byte | bytes | field | |", "|---|---|---|---|",
+         f"| 0 | {rounds} | count | how many records wait |",
+         f"| {rounds} | {slots - rounds} | round | zeros, or 1 and the credential number of the last record taken |",
+         f"| {slots} | {most * long:,} | slots | {most} slots of {long} bytes, the used ones first, zeros behind them |",
+         f"| | {whole:,} | | in all |", "",
+         "| byte of a slot | bytes | field | |", "|---|---|---|---|",
+         f"| 0 | {length} | seat | the sender's credential number, 0 for unauthenticated senders |",
+         f"| {length} | {record - length} | length | of the record |",
+         f"| {record} | {long - record} | record | zeros behind it |"]
+    )
+
+
+# ---- device states
+
+
+def states():
+    return {int(value): name for name, value in re.findall(r"TILLERCLOVER_(\w+) = (\d+)", enum("tillerclover_state"))}
+
+
+def moves():
+    """(state, target, condition) by the definition; the condition is 'true' or 'hasOwner'."""
+    text = right_side("States", "moves")
+    listed = []
+    for state, targets in re.findall(r"\((\d+), ((?:\(\d+, \w+\) ∷ )+)\[\]\)", text):
+        listed += [(int(state), int(target), condition) for target, condition in re.findall(r"\((\d+), (\w+)\)", targets)]
+    if not listed or {c for _, _, c in listed} - {"true", "hasOwner"}:
+        raise Changed("States.antt: moves has another form")
+    return listed
+
+
+def states_picture():
+    names = states()
+    fresh = found("Tables", "empty", r"state = (\d+);")
+    text = ["stateDiagram-v2", f"    [*] --> {names[fresh]}: fresh tables, the clear button"]
+    for state, target, condition in moves():
+        text.append(f"    {names[state]} --> {names[target]}" + (": if owned is 1" if condition == "hasOwner" else ""))
+    text.append(f"    {names[0]} --> {names[fresh]}: at once, fresh tables")
+    return "```mermaid\n" + "\n".join(text) + "\n```"
+
+
+# What the table of writes says of the actions that are no plain column, with the definition that it rests on.
+ALLOWED = {
+    "stateAllows state Serve": "eqb state 3",
+    "stateAllows state Read": "true",
+    "stateAllows state (SetRowOwner n)": "writeAllowed state 1",
+    "stateAllows state (SetOwner owned)": "writeAllowed state 0 && (not (eqb state 4) || eqb owned 1)",
+    "stateAllows state (SetState target)": "writeAllowed state 3",
+    "stateAllows state (Store k)": "writeAllowed state 2",
+    "stateAllows state (Remove k at)": "writeAllowed state 2",
+    "stateAllows state (Assert c)": "eqb state 3 && eqb c 1",
+}
+
+
+def writes_table():
+    for left, text in ALLOWED.items():
+        if SPECS["States"].get(left) != text:
+            raise Changed(f"States.antt: '{left}' is '{SPECS['States'].get(left)}', and the table of writes rests on '{text}'")
+    names = states()
+    rows = [re.findall(r"true|false", row) for row in re.findall(r"\(((?:(?:true|false) ∷ )+)\[\]\)", right_side("States", "writes"))]
+    if len(rows) != len(names) or "true" in rows[0]:
+        raise Changed("States.antt: writes has another form")
+    yes = {"true": "yes", "false": "no"}
+    text = ["| state | doxm, 17 bytes | row owners | cred and acl2 rows | target state | an asserted role | applications |", "|---|---|---|---|---|---|---|"]
+    for state in range(1, len(rows)):
+        cells = [yes[cell] for cell in rows[state]]
+        if state == 4 and cells[0] == "yes":
+            cells[0] = "owned must be 1"
+        cells += ["over connection 1" if state == 3 else "no", "yes" if state == 3 else "no"]
+        text.append(f"| {state} {names[state]} | " + " | ".join(cells) + " |")
+    return "\n".join(text)
+
+
+# ---- layers
+
+
+def crates():
+    listed = {}
+    for line in read("crates.txt").split("\n"):
+        if line and not line.startswith("#"):
+            name, rest = line.split(":")
+            listed[name] = rest.split()
+    return listed
+
+
+def layers():
+    """(layer, crates) from the top, as README.md has them."""
+    table = re.search(r"\| layer \| crates \|\n\|---\|---\|\n((?:\|.*\|\n)+)", read("README.md"))
+    if not table:
+        raise Changed("README.md has no table of layers")
+    rows = [line.strip("|").split("|") for line in table.group(1).strip().split("\n")]
+    return [(row[0].strip(), re.findall(r"`(\w+)`", row[1])) for row in rows]
+
+
+def check_layers():
+    listed, place = crates(), {}
+    for level, (layer, names) in enumerate(layers()):
+        for name in names:
+            if name not in listed:
+                fault(f"README.md: '{name}' of the layer '{layer}' is no crate of crates.txt")
+            if name in place:
+                fault(f"README.md: {name} stands in two layers")
+            place[name] = level
+    for name, below in listed.items():
+        if name not in place:
+            fault(f"README.md: {name} stands in no layer")
+            continue
+        for other in below:
+            if other in place and place[other] < place[name]:
+                fault(f"README.md: {name} stands below {other}, which it depends on")
+
+
+def layers_picture():
+    listed, rows = crates(), layers()
+    level = {name: i for i, (_, names) in enumerate(rows) for name in names}
+    edges = {(level[a], level[b]) for a, below in listed.items() for b in below if a in level and b in level and level[a] < level[b]}
+    # an arrow that follows from others is left out
+    reach = {}
+    for i in reversed(range(len(rows))):
+        direct = sorted(b for a, b in edges if a == i)
+        reach[i] = set(direct).union(*(reach[b] for b in direct)) if direct else set()
+    drawn = sorted((a, b) for a, b in edges if not any(b in reach[c] for x, c in edges if x == a and c != b))
+    text = ["flowchart TD"]
+    text += [f'    l{i}["{layer}:<br/>{", ".join(names)}"]' for i, (layer, names) in enumerate(rows)]
+    text += [f"    l{a} --> l{b}" for a, b in drawn]
+    return "```mermaid\n" + "\n".join(text) + "\n```"
+
+
+def check_believed():
+    """README names the crates whose specs/ a contract cites."""
+    cited = set()
+    for path in glob.glob("crates/*/src/**/*.rt", recursive=True):
+        cited |= set(re.findall(r"^ghost use Rattle·(\w+?)(?:·specs)?\.specs\.", read(path), re.M))
+    sentence = re.search(r"^What must be believed is (.*?)\. The theorem", read("README.md"), re.M)
+    if not sentence:
+        raise Changed("README.md does not say what must be believed")
+    named = set(re.findall(r"`(\w+)`", sentence.group(1)))
+    for name in sorted(cited ^ named):
+        where = "a contract cites it, and README.md does not name it" if name in cited else "README.md names it, and no contract cites it"
+        fault(f"what must be believed: {name}/specs: {where}")
+
+
+# ---- the header
+
+
+def enum(name):
+    match = re.search(r"enum " + name + r" \{(.*?)\};", read(HEADER), re.S)
+    if not match:
+        raise Changed(f"{HEADER} has no enum {name}")
+    return match.group(1)
+
+
+def check_header(drawn):
+    """The header's numbers are those of the definitions."""
+    source = re.sub(r"/\*.*?\*/", "", read(HEADER), flags=re.S)
+    has = {name: int(value) for name, value in re.findall(r"\bTILLERCLOVER_(\w+) = (\d+)", source)}
+    rounds, slots, length, record = waiting_offsets()
+    expected = {
+        "HEADER_LENGTH": drawn["header"].end // 8,
+        "HEADER_WORD": 0,
+        "DOXM_LENGTH": drawn["doxm"].end // 8,
+        "PSTAT_LENGTH": drawn["pstat"].end // 8,
+        "CRED_LENGTH": number("Tables", "longest Creds"),
+        "CRED_ROW_LENGTH": number("Tables", "stride Creds"),
+        "CRED_CAPACITY": number("Tables", "capacity Creds"),
+        "CRED_ROLES_AT": span("Roles", "firstRole", 0)[0] // 8,
+        "ROLE_LENGTH": drawn["asserted"].end // 8,
+        "ACE_LENGTH": number("Tables", "stride Aces"),
+        "ACE_CAPACITY": number("Tables", "capacity Aces"),
+        "ACE_WORD": span("Bodies", "aceKind", 0)[0] // 8,
+        "OLD_ROW_LENGTH": drawn["old"].end // 8,
+        "WAITING_LENGTH": number("Slots", "memoryLong"),
+        "WAITING_COUNT_AT": 0,
+        "WAITING_ROUND_AT": rounds,
+        "WAITING_SLOTS_AT": slots,
+        "SLOT_LENGTH": number("Slots", "slotLong"),
+        "SLOT_SENDER_AT": 0,
+        "SLOT_LENGTH_AT": length,
+        "SLOT_RECORD_AT": record,
+    }
+    # the first byte of a field
+    for name, spec, field in (
+        ("SENDER", "Record", "credential"), ("DOXM_OWNER", "Bodies", "newOwner"), ("CRED_NUMBER", "Bodies", "rowNumber"),
+        ("CRED_SUBJECT", "Bodies", "credSubject"), ("CRED_ROLE", "Bodies", "credRole"), ("CRED_AUTHORITY", "Bodies", "credAuthority"),
+        ("CRED_TYPE", "Bodies", "credType"), ("ASSERTED_AUTHORITY", "Roles", "assertedAuthority"),
+        ("ASSERTED_ROLE", "Roles", "assertedRole"), ("ASSERTED_LAST", "Roles", "assertedLast"), ("ACE_NUMBER", "Bodies", "rowNumber"),
+        ("ACE_SET", "Bodies", "inSet"), ("ACE_SUBJECT", "Bodies", "aceSubject"), ("ACE_AUTHORITY", "Bodies", "aceAuthority"),
+        ("ACE_ROLE", "Bodies", "aceRole"), ("ACE_CONNECTION", "Bodies", "aceConnection"), ("ACE_FIRST", "Bodies", "aceFirst"),
+        ("ACE_LAST", "Bodies", "aceLast"), ("OLD_SUBJECT", "Old", "oldSubject"), ("OLD_PERMISSION", "Old", "oldPermission"),
+        ("OLD_SET", "Old", "oldSet"),
+    ):
+        expected[name + "_AT"] = span(spec, field, 0)[0] // 8
+    # how far a field stands from the end of its byte or word
+    for name, spec, field, unit in (
+        ("VERB", "Record", "verb", 16), ("CONNECTION", "Record", "connection", 16), ("RESOURCE", "Record", "resource", 16),
+        ("DOXM_OWNED", "Bodies", "newOwned", 8), ("PSTAT_TARGET", "Bodies", "target", 8), ("CRED_TYPE", "Bodies", "credType", 8),
+        ("ACE_KIND", "Bodies", "aceKind", 16), ("ACE_PERMISSION", "Bodies", "acePermission", 16),
+        ("ACE_WILDCARDS", "Bodies", "aceStar", 16), ("OLD_PERMISSION", "Old", "oldPermission", 8),
+    ):
+        first, width = span(spec, field, 0)
+        expected[name + "_SHIFT"] = -(first + width) % unit
+    for name, field in (("PLUS", "acePlus"), ("MINUS", "aceMinus"), ("STAR", "aceStar")):
+        expected["WILDCARD_" + name] = 1 << (span("Bodies", "aceStar", 0)[0] - span("Bodies", field, 0)[0])
+    for name in sorted(n for n in has if re.search(r"_(AT|SHIFT|WORD)$", n) and n not in expected):
+        fault(f"{HEADER}: TILLERCLOVER_{name} is compared with no definition")
+    for name, value in expected.items():
+        if has.get(name) != value:
+            fault(f"{HEADER}: TILLERCLOVER_{name} is {has.get(name)}, and by the definitions {value}")
+
+
+# ---- theorems, functions, must-fail edits
+
+
+def rows_of(text):
+    """The cells of each row of the tables in a text."""
+    lines = [line.strip() for line in text.split("\n")]
+    return [[cell.strip() for cell in line[1:-1].split(" | ")] for line in lines if line.startswith("|") and not line.startswith("|---")]
+
+
+def files_of(cells):
+    """The .antt files that a row names: one that is named alone stands beside the one before it, or in rules/proofs."""
+    folder, paths = None, []
+    for name in re.findall(r"[\w/]+\.antt", " ".join(cells)):
+        choices = [f"crates/{name}"] if "/" in name else [f"{f}/{name}" for f in (folder, "crates/rules/proofs") if f]
+        path = next((choice for choice in choices if os.path.exists(choice)), None)
+        if path is None:
+            fault(f"PROOFS.md: there is no file {choices[0]}")
+            continue
+        folder = os.path.dirname(path)
+        paths.append(path)
+    return paths
+
+
+def check_proofs():
+    text = read("docs/PROOFS.md")
+    theorems, contracts = text.split("## Theorems over the definitions")[1].split("## Contracts")
+    for cells in rows_of(theorems)[1:]:
+        sources = "\n".join(read(path) for path in files_of(cells[1:]))
+        for name in re.findall(r"`([^`]+)`", cells[1]):
+            word = re.escape(name)
+            if not re.search(rf"^ *(?:(?:pub|unfoldable|abbrev) )*(?:{word} :|(?:record|data) {word}\s)", sources, re.M):
+                fault(f"PROOFS.md: {name} stands in no file that its row names")
+    functions = set()
+    for path in glob.glob("crates/*/src/**/*.rt", recursive=True):
+        functions |= set(re.findall(r"\bfn (\w+)", read(path)))
+    for cells in rows_of(contracts.split("## The reviewer's")[0]):
+        for name in re.findall(r"`(?:\w+::)*([a-z]\w*)`", cells[0]):
+            if name not in functions and not os.path.isdir(f"crates/{name}"):
+                fault(f"PROOFS.md: there is no function {name}")
+
+
+def check_edits():
+    edits = {tuple(re.fullmatch(r"crates/(\w+)/must-fail/(\w+)\.edit", path).groups()) for path in glob.glob("crates/*/must-fail/*.edit")}
+    rows = [(cells[0], cells[1].strip("`")) for cells in rows_of(read("docs/MUST-FAIL.md"))[1:]]
+    if rows != sorted(set(rows)):
+        fault("MUST-FAIL.md: the rows are not sorted by crate and edit, or one stands twice")
+    for crate, edit in sorted(edits ^ set(rows)):
+        fault(f"MUST-FAIL.md: {crate}/must-fail/{edit}.edit " + ("has no row" if (crate, edit) in edits else "is not there, and has a row"))
+
+
+# ---- the pictures
+
+
+def pictures():
+    drawn = layouts()
+    check_header(drawn)
+    made = {name: "```\n" + layout.draw() + "\n```" for name, layout in drawn.items()}
+    made.update(states=states_picture(), writes=writes_table(), tables=tables_table(), waiting=waiting_table(), layers=layers_picture())
+    return made
+
+
+def renewed(page, made):
+    left = set(made)
+
+    def block(match):
+        name = match.group(1)
+        if name not in made:
+            fault(f"{PAGE}: no picture is called '{name}'")
+            return match.group(0)
+        left.discard(name)
+        return f"<!-- {name}, by tests/documents.py -->\n\n{made[name]}\n\n<!-- end -->"
+
+    text = re.sub(r"<!-- (\w+), by tests/documents\.py -->\n(.*?)<!-- end -->", block, page, flags=re.S)
+    for name in sorted(left):
+        fault(f"{PAGE} has no picture '{name}'")
+    return text
+
+
+def main(words):
+    if words not in ([], ["--write"]):
+        print(__doc__.strip(), file=sys.stderr)
+        return 2
+    try:
+        check_layers()
+        check_believed()
+        check_proofs()
+        check_edits()
+        page = read(PAGE)
+        text = renewed(page, pictures())
+    except Changed as changed:
+        print(f"documents: {changed}")
+        return 1
+    if words:
+        with open(PAGE, "w", encoding="utf-8") as file:
+            file.write(text)
+    elif text != page:
+        fault(f"{PAGE} is not what the sources give today; tests/documents.py --write renews it:")
+        faults.extend(line for line in difflib.unified_diff(page.split("\n"), text.split("\n"), "page", "today", lineterm="", n=1))
+    for line in faults:
+        print(line if line.startswith(("+", "-", "@", " ")) else f"documents: {line}")
+    return 1 if faults else 0
+
+
+sys.exit(main(sys.argv[1:]))
