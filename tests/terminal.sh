@@ -511,8 +511,8 @@ writer() {
     done
 }
 
-# latest FILE..: for each row the last counter, as 'ROW COUNTER'
-latest() { cat "$@" 2>/dev/null | awk '{ last[$1] = $2 } END { for (row in last) print row, last[row] }' | sort -n; }
+# latest FILE..: for each row the last counter, as 'ROW COUNTER', in the order that join asks for
+latest() { cat "$@" 2>/dev/null | awk '{ last[$1] = $2 } END { for (row in last) print row, last[row] }' | sort -k 1b,1; }
 
 # 1,000 confirmed writes of five partners, and kill -9 again and again meanwhile. After each, every row is at least as new
 # as was confirmed, and not newer than was tried.
@@ -561,7 +561,7 @@ check_rows() {
     request 1 get /oic/sec/acl2 | sed 's/^2.05 //' | cut -c 33- | fold -w 72 |
         while read -r row; do
             [ -n "$row" ] && echo "$((16#${row:0:4})) $((16#${row:56:8}))"
-        done | sort -n >"$work/rows"
+        done | sort -k 1b,1 >"$work/rows"
     latest "$work"/confirmed.* >"$work/confirmed"
     latest "$work"/tried.* >"$work/tried"
     # join has the row, what was confirmed or stored, and the other
