@@ -23,7 +23,10 @@ static const uint8_t CONTRACTOR_UUID[TILLERCLOVER_UUID_LENGTH] = {0x6a, 0xd5, 0x
 /* The harvest, in seconds of the terminal's clock: 1 July to the end of 30 September 2026. */
 static const uint32_t HARVEST_FIRST = 1782864000, HARVEST_LAST = 1790812799;
 
-/* What a terminal keeps: the tables and what waits, always those that came back last. This build has no default rows. */
+/* This build has no default rows: two lists of no bytes. */
+static const uint8_t NONE[1];
+
+/* What a terminal keeps: the tables and what waits, always those that came back last. */
 static tillerclover_tables tables;
 static tillerclover_waiting waiting;
 static uint32_t now;
@@ -32,7 +35,8 @@ static uint32_t now;
 static void call(const char *what, struct record r)
 {
     uint8_t reply[TILLERCLOVER_REPLY_MAX];
-    tillerclover_outcome o = tillerclover_judge(tables, &waiting, NULL, 0, NULL, 0, now, r.bytes, r.length, reply, sizeof reply);
+    tillerclover_outcome o =
+        tillerclover_judge(tables, &waiting, NONE, 0, NONE, 0, now, r.bytes, r.length, reply, sizeof reply);
     tables = o.tables;
     printf("%-43s answer %2u, permission %2u, state %u", what, o.answer, o.permission, tables.state);
     if (o.length != 0) {
@@ -61,7 +65,7 @@ static void take_all(void)
 {
     for (;;) {
         uint8_t reply[TILLERCLOVER_REPLY_MAX];
-        tillerclover_taken t = tillerclover_take(tables, &waiting, NULL, 0, NULL, 0, now, reply, sizeof reply);
+        tillerclover_taken t = tillerclover_take(tables, &waiting, NONE, 0, NONE, 0, now, reply, sizeof reply);
         if (t.outcome.answer == TILLERCLOVER_NOTHING_WAITING || t.outcome.answer == TILLERCLOVER_NOT_SOUND) {
             return;
         }
@@ -85,7 +89,7 @@ static void set_up(void)
     contractor.uuid = CONTRACTOR_UUID;
     contractor.first = HARVEST_FIRST;
     contractor.last = HARVEST_LAST;
-    tables = tillerclover_fresh(&waiting, NULL, 0, NULL, 0);
+    tables = tillerclover_fresh(&waiting, NONE, 0, NONE, 0);
     call("a new terminal takes the owner's credential", store_cred(0, (struct cred){.number = OWNER, .subject = OWNER_UUID}));
     call("and its owner", set_owner(0, OWNER_UUID));
     call("the owner goes on to RFPRO", set_state(OWNER, TILLERCLOVER_RFPRO));
@@ -120,7 +124,7 @@ int main(void)
 
     call("the owner goes back to RFPRO", set_state(OWNER, TILLERCLOVER_RFPRO));
     call("and deletes the haulier's access row", delete_row(TILLERCLOVER_ACL2, OWNER, 1));
-    tables = tillerclover_clear(tables, &waiting, NULL, 0, NULL, 0);
+    tables = tillerclover_clear(tables, &waiting, NONE, 0, NONE, 0);
     printf("the button: state %u, %u credential and %u access rows\n", tables.state, tables.ncreds, tables.naces);
     return 0;
 }

@@ -14,8 +14,8 @@
  * which changes it in place. A caller that shares both between threads holds its own lock from reading
  * them to storing what came back, or one record's change is lost.
  *
- * A pointer to bytes goes with their length. A null pointer with length 0 is as good as any other: it stands for no bytes,
- * and is neither read nor written through. With any other length it is an error of the caller.
+ * A null pointer with length 0 stands for no bytes, as any pointer does with that length, and is neither read nor written
+ * through; of the null one that is tried (tests/interface.c) and not proved. Elsewhere a null pointer is an error of the caller.
  */
 #ifndef TILLERCLOVER_H
 #define TILLERCLOVER_H

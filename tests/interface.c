@@ -14,6 +14,9 @@ static const uint8_t HAULIER_UUID[TILLERCLOVER_UUID_LENGTH] = {0xc4, 0x71, 0x0e,
                                                                0xb6, 0x5f, 0x87, 0x1b, 0x2e, 0x60, 0xf9, 0xad};
 static const uint8_t NIL[TILLERCLOVER_UUID_LENGTH];
 
+/* Two of them are the default rows of a build that has none. */
+static const uint8_t NONE[1];
+
 static void expect(int holds, const char *what)
 {
     if (!holds) {
@@ -69,12 +72,12 @@ static tillerclover_waiting waiting;
 
 static tillerclover_tables fresh(void)
 {
-    return tillerclover_fresh(&waiting, NULL, 0, NULL, 0);
+    return tillerclover_fresh(&waiting, NONE, 0, NONE, 0);
 }
 
 static tillerclover_outcome judge(tillerclover_tables t, struct record r)
 {
-    return tillerclover_judge(t, &waiting, NULL, 0, NULL, 0, now, r.bytes, r.length, reply, sizeof reply);
+    return tillerclover_judge(t, &waiting, NONE, 0, NONE, 0, now, r.bytes, r.length, reply, sizeof reply);
 }
 
 /* The tables after a record that must be permitted. */
@@ -92,7 +95,7 @@ static tillerclover_outcome hand_in(tillerclover_tables t, struct record r)
 
 static tillerclover_taken take(tillerclover_tables t)
 {
-    return tillerclover_take(t, &waiting, NULL, 0, NULL, 0, now, reply, sizeof reply);
+    return tillerclover_take(t, &waiting, NONE, 0, NONE, 0, now, reply, sizeof reply);
 }
 
 static int same(const tillerclover_tables *a, const tillerclover_tables *b)
@@ -129,7 +132,7 @@ static void whole_tables(void)
     tillerclover_tables worn, cleared, new, expected;
     memset(&worn, 0xFF, sizeof worn);
     memset(&waiting, 0xFF, sizeof waiting);
-    cleared = tillerclover_clear(worn, &waiting, NULL, 0, NULL, 0);
+    cleared = tillerclover_clear(worn, &waiting, NONE, 0, NONE, 0);
     expect(memcmp(&waiting, &nothing, sizeof waiting) == 0, "the memory is not fresh after clearing");
     memset(&waiting, 0x01, sizeof waiting);
     new = fresh();
@@ -309,10 +312,10 @@ static void replies(void)
     memset(buffer, 0xA5, sizeof buffer);
     memset(before, 0xA5, sizeof before);
     tillerclover_outcome o =
-        tillerclover_judge(t, &waiting, NULL, 0, NULL, 0, 0, r.bytes, r.length, buffer, TILLERCLOVER_REPLY_MAX - 1);
+        tillerclover_judge(t, &waiting, NONE, 0, NONE, 0, 0, r.bytes, r.length, buffer, TILLERCLOVER_REPLY_MAX - 1);
     expect(o.answer == TILLERCLOVER_NO_ROOM && o.reply == 0, "a reply was put into a buffer that is too short");
     expect(memcmp(buffer, before, sizeof buffer) == 0, "a refusal wrote into the buffer");
-    o = tillerclover_judge(t, &waiting, NULL, 0, NULL, 0, 0, r.bytes, r.length, buffer, TILLERCLOVER_REPLY_MAX);
+    o = tillerclover_judge(t, &waiting, NONE, 0, NONE, 0, 0, r.bytes, r.length, buffer, TILLERCLOVER_REPLY_MAX);
     expect(o.answer == TILLERCLOVER_PERMITTED && o.reply == TILLERCLOVER_REPLY_MAX, "the longest reply has another length");
     memcpy(before, t.rowners + TILLERCLOVER_ACL2 * TILLERCLOVER_UUID_LENGTH, TILLERCLOVER_UUID_LENGTH);
     memcpy(before + TILLERCLOVER_UUID_LENGTH, t.aces, sizeof t.aces);
@@ -462,8 +465,9 @@ static void default_rows(void)
     t = tillerclover_fresh(&waiting, creds, sizeof creds, aces, sizeof aces);
     expect(same(&t, &expected), "fresh tables have other default rows");
     struct record r = set_state(0, TILLERCLOVER_RESET);
-    t = tillerclover_judge(fresh(), &waiting, creds, sizeof creds, aces, sizeof aces, 0, r.bytes, r.length, NULL, 0).tables;
-    expect(same(&t, &expected), "RESET has other default rows");
+    tillerclover_outcome o = tillerclover_judge(fresh(), &waiting, creds, sizeof creds, aces, sizeof aces, 0, r.bytes, r.length,
+                                                reply, sizeof reply);
+    expect(same(&o.tables, &expected), "RESET has other default rows");
 }
 
 /* ---- The clock, asserted roles, what waits */
