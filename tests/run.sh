@@ -2,13 +2,13 @@
 # Tests of what no proof covers: the library against the second model, the C interface, the programs on bad input.
 #
 #     tests/run.sh              all tests
-#     tests/run.sh NAME..       some: model, compare, runs, example, interface, documents, vectors, inputs, terminal
+#     tests/run.sh NAME..       some: model, binding, compare, runs, example, interface, documents, vectors, inputs, terminal
 #
 # The last line counts the tests that passed and failed; a failure makes the script exit with 1.
 set -uo pipefail
 cd "$(dirname "$0")/.." || exit 2
 
-ALL=(model compare runs example interface documents vectors inputs terminal)
+ALL=(model binding compare runs example interface documents vectors inputs terminal)
 work=$(mktemp -d) || exit 2
 trap 'rm -rf "$work"' EXIT
 
@@ -49,12 +49,18 @@ library() {
 run_program() { log rt check run; }
 
 in_model() { (cd model && "$@"); }
+in_binding() { (cd bindings/rust && "$@"); }
 
 # ---- the tests
 
 # The model's own tests, and its programs are built.
 test_model() {
     need_cargo && log in_model cargo test --quiet --profile gate --locked && log in_model cargo build --quiet --profile gate --locked
+}
+
+# The Rust binding: its own tests, and the examples of its documentation.
+test_binding() {
+    need_cargo && library && log in_binding cargo test --quiet --locked && log in_binding cargo build --quiet --locked --features measure
 }
 
 # The library and the model give the same for 300,000 records.

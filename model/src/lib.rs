@@ -2,8 +2,7 @@
 //! and the change requests alone, and the means to compare the proved library
 //! with it.
 
-// Only calls of the linked library are unsafe.
-#![deny(unsafe_code)]
+#![forbid(unsafe_code)]
 
 // The rules.
 pub mod bits;
@@ -36,5 +35,4 @@ pub mod histogram;
 pub mod options;
 
 #[cfg(feature = "linked")]
-#[allow(unsafe_code)]
 pub mod library;

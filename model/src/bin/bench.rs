@@ -1,20 +1,21 @@
 //! Measures the proved library, with the model beside it, and with the same
 //! decision in C by hand.
 
+#![forbid(unsafe_code)]
+
 use std::cell::RefCell;
 use std::collections::BTreeMap;
-use std::ffi::c_void;
 use std::fs;
 use std::hint::black_box;
 use std::process::exit;
 use std::time::Instant;
 
 use model::case::{shrink, Call, Case as Put};
-use model::defaults::{join, Defaults};
+use model::defaults::join;
 use model::directory::{set_bit, ROLES, YARD};
 use model::examples::{access, asserted, credential, role, uuid, AUTH};
 use model::generate::{clock, record, session, walk};
-use model::library::{self, Outcome, Tables as Given, Waiting};
+use model::library::{self, lent, waiting};
 use model::office::{self, LONGEST_TEXT};
 use model::older::{self, Converted, File, OldRow, LONGEST_RESULT};
 use model::options::{Options, Program};
@@ -24,6 +25,7 @@ use model::record::{compose, Verb, RETRIEVE_BIT, UPDATE_BIT};
 use model::rules::{judge, LONGEST_REPLY};
 use model::tables::{Access, Credential, Row, State, Stored, Subject, Tables, STATE};
 use model::waiting::{Memory, Waiting as RulesWaiting, Waits};
+use tillerclover::{interface, measure as beside, Answer, Outcome, Tables as Given, Waiting};
 
 const PROGRAM: Program = Program {
     name: "bench",
@@ -167,27 +169,28 @@ impl Case {
                 expected.answer, found.answer
             ));
         }
-        let (given, waiting) = (Given::from_bytes(&put.tables), Waiting::from_memory(&put.waiting));
+        let (given, waiting) = (Given::from_bytes(&put.tables), waiting(&put.waiting));
         Case { name, what, put, given, lent: RefCell::new(waiting.clone()), waiting }
     }
 
     fn ask_library(&self, reply: &mut Reply) {
         let Put { call, clock, record, defaults, .. } = &self.put;
         let given = black_box(&self.given);
-        let mut lent = self.lent.borrow_mut();
-        let waiting = black_box(&mut *lent);
+        let defaults = lent(defaults);
+        let mut memory = self.lent.borrow_mut();
+        let waiting = black_box(&mut *memory);
         match call {
             Call::Judge => {
                 let record = black_box(record);
-                black_box(library::decide(given, waiting, defaults, black_box(*clock), record, black_box(reply)));
+                black_box(interface::judge(given, waiting, defaults, black_box(*clock), record, black_box(reply)));
             }
             Call::HandIn => {
                 waiting.bytes.copy_from_slice(&self.waiting.bytes);
-                black_box(library::hand_in(given, waiting, black_box(record)));
+                black_box(interface::hand_in(given, waiting, black_box(record)));
             }
             Call::Take => {
                 waiting.bytes.copy_from_slice(&self.waiting.bytes);
-                black_box(library::take(given, waiting, defaults, black_box(*clock), black_box(reply)));
+                black_box(interface::take(given, waiting, defaults, black_box(*clock), black_box(reply)));
             }
         }
     }
@@ -197,10 +200,10 @@ impl Case {
     }
 
     fn ask_yardstick(&self, reply: &mut Reply) {
-        black_box(yardstick::decide(
+        black_box(beside::yardstick(
             black_box(&self.given),
             black_box(&self.waiting),
-            &self.put.defaults,
+            lent(&self.put.defaults),
             black_box(self.put.clock),
             black_box(&self.put.record),
             black_box(reply),
@@ -461,11 +464,11 @@ fn mixed(repetitions: u64) {
     }
     let count = cases.len() as f64;
     let all = [cases];
-    let fresh = RefCell::new(Waiting::from_memory(&Memory::fresh()));
+    let fresh = RefCell::new(Waiting::FRESH);
     let library = |cases: &Vec<(Put, Given)>, reply: &mut Reply| {
         for (put, given) in cases {
             let waiting = &mut *fresh.borrow_mut();
-            black_box(library::decide(given, waiting, &put.defaults, put.clock, &put.record, reply));
+            black_box(interface::judge(given, waiting, lent(&put.defaults), put.clock, &put.record, reply));
         }
     };
     let model = |cases: &Vec<(Put, Given)>| {
@@ -508,7 +511,7 @@ fn texts(repetitions: u64) {
     println!("\ntime of the office text\n");
     println!("tables   bytes    library       model  ratio");
     let cases: Vec<(Rows, Stored)> = Rows::KINDS.iter().map(|&rows| (rows, rows.serving().bytes())).collect();
-    let fresh = Waiting::from_memory(&Memory::fresh());
+    let fresh = Waiting::FRESH;
     let library = |(_, stored): &(Rows, Stored), _: &mut Reply| ask_text(&Given::from_bytes(stored), &fresh);
     let model = |(_, stored): &(Rows, Stored)| {
         let mut text = [0; LONGEST_TEXT];
@@ -517,14 +520,14 @@ fn texts(repetitions: u64) {
     let times = measure(&cases, repetitions, library, model);
     for ((rows, stored), time) in cases.iter().zip(&times) {
         let mut text = [0; LONGEST_TEXT];
-        let length = library::write_list(&Given::from_bytes(stored), &fresh, &mut text).length;
+        let length = interface::access_list(&Given::from_bytes(stored), &fresh, &mut text).length;
         println!("{:6}  {:6}  {:6.0} ns  {:7.0} ns  {:5.2}", rows.name, length, time.library, time.other, time.ratio());
     }
 }
 
 fn ask_text(given: &Given, waiting: &Waiting) {
     let mut text = [0; LONGEST_TEXT];
-    black_box(library::write_list(black_box(given), black_box(waiting), black_box(&mut text)));
+    black_box(interface::access_list(black_box(given), black_box(waiting), black_box(&mut text)));
 }
 
 /// A list to load that is accepted: rows whose numbers have one high byte, or one low byte.
@@ -548,7 +551,7 @@ fn lists(repetitions: u64) {
         }
     }
     let library = |(_, _, list): &(u16, &str, Vec<u8>), _: &mut Reply| {
-        black_box(library::test(black_box(list)));
+        black_box(interface::test_list(black_box(list)));
     };
     let model = |(_, _, list): &(u16, &str, Vec<u8>)| {
         black_box(test(black_box(list)));
@@ -586,7 +589,7 @@ fn older(repetitions: u64) {
         }
     }
     let library = |(_, _, file): &(usize, &str, File), reply: &mut Reply| {
-        black_box(library::convert(black_box(&file.bytes), black_box(reply)));
+        black_box(interface::convert_list(black_box(&file.bytes), black_box(reply)));
     };
     let model = |(_, _, file): &(usize, &str, File)| {
         let mut rows = EMPTY;
@@ -650,57 +653,8 @@ fn turns(repetitions: u64) {
 
 // ---- The yardstick: the same decision in C by hand.
 
-mod yardstick {
-    use super::{Defaults, Given, Outcome, Waiting};
-
-    extern "C" {
-        fn yardstick_judge(
-            t: Given,
-            waiting: *const Waiting,
-            creds: *const u8,
-            creds_length: usize,
-            aces: *const u8,
-            aces_length: usize,
-            clock: u32,
-            record: *const u8,
-            length: usize,
-            reply: *mut u8,
-            room: usize,
-        ) -> Outcome;
-    }
-
-    /// Its answer to a record of a security resource that passes 1 to 7.
-    pub const SECURITY: u8 = 255;
-
-    /// One call, as `model::library::decide` makes it.
-    #[inline]
-    pub fn decide(
-        tables: &Given,
-        waiting: &Waiting,
-        defaults: &Defaults,
-        clock: u32,
-        record: &[u8],
-        reply: &mut [u8],
-    ) -> Outcome {
-        let Defaults { credentials, accesses } = defaults;
-        // The pointers and lengths are those of living slices.
-        unsafe {
-            yardstick_judge(
-                *tables,
-                waiting,
-                credentials.as_ptr(),
-                credentials.len(),
-                accesses.as_ptr(),
-                accesses.len(),
-                clock,
-                record.as_ptr(),
-                record.len(),
-                reply.as_mut_ptr(),
-                reply.len(),
-            )
-        }
-    }
-}
+/// Its answer to a record of a security resource that passes 1 to 7.
+const SECURITY: Answer = Answer(255);
 
 const COMPARED: u64 = 300_000;
 /// The cases in which both are timed.
@@ -709,37 +663,42 @@ const BY_HAND: [&str; 6] = ["serve", "foreman", "poll", "refuse1", "refuse2", "r
 /// What the two make of a case: the library first.
 fn both(put: &Put) -> [Outcome; 2] {
     let given = Given::from_bytes(&put.tables);
-    let waiting = Waiting::from_memory(&put.waiting);
+    let waiting = waiting(&put.waiting);
     let (mut one, mut other) = (EMPTY, EMPTY);
     [
-        library::decide(&given, &mut waiting.clone(), &put.defaults, put.clock, &put.record, &mut one),
-        yardstick::decide(&given, &waiting, &put.defaults, put.clock, &put.record, &mut other),
+        interface::judge(&given, &mut waiting.clone(), lent(&put.defaults), put.clock, &put.record, &mut one),
+        beside::yardstick(&given, &waiting, lent(&put.defaults), put.clock, &put.record, &mut other),
     ]
 }
 
 /// Whether they are equal. Of a record of a security resource only that it passes 1 to 7.
 fn equal([library, by_hand]: &[Outcome; 2]) -> bool {
-    if by_hand.answer == yardstick::SECURITY {
-        return !(1..=7).contains(&library.answer);
+    if by_hand.answer == SECURITY {
+        return !(1..=7).contains(&library.answer.number());
     }
     let told = |o: &Outcome| (o.answer, o.permission, o.start, o.length, o.reply, o.first, o.many, o.set, o.size);
-    told(library) == told(by_hand) && library.tables.bytes() == by_hand.tables.bytes()
+    told(library) == told(by_hand) && library.tables.to_bytes() == by_hand.tables.to_bytes()
 }
 
 /// The answer of both. Ends the program where they differ.
 fn agreed(put: &Put) -> u8 {
     let outcomes = both(put);
     if equal(&outcomes) {
-        return outcomes[1].answer;
+        return outcomes[1].answer.number();
     }
     let small = shrink(put.clone(), |put| !equal(&both(put)));
     eprintln!("bench: bench/yardstick.c differs from the library, on this case made as small as it goes:");
     eprintln!("{}", small.line());
     for (side, o) in ["library", "by hand"].iter().zip(both(&small)) {
-        let tables = if o.tables.bytes() == small.tables { "unchanged" } else { "changed" };
+        let tables = if o.tables.to_bytes() == small.tables { "unchanged" } else { "changed" };
         eprintln!(
             "  {side}: answer {}, permission {}, payload from {} length {}, set {:016x} size {}, tables {tables}",
-            o.answer, o.permission, o.start, o.length, o.set, o.size
+            o.answer.number(),
+            o.permission.number(),
+            o.start,
+            o.length,
+            o.set.0,
+            o.size
         );
     }
     exit(1);
@@ -808,105 +767,58 @@ fn yardstick(repetitions: u64) {
 
 // ---- The stack: a thread whose stack was painted beforehand.
 
-#[repr(C, align(16))]
-struct Attributes([u8; 128]);
-
-extern "C" {
-    fn pthread_attr_init(attributes: *mut Attributes) -> i32;
-    fn pthread_attr_setstack(attributes: *mut Attributes, stack: *mut c_void, size: usize) -> i32;
-    fn pthread_create(
-        thread: *mut u64,
-        attributes: *const Attributes,
-        start: extern "C" fn(*mut c_void) -> *mut c_void,
-        argument: *mut c_void,
-    ) -> i32;
-    fn pthread_join(thread: u64, result: *mut *mut c_void) -> i32;
-}
-
-const PAINT: u8 = 0xA7;
-const STACK: usize = 256 * 1024;
-
-#[repr(C, align(4096))]
-struct Painted([u8; STACK]);
-
-struct Asked<'a> {
-    ask: &'a dyn Fn(&mut Buffer),
-    buffer: Buffer,
-    /// Where the caller's frame stands.
-    above: usize,
-}
-
-extern "C" fn call(argument: *mut c_void) -> *mut c_void {
-    // The pointer is that of `depth`'s own call, which waits for this thread.
-    let call = unsafe { &mut *argument.cast::<Asked>() };
-    let mark = 0u8;
-    call.above = black_box(&raw const mark) as usize;
-    (call.ask)(&mut call.buffer);
-    std::ptr::null_mut()
-}
-
 /// A buffer off the painted stack, for a reply or a text.
 type Buffer = Box<[u8; LONGEST_TEXT]>;
 
 /// Bytes of stack below the caller that one call wrote to.
-fn depth(ask: &dyn Fn(&mut Buffer)) -> usize {
-    // A vector, so that the paint is not on a stack itself.
-    let mut stack: Vec<Painted> = Vec::with_capacity(1);
-    let mut arguments = Asked { ask, buffer: Box::new([0; LONGEST_TEXT]), above: 0 };
-    let bytes = stack.spare_capacity_mut()[0].as_mut_ptr().cast::<u8>();
-    // The stack is this function's until the thread is joined.
-    unsafe {
-        bytes.write_bytes(PAINT, STACK);
-        let mut attributes = Attributes([0; 128]);
-        let mut thread = 0;
-        let faults = pthread_attr_init(&mut attributes)
-            | pthread_attr_setstack(&mut attributes, bytes.cast(), STACK)
-            | pthread_create(&mut thread, &attributes, call, (&raw mut arguments).cast());
-        if faults != 0 || pthread_join(thread, std::ptr::null_mut()) != 0 {
-            PROGRAM.stop("cannot start a thread on a stack of its own");
-        }
-        let lowest = (0..STACK).find(|&at| bytes.add(at).read() != PAINT).unwrap_or(STACK);
-        arguments.above - (bytes as usize + lowest)
-    }
+fn depth(mut ask: impl FnMut(&mut Buffer) + Send) -> usize {
+    let mut buffer = Box::new([0; LONGEST_TEXT]);
+    beside::depth(&mut || ask(&mut buffer))
+        .unwrap_or_else(|| PROGRAM.stop("cannot start a thread on a stack of its own"))
 }
 
 /// The most that a case takes, and its name.
-fn deepest(cases: &[Case], ask: fn(&Case, &mut Reply)) -> (usize, &'static str) {
-    let ask = |case: &Case, buffer: &mut Buffer| {
-        ask(case, buffer.first_chunk_mut().expect("a text is longer than a reply"));
+fn deepest(cases: &mut [Case], ask: fn(&Case, &mut Reply)) -> (usize, &'static str) {
+    let one = |case: &mut Case| {
+        let name = case.name;
+        (depth(move |buffer| ask(case, reply_in(buffer))), name)
     };
-    cases.iter().map(|case| (depth(&|buffer| ask(case, buffer)), case.name)).max().unwrap_or_default()
+    cases.iter_mut().map(one).max().unwrap_or_default()
+}
+
+fn reply_in(buffer: &mut Buffer) -> &mut Reply {
+    buffer.first_chunk_mut().expect("a text is longer than a reply")
 }
 
 fn stack() {
     let mut cases: Vec<Case> = Rows::KINDS.iter().flat_map(|&rows| cases(rows)).collect();
-    let (bytes, name) = deepest(&cases, Case::ask_library);
+    let (bytes, name) = deepest(&mut cases, Case::ask_library);
     println!("\nstack of a decision, tables and outcome included: at most {bytes} bytes (`{name}`)");
     cases.retain(|case| BY_HAND.contains(&case.name));
-    let (bytes, name) = deepest(&cases, Case::ask_yardstick);
+    let (bytes, name) = deepest(&mut cases, Case::ask_yardstick);
     println!("the same by hand: at most {bytes} bytes (`{name}`)");
-    let (bytes, name) = deepest(&turns_of(Rows::KINDS[2]), Case::ask_library);
+    let (bytes, name) = deepest(&mut turns_of(Rows::KINDS[2]), Case::ask_library);
     println!("stack of a record that waits, or of one beside it: at most {bytes} bytes (`{name}`)");
     let given = Given::from_bytes(&Rows::KINDS[2].serving().bytes());
-    let fresh = Waiting::from_memory(&Memory::fresh());
-    let text = depth(&|buffer| {
-        black_box(library::write_list(black_box(&given), &fresh, black_box(&mut buffer[..])));
+    let fresh = Waiting::FRESH;
+    let text = depth(|buffer| {
+        black_box(interface::access_list(black_box(&given), &fresh, black_box(&mut buffer[..])));
     });
     println!("stack of an office text of full tables, tables included: {text} bytes");
     let full = list(Access::CAPACITY as u16, 1);
-    let tested = depth(&|_| {
-        black_box(library::test(black_box(&full)));
+    let tested = depth(|_| {
+        black_box(interface::test_list(black_box(&full)));
     });
     println!("stack of the test of a full list: {tested} bytes");
     let full = older_list(Access::CAPACITY, true);
-    let converted = depth(&|buffer| {
-        black_box(library::convert(black_box(&full.bytes), black_box(&mut buffer[..])));
+    let converted = depth(|buffer| {
+        black_box(interface::convert_list(black_box(&full.bytes), black_box(&mut buffer[..])));
     });
     println!("stack of the conversion of an older list: {converted} bytes");
 }
 
 fn size() {
-    let file = env!("TILLERCLOVER_ARCHIVE");
+    let file = beside::ARCHIVE;
     match fs::metadata(file) {
         Ok(data) => println!("libterminal.a: {} bytes", data.len()),
         Err(fault) => PROGRAM.stop(format!("cannot read {file}: {fault}")),

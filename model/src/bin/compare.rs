@@ -1,5 +1,7 @@
 //! Compares the proved library with the model, record by record and list by list.
 
+#![forbid(unsafe_code)]
+
 use model::case::{field, first_change, shrink, Call, Case, Seen};
 use model::files;
 use model::generate::{any_bytes, any_memory, defaults, walk};

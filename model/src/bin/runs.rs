@@ -1,5 +1,7 @@
 //! Whole runs: inputs with their text, and a program compared by its text.
 
+#![forbid(unsafe_code)]
+
 use std::fs;
 use std::io::{ErrorKind, Read, Write};
 use std::process::{Child, Command, ExitStatus, Stdio};

@@ -1,5 +1,7 @@
 //! Shows which answers the generated cases get, without the library.
 
+#![forbid(unsafe_code)]
+
 use model::generate::{walk, Part};
 use model::histogram::Histogram;
 use model::options::Program;

@@ -1,5 +1,7 @@
 //! Writes a file of vectors.
 
+#![forbid(unsafe_code)]
+
 use std::fs;
 
 use model::options::Program;

@@ -1,0 +1,67 @@
+//! The proved access decision of a weighbridge terminal, for Rust: libterminal.a
+//! behind names and slices. It decides nothing itself.
+//!
+//! [`Terminal`] keeps the tables and what waits beside them together, and is what
+//! a program wants. [`interface`] has the eight functions of the C header one by
+//! one, for a program that keeps both elsewhere.
+//!
+//! Every field of a record and of the tables has a type with names. These types
+//! hold any number that the bits can hold, since records and tables may have any
+//! content: [`Resource`]`(63)` is a resource that no terminal has.
+//!
+//! ```
+//! use tillerclover::{doxm_body, pstat_body, Ace, Cred, Permission, Resource, Set, State, Subject, Terminal, Uuid, Verb};
+//! use tillerclover::{record, ANYONE};
+//!
+//! let (owner, haulier): (Uuid, Uuid) =
+//!     ("11111111-1111-1111-1111-111111111111".parse()?, "22222222-2222-2222-2222-222222222222".parse()?);
+//! let mut yard = Terminal::new();
+//!
+//! // While nobody owns the terminal, anyone may set it up.
+//! let row = Cred { number: 5, subject: owner, ..Cred::default() };
+//! assert!(yard.judge(0, &record(Verb::UPDATE, Resource::CRED, ANYONE, &row.body())).answer.is_permitted());
+//! let row = Cred { number: 7, subject: haulier, ..Cred::default() };
+//! assert!(yard.judge(0, &record(Verb::UPDATE, Resource::CRED, ANYONE, &row.body())).answer.is_permitted());
+//! let row = Ace {
+//!     number: 1,
+//!     subject: Subject::Uuid(haulier),
+//!     permission: Permission::UPDATE,
+//!     resources: Set::of(&[Resource::TARE]),
+//!     ..Ace::default()
+//! };
+//! assert!(yard.judge(0, &record(Verb::UPDATE, Resource::ACL2, ANYONE, &row.body())).answer.is_permitted());
+//! assert!(yard.judge(0, &record(Verb::UPDATE, Resource::DOXM, ANYONE, &doxm_body(owner))).answer.is_permitted());
+//! for state in [State::RFPRO, State::RFNOP] {
+//!     let moved = yard.judge(0, &record(Verb::UPDATE, Resource::PSTAT, 5, &pstat_body(state)));
+//!     assert!(moved.answer.is_permitted());
+//! }
+//!
+//! // The haulier may tare, and nothing else.
+//! let tare = yard.judge(0, &record(Verb::UPDATE, Resource::TARE, 7, b"lorry"));
+//! assert_eq!((tare.answer.number(), tare.permission, tare.payload.as_slice()), (0, Permission::UPDATE, &b"lorry"[..]));
+//! let zero = yard.judge(0, &record(Verb::UPDATE, Resource::ZERO, 7, &[]));
+//! assert_eq!(zero.answer.to_string(), "not permitted");
+//! # Ok::<(), tillerclover::UuidError>(())
+//! ```
+
+#![deny(missing_docs, unsafe_code)]
+
+#[allow(unsafe_code)]
+pub mod interface;
+#[cfg(feature = "measure")]
+#[allow(unsafe_code)]
+pub mod measure;
+mod names;
+mod record;
+mod rows;
+mod tables;
+mod terminal;
+mod uuid;
+
+pub use interface::{Converted, Defaults, Listed, Outcome, Taken, Tested};
+pub use names::{Answer, Connection, Permission, Resource, Set, State, Verb, Wildcards};
+pub use record::{doxm_body, pstat_body, record, Body, Header, ANYONE};
+pub use rows::{Ace, Asserted, Cred, OldRow, Period, Role, Subject};
+pub use tables::{Slot, Tables, Waiting};
+pub use terminal::{Given, Judged, Terminal};
+pub use uuid::{Uuid, UuidError};
