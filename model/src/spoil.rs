@@ -144,7 +144,8 @@ pub const LOAD_FAULTS: [LoadFault; 6] = [
     ("bytes that make no row", 19, |list, random| {
         let bytes = random.between(1, Access::LENGTH - 1);
         if random.chance(50) && !list.is_empty() {
-            list.truncate(list.len() - bytes);
+            // A list that is shorter than that makes no row as it is.
+            list.truncate(list.len().checked_sub(bytes).unwrap_or(list.len()));
         } else {
             list.extend(random.bytes(bytes));
         }

@@ -216,6 +216,27 @@ named! {
 }
 
 impl Answer {
+    /// The checks of a record in the order in which they are made; the first that applies is the answer.
+    pub const CHECKS: [Answer; 17] = [
+        Answer::NOT_SOUND,
+        Answer::BAD_LENGTH,
+        Answer::NO_VERB,
+        Answer::ZERO_BIT_SET,
+        Answer::MISMATCH,
+        Answer::UNKNOWN_RESOURCE,
+        Answer::NO_CREDENTIAL,
+        Answer::NO_ENDPOINT,
+        Answer::NOT_PERMITTED,
+        Answer::NOT_OFFERED,
+        Answer::MALFORMED,
+        Answer::WRONG_STATE,
+        Answer::BAD_TARGET,
+        Answer::MISSING,
+        Answer::FULL,
+        Answer::ROLES_FULL,
+        Answer::NO_ROOM,
+    ];
+
     /// Whether it is 0.
     pub fn is_permitted(self) -> bool {
         self == Answer::PERMITTED

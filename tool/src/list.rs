@@ -1,0 +1,212 @@
+//! `list`: lists of access rows tested, made of an older terminal's list, and
+//! written as the office's JSON.
+
+use std::path::Path;
+
+use serde_json::{json, Value};
+use tillerclover::{doxm_body, pstat_body, record, Ace, Answer, Cred, OldRow, Period, Resource, State, Tested};
+use tillerclover::{Permission, Terminal, Uuid, Verb, ANYONE};
+
+use crate::fault::Fault;
+use crate::report::{columns, many, Report, Status};
+use crate::soundness::{ace_faults, unknown};
+use crate::store::{self, Form, Old, Stored};
+use crate::words;
+
+/// The whole rows of a list.
+fn rows(list: &[u8]) -> Vec<Ace> {
+    list.chunks_exact(Ace::LENGTH).filter_map(Ace::from_body).collect()
+}
+
+/// What the library says of a list before it is loaded.
+pub fn check(path: &Path, list: &[u8]) -> Report {
+    let tested = Terminal::test_list(list);
+    let Tested { answer, row } = tested;
+    let reason = (!answer.is_permitted()).then(|| refusal(list, tested));
+    let place = match row {
+        0 => String::new(),
+        _ => format!(" row {row}, at byte {}:", (row - 1) * Ace::LENGTH),
+    };
+    let mut text = match &reason {
+        None => format!("{}: accepted, {}\n", path.display(), many(rows(list).len(), "row")),
+        Some(reason) => format!("{}: not accepted, {}:{place} {reason}\n", path.display(), answer.number()),
+    };
+    if !rows(list).is_empty() {
+        let lines: Vec<String> = rows(list).iter().map(words::ace_columns).collect();
+        text += &format!("\n{}", columns(&[vec![words::ACE_HEAD.to_string()], lines].concat()));
+    }
+    let json = json!({
+        "file": path.display().to_string(),
+        "answer": { "number": answer.number(), "words": answer.to_string() },
+        "row": row,
+        "reason": reason,
+        "rows": rows(list).iter().map(words::ace_json).collect::<Vec<_>>(),
+    });
+    Report { text, json, status: Status::of(answer.is_permitted()) }
+}
+
+/// Why a list is not accepted.
+fn refusal(list: &[u8], tested: Tested) -> String {
+    let Tested { answer, row } = tested;
+    let whole = list.len() / Ace::LENGTH;
+    if answer == Answer::TEST_BAD_SIZE {
+        return match list.len() % Ace::LENGTH {
+            0 => format!("{}, and a terminal holds {}", many(whole, "row"), Ace::CAPACITY),
+            rest => format!(
+                "it ends at byte {}, {rest} bytes into row {}; a row has {}",
+                list.len(),
+                whole + 1,
+                Ace::LENGTH
+            ),
+        };
+    }
+    let bad = rows(list)[row - 1];
+    let faults = ace_faults(&bad);
+    match answer {
+        Answer::TEST_EXCESSIVE => excess(&bad),
+        _ if faults.is_empty() => match rows(list)[..row - 1].iter().position(|other| other.number == bad.number) {
+            Some(other) => format!("repeats number {} of row {}", bad.number, other + 1),
+            None => answer.to_string(),
+        },
+        _ => faults.join("; "),
+    }
+}
+
+fn excess(row: &Ace) -> String {
+    let resources: Vec<String> = row.security().map(|resource| resource.to_string()).collect();
+    let too_much = Permission::CREATE | Permission::UPDATE | Permission::DELETE;
+    let given = Permission(row.permission.number() & too_much.number());
+    format!("gives {} {given} on {}; only a UUID may have that", words::subject(row.subject), resources.join(", "))
+}
+
+/// Makes a new list of an older terminal's. A bad list leaves no file behind.
+pub fn convert(old: &Path, new: &Path, force: bool) -> Result<Report, Fault> {
+    let file = store::read(old)?;
+    let made = match Terminal::convert_list(&file) {
+        Ok(made) => made,
+        Err(answer) => return Ok(not_converted(old, &file, answer)),
+    };
+    store::write(new, &made, if force { Old::Replace } else { Old::Keep })?;
+    let tested = Terminal::test_list(&made);
+    let from = many(file.len() / OldRow::LENGTH, "row");
+    let mut text = format!("{}: {} made of {from}\n", new.display(), many(rows(&made).len(), "row"));
+    let warning = (!tested.answer.is_permitted()).then(|| {
+        format!(
+            "'list check' does not accept it, {}: row {} {}",
+            tested.answer.number(),
+            tested.row,
+            refusal(&made, tested)
+        )
+    });
+    if let Some(warning) = &warning {
+        text += &format!("warning: {warning}\n");
+    }
+    let json = json!({
+        "file": new.display().to_string(),
+        "answer": { "number": 0, "words": Answer::PERMITTED.to_string() },
+        "rows": rows(&made).iter().map(words::ace_json).collect::<Vec<_>>(),
+        "warning": warning,
+    });
+    Ok(Report { text, json, status: Status::Yes })
+}
+
+fn not_converted(old: &Path, file: &[u8], answer: Answer) -> Report {
+    let reason = match answer {
+        Answer::CONVERT_BAD_FILE => bad_file(file),
+        _ => format!("it becomes more than the {} rows that a terminal holds", Ace::CAPACITY),
+    };
+    Report {
+        text: format!("{}: not converted, {}: {reason}; no file was written\n", old.display(), answer.number()),
+        json: json!({
+            "file": old.display().to_string(),
+            "answer": { "number": answer.number(), "words": answer.to_string() },
+            "reason": reason,
+        }),
+        status: Status::No,
+    }
+}
+
+/// The first old row that the library does not convert alone, or else the length.
+fn bad_file(file: &[u8]) -> String {
+    let whole = file.len() / OldRow::LENGTH;
+    let bad = |row: &&[u8]| Terminal::convert_list(row).is_err();
+    let Some(place) = file.chunks_exact(OldRow::LENGTH).position(|row| bad(&row)) else {
+        let rest = file.len() % OldRow::LENGTH;
+        return format!(
+            "it ends at byte {}, {rest} bytes into row {}; a row has {}",
+            file.len(),
+            whole + 1,
+            OldRow::LENGTH
+        );
+    };
+    let at = place * OldRow::LENGTH;
+    let row = OldRow::from_bytes(file[at..at + OldRow::LENGTH].try_into().expect("a row"));
+    let what = match row.zeros {
+        0 => format!("its set names unknown resources: {}", unknown(row.resources.resources())),
+        _ => "a zero bit is set".into(),
+    };
+    format!("row {}, at byte {at}: {what}", place + 1)
+}
+
+/// The office text of a file of tables, or of a list that a terminal would load.
+pub fn text(path: &Path) -> Result<Report, Fault> {
+    let bytes = store::read(path)?;
+    let tables = Form::ALL.iter().any(|form| form.length() == bytes.len());
+    let terminal = if tables {
+        Stored::read_whole(path, Default::default())?.terminal
+    } else {
+        match load(&bytes) {
+            Ok(terminal) => terminal,
+            Err(_) => return Ok(check(path, &bytes)),
+        }
+    };
+    let aces = terminal.tables.aces();
+    let left_out: Vec<u16> = aces.iter().filter(|row| row.period != Period::ALWAYS).map(|row| row.number).collect();
+    let text = match terminal.access_list() {
+        Ok(text) => text,
+        Err(answer) => return Ok(no_text(path, answer)),
+    };
+    if !left_out.is_empty() {
+        let numbers: Vec<String> = left_out.iter().map(u16::to_string).collect();
+        eprintln!("tillerclover: {}: rows with a season are left out: {}", path.display(), numbers.join(", "));
+    }
+    let list: Value = serde_json::from_str(&text).unwrap_or(Value::Null);
+    let json = json!({ "file": path.display().to_string(), "list": list, "left_out": left_out });
+    Ok(Report { text: text + "\n", json, status: Status::Yes })
+}
+
+fn no_text(path: &Path, answer: Answer) -> Report {
+    Report {
+        text: format!("{}: {}, {answer}; 'show' says why\n", path.display(), answer.number()),
+        json: json!({
+            "file": path.display().to_string(),
+            "answer": { "number": answer.number(), "words": answer.to_string() },
+        }),
+        status: Status::No,
+    }
+}
+
+/// A terminal that has loaded the list, as its owner would; or the first refusal.
+pub fn load(list: &[u8]) -> Result<Terminal, Answer> {
+    let Tested { answer, .. } = Terminal::test_list(list);
+    if !answer.is_permitted() {
+        return Err(answer);
+    }
+    const OWNER: u16 = 1;
+    let owner = Uuid([1; 16]);
+    let row = Cred { number: OWNER, subject: owner, ..Cred::default() };
+    let mut records = vec![
+        record(Verb::UPDATE, Resource::CRED, ANYONE, &row.body()),
+        record(Verb::UPDATE, Resource::DOXM, ANYONE, &doxm_body(owner)),
+        record(Verb::UPDATE, Resource::PSTAT, OWNER, &pstat_body(State::RFPRO)),
+    ];
+    records.extend(rows(list).iter().map(|row| record(Verb::UPDATE, Resource::ACL2, OWNER, &row.body())));
+    let mut terminal = Terminal::new();
+    for record in records {
+        let answer = terminal.judge(0, &record).answer;
+        if !answer.is_permitted() {
+            return Err(answer);
+        }
+    }
+    Ok(terminal)
+}

@@ -1,0 +1,182 @@
+//! What a sender may do with a resource, and where each part of it comes from. All
+//! of it is asked of the library, on tables with one source of permission alone.
+
+use tillerclover::interface::{self, REPLY_MAX};
+use tillerclover::{Ace, Answer, Defaults, Header, Outcome, Period, Permission, Resource, Set, State, Subject, Tables};
+use tillerclover::{Uuid, Verb, Waiting, Wildcards};
+
+/// What was needed, and what there is.
+#[derive(Clone, Debug, PartialEq, Eq)]
+pub struct Rights {
+    /// What the verb needs.
+    pub needed: Permission,
+    /// What the sender has without access rows.
+    pub sources: Vec<Source>,
+    /// What each access row does for it.
+    pub rows: Vec<Fit>,
+}
+
+/// A source of permission that is no access row.
+#[derive(Clone, Debug, PartialEq, Eq)]
+pub struct Source {
+    /// Why the sender has it.
+    pub why: String,
+    /// What the library permits with it alone.
+    pub share: Permission,
+}
+
+/// An access row beside a record.
+#[derive(Clone, Debug, PartialEq, Eq)]
+pub struct Fit {
+    /// The row.
+    pub row: Ace,
+    /// Whether it would fit if it were for this resource at every second.
+    pub subject: bool,
+    /// Whether it would fit if it were for this connection at every second.
+    pub resource: bool,
+    /// Whether it would fit if it were for this connection and resource.
+    pub season: bool,
+    /// Whether it fits.
+    pub fits: bool,
+    /// What the library permits with this row alone.
+    pub share: Permission,
+}
+
+impl Rights {
+    /// The union of all shares.
+    pub fn there(&self) -> Permission {
+        let sources = self.sources.iter().map(|source| source.share);
+        sources.chain(self.rows.iter().map(|row| row.share)).fold(Permission::NONE, |union, share| union | share)
+    }
+}
+
+/// The rights behind a record that the checks 1 to 7 and 16 let pass, on sound tables.
+pub fn rights(tables: &Tables, clock: u32, header: Header) -> Rights {
+    let probe = Probe::new(tables, clock, header);
+    Rights {
+        needed: probe.needed(),
+        sources: probe.sources(tables),
+        rows: tables.aces().iter().map(|row| probe.fit(*row)).collect(),
+    }
+}
+
+/// A sender, a resource and a clock, and tables in which the sender has nothing but its connection.
+pub struct Probe {
+    bare: Tables,
+    clock: u32,
+    header: Header,
+}
+
+impl Probe {
+    /// For a record on these tables.
+    pub fn new(tables: &Tables, clock: u32, header: Header) -> Probe {
+        let mut bare = Tables { state: State::RFNOP.number(), rowners: [0; 64], ..*tables };
+        bare.set_aces(&[]);
+        bare.set_owner(stranger(tables));
+        Probe { bare, clock, header }
+    }
+
+    /// What the library says to a record without a body of this sender.
+    fn ask(&self, tables: &Tables, verb: Verb, resource: Resource) -> Outcome {
+        let record = Header { verb, resource, ..self.header }.to_bytes();
+        let (mut waiting, mut reply) = (Waiting::FRESH, [0; REPLY_MAX]);
+        interface::judge(tables, &mut waiting, Defaults::default(), self.clock, &record, &mut reply)
+    }
+
+    /// The bare tables with access rows.
+    fn with(&self, rows: &[Ace]) -> Tables {
+        let mut tables = self.bare;
+        tables.set_aces(rows);
+        tables
+    }
+
+    /// A row for this connection and a resource, at every second.
+    fn row(&self, number: u16, resource: Resource, permission: Permission) -> Ace {
+        let subject = Subject::Connection(self.header.connection);
+        Ace { number, subject, permission, resources: Set::of(&[resource]), ..Ace::default() }
+    }
+
+    /// The effective permission on tables with one access row at the most. The library tells it with a permit alone, so
+    /// a second row lets the sender read, and is then taken off again.
+    fn effective(&self, tables: &Tables) -> Permission {
+        let resource = self.header.resource;
+        let mut rows = tables.aces();
+        let number = if rows.iter().any(|row| row.number == 1) { 2 } else { 1 };
+        rows.push(self.row(number, resource, Permission::RETRIEVE));
+        let mut helped = *tables;
+        helped.set_aces(&rows);
+        let told = self.ask(&helped, Verb::RETRIEVE, resource);
+        let reads = self.ask(tables, Verb::RETRIEVE, resource).answer != Answer::NOT_PERMITTED;
+        if reads {
+            told.permission
+        } else {
+            told.permission.without(Permission::RETRIEVE)
+        }
+    }
+
+    /// The bit without which the verb is not permitted.
+    fn needed(&self) -> Permission {
+        // Nobody has anything on doxm without a row here.
+        let asked = |bit: Permission| {
+            let tables = self.with(&[self.row(1, Resource::DOXM, bit)]);
+            self.ask(&tables, self.header.verb, Resource::DOXM).answer != Answer::NOT_PERMITTED
+        };
+        Permission::ALL.bits().filter(|&bit| asked(bit)).fold(Permission::NONE, |union, bit| union | bit)
+    }
+
+    /// The verbs that the resource offers, to one who may do everything.
+    pub fn offered(&self) -> Vec<Verb> {
+        let resource = self.header.resource;
+        let tables = self.with(&[self.row(1, resource, Permission::ALL)]);
+        let offers = |verb: &Verb| self.ask(&tables, *verb, resource).answer != Answer::NOT_OFFERED;
+        Verb::ALL.iter().copied().filter(offers).collect()
+    }
+
+    fn sources(&self, tables: &Tables) -> Vec<Source> {
+        let Header { connection, resource, .. } = self.header;
+        let alone = self.effective(&self.bare);
+        let mut sources = Vec::new();
+        let mut add = |share: Permission, beyond: Permission, why: String| {
+            if !share.without(beyond).is_empty() {
+                sources.push(Source { why, share });
+            }
+        };
+        add(alone, Permission::NONE, format!("everybody has this on {resource} over {connection}"));
+        if tables.owned == 0 {
+            let mut unowned = Tables { state: State::RFOTM.number(), ..self.bare };
+            unowned.set_owner(Uuid::NIL);
+            add(self.effective(&unowned), alone, "nobody owns the terminal, so everybody may set it up".into());
+        } else {
+            let mut owned = self.bare;
+            owned.set_owner(tables.owner());
+            add(self.effective(&owned), alone, "the sender is the device owner".into());
+        }
+        let row_owned = Tables { rowners: tables.rowners, ..self.bare };
+        add(self.effective(&row_owned), alone, format!("the sender is the row owner of {resource}"));
+        sources
+    }
+
+    fn fit(&self, row: Ace) -> Fit {
+        let full = Ace { permission: Permission::ALL, ..row };
+        let anybody = Subject::Connection(self.header.connection);
+        let here = Set::of(&[self.header.resource]);
+        let fits = |row: Ace| self.effective(&self.with(&[row])) == Permission::ALL;
+        let fitting = fits(full);
+        let told = self.effective(&self.with(&[row]));
+        Fit {
+            row,
+            subject: fits(Ace { resources: here, wildcards: Wildcards::NONE, period: Period::ALWAYS, ..full }),
+            resource: fits(Ace { subject: anybody, period: Period::ALWAYS, ..full }),
+            season: fits(Ace { subject: anybody, resources: here, wildcards: Wildcards::NONE, ..full }),
+            fits: fitting,
+            // What everybody has is no share of the row.
+            share: if fitting { Permission(told.number() & row.permission.number()) } else { Permission::NONE },
+        }
+    }
+}
+
+/// A UUID that no credential row has.
+fn stranger(tables: &Tables) -> Uuid {
+    let known: Vec<Uuid> = tables.creds().iter().map(|row| row.subject).collect();
+    (1..=u8::MAX).map(|byte| Uuid([byte; 16])).find(|uuid| !known.contains(uuid)).unwrap_or_default()
+}

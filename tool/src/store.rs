@@ -1,0 +1,209 @@
+//! Files of tables and lists: read whole, and written whole through a temporary
+//! file, so that a power cut leaves the old file or the new one.
+
+use std::fs::{self, File, OpenOptions, Permissions};
+use std::io::{self, Write};
+use std::os::unix::fs::PermissionsExt;
+use std::path::{Path, PathBuf};
+
+use tillerclover::{Given, Tables, Terminal, Waiting};
+
+use crate::fault::{plain, Fault};
+
+/// What a file of tables holds, told by its length.
+#[derive(Clone, Copy, Debug, PartialEq, Eq)]
+pub enum Form {
+    /// The tables alone: 2,172 bytes.
+    Tables,
+    /// The tables and what waits: 8,676 bytes.
+    Memory,
+    /// The same as the example terminal keeps it, with its mark before and a checksum behind: 8,688 bytes.
+    Terminal,
+}
+
+const MARK: &[u8; 8] = b"tiller01";
+const BOTH: usize = Tables::SIZE + Waiting::SIZE;
+
+impl Form {
+    /// All forms.
+    pub const ALL: [Form; 3] = [Form::Tables, Form::Memory, Form::Terminal];
+
+    /// How it is called on the command line.
+    pub fn name(self) -> &'static str {
+        match self {
+            Form::Tables => "tables",
+            Form::Memory => "memory",
+            Form::Terminal => "terminal",
+        }
+    }
+
+    /// How many bytes such a file has.
+    pub fn length(self) -> usize {
+        match self {
+            Form::Tables => Tables::SIZE,
+            Form::Memory => BOTH,
+            Form::Terminal => MARK.len() + BOTH + 4,
+        }
+    }
+
+    /// Where the tables begin in it.
+    pub fn start(self) -> usize {
+        if self == Form::Terminal {
+            MARK.len()
+        } else {
+            0
+        }
+    }
+}
+
+/// A file of tables, read.
+#[derive(Clone, Debug, PartialEq, Eq)]
+pub struct Stored {
+    /// Its form.
+    pub form: Form,
+    /// What is in it.
+    pub terminal: Terminal,
+    /// What is wrong with mark or checksum.
+    pub damage: Option<String>,
+}
+
+impl Stored {
+    /// Reads a file of tables, damaged or not.
+    pub fn read(path: &Path, defaults: Given) -> Result<Stored, Fault> {
+        Stored::of(&read(path)?, defaults).map_err(|fault| Fault::of(path, fault))
+    }
+
+    /// Reads one that is to be judged on: a damaged file is none.
+    pub fn read_whole(path: &Path, defaults: Given) -> Result<Stored, Fault> {
+        let stored = Stored::read(path, defaults)?;
+        match &stored.damage {
+            Some(damage) => Err(Fault::of(path, damage)),
+            None => Ok(stored),
+        }
+    }
+
+    fn of(bytes: &[u8], defaults: Given) -> Result<Stored, String> {
+        let form = Form::ALL.into_iter().find(|form| form.length() == bytes.len()).ok_or_else(|| {
+            let [tables, memory, terminal] = Form::ALL.map(Form::length);
+            format!(
+                "ends at byte {}; a file of tables has {tables} bytes, {memory} with what waits, or {terminal} with mark \
+                 and checksum",
+                bytes.len()
+            )
+        })?;
+        let (tables, rest) = bytes[form.start()..].split_at(Tables::SIZE);
+        let mut waiting = Waiting::FRESH;
+        if form != Form::Tables {
+            waiting.bytes.copy_from_slice(&rest[..Waiting::SIZE]);
+        }
+        let tables = Tables::from_bytes(tables.try_into().expect("the tables' length"));
+        Ok(Stored { form, terminal: Terminal { tables, waiting, defaults }, damage: damage(form, bytes) })
+    }
+
+    /// The file's bytes.
+    pub fn bytes(&self) -> Vec<u8> {
+        let tables = self.terminal.tables.to_bytes();
+        let both = || [&tables[..], &self.terminal.waiting.bytes].concat();
+        match self.form {
+            Form::Tables => tables.to_vec(),
+            Form::Memory => both(),
+            Form::Terminal => {
+                let mut bytes = [&MARK[..], &both()].concat();
+                bytes.extend(crc32fast::hash(&bytes).to_le_bytes());
+                bytes
+            }
+        }
+    }
+}
+
+fn damage(form: Form, bytes: &[u8]) -> Option<String> {
+    if form != Form::Terminal {
+        return None;
+    }
+    let (before, sum) = bytes.split_at(bytes.len() - 4);
+    if !before.starts_with(MARK) {
+        let place = MARK.iter().zip(before).position(|(one, other)| one != other).unwrap_or_default();
+        return Some(format!("damaged: the mark 'tiller01' is wrong at byte {place}"));
+    }
+    let fits = crc32fast::hash(before).to_le_bytes() == *sum;
+    (!fits).then(|| format!("damaged: the checksum at byte {} does not fit the bytes before it", before.len()))
+}
+
+/// A whole file.
+pub fn read(path: &Path) -> Result<Vec<u8>, Fault> {
+    fs::read(path).map_err(|fault| Fault::unreadable(path, &fault))
+}
+
+/// Whether a file that is there may go.
+#[derive(Clone, Copy, Debug, PartialEq, Eq)]
+pub enum Old {
+    /// It is replaced.
+    Replace,
+    /// It stays, and nothing is written.
+    Keep,
+}
+
+/// Writes a file whole: a temporary file beside it, synced, renamed, and the folder synced.
+pub fn write(path: &Path, bytes: &[u8], old: Old) -> Result<(), Fault> {
+    let there = fs::symlink_metadata(path).is_ok();
+    if old == Old::Keep && there {
+        return Err(Fault::of(path, "is there already, and stays as it is; --force replaces it"));
+    }
+    let unwritten = |fault: io::Error| {
+        let left = if there { "; it is as it was" } else { "; no file is left behind" };
+        Fault::of(path, format!("cannot be written: {}{left}", plain(&fault)))
+    };
+    replace(path, bytes, old).map_err(unwritten)
+}
+
+fn replace(path: &Path, bytes: &[u8], old: Old) -> io::Result<()> {
+    // Behind a link the file itself is replaced.
+    let path = fs::canonicalize(path).unwrap_or_else(|_| path.to_path_buf());
+    let folder = match path.parent() {
+        Some(folder) if folder != Path::new("") => folder.to_path_buf(),
+        _ => PathBuf::from("."),
+    };
+    let mut mode = Permissions::from_mode(0o600);
+    if let Ok(data) = fs::metadata(&path) {
+        if data.is_dir() {
+            return Err(io::Error::new(io::ErrorKind::Other, "it is a directory"));
+        }
+        // A file that may not be written is not replaced either.
+        OpenOptions::new().write(true).open(&path)?;
+        mode = data.permissions();
+    }
+    let mut file = tempfile::Builder::new().prefix(".tillerclover-").tempfile_in(&folder)?;
+    file.write_all(bytes)?;
+    file.as_file().set_permissions(mode)?;
+    file.as_file().sync_all()?;
+    match old {
+        Old::Replace => file.persist(&path).map_err(|fault| fault.error)?,
+        Old::Keep => file.persist_noclobber(&path).map_err(|fault| fault.error)?,
+    };
+    File::open(folder)?.sync_all()
+}
+
+#[cfg(test)]
+mod tests {
+    use super::*;
+
+    #[test]
+    fn every_form_comes_back() {
+        for form in Form::ALL {
+            let stored = Stored { form, terminal: Terminal::new(), damage: None };
+            let bytes = stored.bytes();
+            assert_eq!(bytes.len(), form.length());
+            assert_eq!(Stored::of(&bytes, Given::default()), Ok(stored));
+        }
+    }
+
+    #[test]
+    fn damage_is_found() {
+        let bytes = Stored { form: Form::Terminal, terminal: Terminal::new(), damage: None }.bytes();
+        for place in [0, 7, 8, 20, 8683, 8684, 8687] {
+            let mut turned = bytes.clone();
+            turned[place] ^= 4;
+            assert!(Stored::of(&turned, Given::default()).unwrap().damage.is_some(), "byte {place}");
+        }
+    }
+}
