@@ -2,13 +2,13 @@
 # Tests of what no proof covers: the library against the second model, the C interface, the programs on bad input.
 #
 #     tests/run.sh              all tests
-#     tests/run.sh NAME..       some: model, binding, compare, runs, example, interface, documents, vectors, inputs, terminal
+#     tests/run.sh NAME..       some: model, crates, binding, tool, compare, runs, example, interface, documents, vectors, inputs, terminal
 #
 # The last line counts the tests that passed and failed; a failure makes the script exit with 1.
 set -uo pipefail
 cd "$(dirname "$0")/.." || exit 2
 
-ALL=(model binding compare runs example interface documents vectors inputs terminal)
+ALL=(model crates binding tool compare runs example interface documents vectors inputs terminal)
 work=$(mktemp -d) || exit 2
 trap 'rm -rf "$work"' EXIT
 
@@ -17,19 +17,36 @@ trap 'rm -rf "$work"' EXIT
 # have WHAT: a command, or a file
 have() { command -v "$1" >/dev/null || [ -e "$1" ]; }
 
+# get PACKAGE..: installs them
+get() {
+    echo "missing: installing $*"
+    { apt-get update && apt-get install -y --no-install-recommends "$@"; } >"$work/apt" 2>&1 && return
+    tail -n 5 "$work/apt"
+    echo "apt-get could not install $*"
+    return 1
+}
+
 # need WHAT PACKAGE: installs the package where the command or the file is missing
 need() {
     have "$1" && return
-    echo "$1 is missing: installing $2"
-    { apt-get update && apt-get install -y --no-install-recommends "$2"; } >"$work/apt" 2>&1 && have "$1" && return
-    tail -n 5 "$work/apt"
-    echo "$1 is not installed, and apt-get could not install $2"
+    get "$2" && have "$1" && return
+    echo "$1 is missing"
     return 1
 }
 
 need_cargo() {
     PATH=$PATH:$HOME/.cargo/bin
     need cargo cargo && need cc gcc
+}
+
+# The crates that the tool stands on, from Debian's packages.
+CRATES=(chrono clap crc32fast indicatif serde_json tabwriter tempfile)
+need_crates() {
+    local crate packages=()
+    for crate in "${CRATES[@]}"; do
+        compgen -G "/usr/share/cargo/registry/$crate-[0-9]*" >/dev/null || packages+=("librust-${crate//_/-}-dev")
+    done
+    need_cargo && { [ "${#packages[@]}" -eq 0 ] || get "${packages[@]}"; }
 }
 
 # log COMMAND..: runs it, and shows what it wrote only where it fails
@@ -51,6 +68,9 @@ run_program() { log rt check run; }
 in_model() { (cd model && "$@"); }
 in_binding() { (cd bindings/rust && "$@"); }
 
+# tool_cargo COMMAND..: cargo on the tool with Debian's crates; a lock file of other crates is none for these
+tool_cargo() { (cd tool && rm -f Cargo.lock && cargo --config ../tests/debian.toml "$@" --quiet --offline); }
+
 # ---- the tests
 
 # The model's own tests, and its programs are built.
@@ -61,6 +81,16 @@ test_model() {
 # The Rust binding: its own tests, and the examples of its documentation.
 test_binding() {
     need_cargo && library && log in_binding cargo test --quiet --locked && log in_binding cargo build --quiet --locked --features measure
+}
+
+# The crates that the tool stands on are there, and are built; this needs no library.
+test_crates() {
+    need_crates && log tool_cargo build "${CRATES[@]/#/--package=}"
+}
+
+# The command tillerclover: its own tests, what it says beside what the library decides, and as people use it.
+test_tool() {
+    need_crates && library && log tool_cargo test && log tool_cargo build && log tests/tool.sh tool/target/debug/tillerclover
 }
 
 # The library and the model give the same for 300,000 records.
