@@ -2,16 +2,17 @@
 # Tests of the command tillerclover as people use it: README's lines, each subcommand, bad input, a full disk, kills.
 #
 #     tests/tool.sh PROGRAM             all parts
-#     tests/tool.sh PROGRAM PART..      some: readme, tables, records, lists, runs, bad, disk, kills
+#     tests/tool.sh PROGRAM PART..      some: readme, tables, store, records, lists, runs, bad, disk, kills
 #
 # Exit status 1: a part failed.
+# shellcheck disable=SC2015
 set -uo pipefail
 cd "$(dirname "$0")/.." || exit 2
 root=$PWD
 program=$(realpath "$1") || exit 2
 shift
 
-ALL=(readme tables records lists runs bad disk kills)
+ALL=(readme tables store records lists runs bad disk kills)
 work=$(mktemp -d) || exit 2
 small=$work/small
 trap 'umount "$small" 2>/dev/null; rm -rf "$work"' EXIT
@@ -38,6 +39,7 @@ gives() {
 }
 
 # bytes HEX: writes them
+# shellcheck disable=SC2059
 bytes() { printf "$(sed 's/ //g; s/../\\x&/g' <<<"$1")"; }
 
 owner=11111111-1111-1111-1111-111111111111
@@ -98,6 +100,30 @@ part_tables() {
     gives 0 "new terminal" new --force --default-creds creds c
     gives 0 "Credentials, 1 of 24" show c
     gives 2 "creds: no list of default rows" new --force --default-aces creds c
+}
+
+# The example terminal's own code reads the file, and writes one that the command reads.
+part_store() {
+    cat >main.c <<'END'
+#include <string.h>
+#include "store.h"
+int main(int count, char **files)
+{
+    struct state state;
+    memset(&state, 0, sizeof state);
+    if (count != 3 || store_read(files[1], &state) != FOUND_WHOLE) {
+        return 1;
+    }
+    store_write(files[2], &state);
+    return 0;
+}
+END
+    local code=$root/examples/terminal
+    cc -std=gnu11 -I"$code" -I"$root/include" main.c "$code/store.c" "$code/fail.c" -o again || return
+    yard a
+    ./again a b || fault "the terminal does not read the file"
+    cmp -s a b || fault "the terminal writes another file"
+    gives 0 "b: sound" show b
 }
 
 part_records() {

@@ -44,18 +44,19 @@ pub fn command() -> Command {
                 .about("Show tables: state, owners, rows, what waits, and why they are not sound")
                 .arg(file()),
         )
-        .subcommand(
+        .subcommand(defaults(
             judged(Command::new("judge").about("Judge records one after the other and write the tables back"))
                 .arg(flag("dry-run", "Write nothing")),
-        )
-        .subcommand(judged(Command::new("why").about("Explain what a record gets, and change nothing")))
+        ))
+        .subcommand(defaults(judged(Command::new("why").about("Explain what a record gets, and change nothing"))))
         .subcommand(list())
         .subcommand(run())
 }
 
 fn new() -> Command {
     let forms = Form::ALL.map(Form::name);
-    defaults(Command::new("new").about("Write the tables of a new terminal"))
+    let new = Command::new("new")
+        .about("Write the tables of a new terminal")
         .arg(file())
         .arg(
             Arg::new("form")
@@ -67,7 +68,8 @@ fn new() -> Command {
                 "The tables alone (2,172 bytes), with what waits (8,676), or with mark and checksum as well (8,688)",
             ),
         )
-        .arg(flag("force", "Replace a file that is there"))
+        .arg(flag("force", "Replace a file that is there"));
+    defaults(new)
 }
 
 fn list() -> Command {
@@ -104,7 +106,7 @@ fn run() -> Command {
 
 /// A subcommand that judges records on tables.
 fn judged(command: Command) -> Command {
-    defaults(command)
+    command
         .arg(file())
         .arg(Arg::new("RECORD").required(true).num_args(1..).help("Records in words or hexadecimal digits"))
         .arg(

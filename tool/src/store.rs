@@ -1,11 +1,12 @@
 //! Files of tables and lists: read whole, and written whole through a temporary
 //! file, so that a power cut leaves the old file or the new one.
 
-use std::fs::{self, File, OpenOptions, Permissions};
+use std::fs::{self, File, Metadata, OpenOptions};
 use std::io::{self, Write};
-use std::os::unix::fs::PermissionsExt;
-use std::path::{Path, PathBuf};
+use std::os::unix::fs::{fchown, MetadataExt};
+use std::path::Path;
 
+use tempfile::NamedTempFile;
 use tillerclover::{Given, Tables, Terminal, Waiting};
 
 use crate::fault::{plain, Fault};
@@ -153,34 +154,42 @@ pub fn write(path: &Path, bytes: &[u8], old: Old) -> Result<(), Fault> {
         let left = if there { "; it is as it was" } else { "; no file is left behind" };
         Fault::of(path, format!("cannot be written: {}{left}", plain(&fault)))
     };
-    replace(path, bytes, old).map_err(unwritten)
+    // Behind a link the file itself is replaced.
+    let target = fs::canonicalize(path).unwrap_or_else(|_| path.to_path_buf());
+    let folder = match target.parent() {
+        Some(folder) if folder != Path::new("") => folder,
+        _ => Path::new("."),
+    };
+    let file = beside(&target, folder, bytes).map_err(unwritten)?;
+    match old {
+        Old::Replace => file.persist(&target),
+        Old::Keep => file.persist_noclobber(&target),
+    }
+    .map_err(|fault| unwritten(fault.error))?;
+    File::open(folder)
+        .and_then(|folder| folder.sync_all())
+        .map_err(|fault| Fault::of(path, format!("is written, but a power cut may take it back: {}", plain(&fault))))
 }
 
-fn replace(path: &Path, bytes: &[u8], old: Old) -> io::Result<()> {
-    // Behind a link the file itself is replaced.
-    let path = fs::canonicalize(path).unwrap_or_else(|_| path.to_path_buf());
-    let folder = match path.parent() {
-        Some(folder) if folder != Path::new("") => folder.to_path_buf(),
-        _ => PathBuf::from("."),
-    };
-    let mut mode = Permissions::from_mode(0o600);
-    if let Ok(data) = fs::metadata(&path) {
-        if data.is_dir() {
-            return Err(io::Error::new(io::ErrorKind::Other, "it is a directory"));
-        }
-        // A file that may not be written is not replaced either.
-        OpenOptions::new().write(true).open(&path)?;
-        mode = data.permissions();
+/// A temporary file with these bytes, synced, with the mode and the owner of the file that it is to replace.
+fn beside(target: &Path, folder: &Path, bytes: &[u8]) -> io::Result<NamedTempFile> {
+    let old = fs::metadata(target).ok();
+    if old.as_ref().is_some_and(Metadata::is_dir) {
+        return Err(io::Error::other("it is a directory"));
     }
-    let mut file = tempfile::Builder::new().prefix(".tillerclover-").tempfile_in(&folder)?;
+    if old.is_some() {
+        // A file that may not be written is not replaced either.
+        OpenOptions::new().write(true).open(target)?;
+    }
+    let mut file = tempfile::Builder::new().prefix(".tillerclover-").tempfile_in(folder)?;
     file.write_all(bytes)?;
-    file.as_file().set_permissions(mode)?;
+    if let Some(old) = old {
+        // Nobody but root can give a file away.
+        let _ = fchown(file.as_file(), Some(old.uid()), Some(old.gid()));
+        file.as_file().set_permissions(old.permissions())?;
+    }
     file.as_file().sync_all()?;
-    match old {
-        Old::Replace => file.persist(&path).map_err(|fault| fault.error)?,
-        Old::Keep => file.persist_noclobber(&path).map_err(|fault| fault.error)?,
-    };
-    File::open(folder)?.sync_all()
+    Ok(file)
 }
 
 #[cfg(test)]

@@ -90,7 +90,7 @@ fn body(verb: Verb, resource: Resource, words: &[&str]) -> Result<Vec<u8>, Strin
         return hex::read(&[&[digits], &words[1..]].concat().concat());
     }
     if first.starts_with("text:") {
-        return Ok(words.join(" ")["text:".len()..].as_bytes().to_vec());
+        return Ok(words.join(" ").as_bytes()["text:".len()..].to_vec());
     }
     let mut fields = Fields::read(words)?;
     let body = fields.body(verb, resource)?;

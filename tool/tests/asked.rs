@@ -32,7 +32,7 @@ fn visit(records: u64, one_in: u64, mut visit: impl FnMut(&Case)) {
     let mut count = 0u64;
     walk_groups(1, u64::MAX, &mut |_, case| {
         count += 1;
-        if count % one_in == 0 {
+        if count.is_multiple_of(one_in) {
             visit(case);
         }
         (case.tables, case.waiting.clone())
