@@ -201,22 +201,51 @@ pub fn judge(
     record: &[u8],
     reply: &mut [u8],
 ) -> Outcome {
+    // The library's own function.
+    unsafe { judge_by(tillerclover_judge, tables, waiting, defaults, clock, record, reply) }
+}
+
+/// How the library and the benchmark's yardstick judge a record: tables, waiting records, the two default lists, clock,
+/// record and buffer, each pointer with its length.
+pub(crate) type Judging = unsafe extern "C" fn(
+    Tables,
+    *mut Waiting,
+    *const u8,
+    usize,
+    *const u8,
+    usize,
+    u32,
+    *const u8,
+    usize,
+    *mut u8,
+    usize,
+) -> Outcome;
+
+/// A call of such a function, which must keep to what is said above of the library.
+#[inline(always)]
+pub(crate) unsafe fn judge_by(
+    judging: Judging,
+    tables: &Tables,
+    waiting: &mut Waiting,
+    defaults: Defaults,
+    clock: u32,
+    record: &[u8],
+    reply: &mut [u8],
+) -> Outcome {
     let Defaults { creds, aces } = defaults;
-    unsafe {
-        tillerclover_judge(
-            *tables,
-            waiting,
-            creds.as_ptr(),
-            creds.len(),
-            aces.as_ptr(),
-            aces.len(),
-            clock,
-            record.as_ptr(),
-            record.len(),
-            reply.as_mut_ptr(),
-            reply.len(),
-        )
-    }
+    judging(
+        *tables,
+        waiting,
+        creds.as_ptr(),
+        creds.len(),
+        aces.as_ptr(),
+        aces.len(),
+        clock,
+        record.as_ptr(),
+        record.len(),
+        reply.as_mut_ptr(),
+        reply.len(),
+    )
 }
 
 /// Hands a record in: it waits in its sender's place until its turn comes.

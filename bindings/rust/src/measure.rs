@@ -4,7 +4,7 @@
 use std::ffi::c_void;
 use std::hint::black_box;
 
-use crate::interface::{Defaults, Outcome};
+use crate::interface::{judge_by, Defaults, Outcome};
 use crate::tables::{Tables, Waiting};
 
 /// The path of libterminal.a.
@@ -13,7 +13,7 @@ pub const ARCHIVE: &str = env!("TILLERCLOVER_ARCHIVE");
 extern "C" {
     fn yardstick_judge(
         tables: Tables,
-        waiting: *const Waiting,
+        waiting: *mut Waiting,
         creds: *const u8,
         creds_length: usize,
         aces: *const u8,
@@ -30,29 +30,14 @@ extern "C" {
 #[inline]
 pub fn yardstick(
     tables: &Tables,
-    waiting: &Waiting,
+    waiting: &mut Waiting,
     defaults: Defaults,
     clock: u32,
     record: &[u8],
     reply: &mut [u8],
 ) -> Outcome {
-    let Defaults { creds, aces } = defaults;
-    // The pointers and lengths are those of living slices.
-    unsafe {
-        yardstick_judge(
-            *tables,
-            waiting,
-            creds.as_ptr(),
-            creds.len(),
-            aces.as_ptr(),
-            aces.len(),
-            clock,
-            record.as_ptr(),
-            record.len(),
-            reply.as_mut_ptr(),
-            reply.len(),
-        )
-    }
+    // It keeps no pointer, and stays within the lengths.
+    unsafe { judge_by(yardstick_judge, tables, waiting, defaults, clock, record, reply) }
 }
 
 #[repr(C, align(16))]

@@ -200,9 +200,10 @@ impl Case {
     }
 
     fn ask_yardstick(&self, reply: &mut Reply) {
+        let mut memory = self.lent.borrow_mut();
         black_box(beside::yardstick(
             black_box(&self.given),
-            black_box(&self.waiting),
+            black_box(&mut *memory),
             lent(&self.put.defaults),
             black_box(self.put.clock),
             black_box(&self.put.record),
@@ -667,7 +668,7 @@ fn both(put: &Put) -> [Outcome; 2] {
     let (mut one, mut other) = (EMPTY, EMPTY);
     [
         interface::judge(&given, &mut waiting.clone(), lent(&put.defaults), put.clock, &put.record, &mut one),
-        beside::yardstick(&given, &waiting, lent(&put.defaults), put.clock, &put.record, &mut other),
+        beside::yardstick(&given, &mut waiting.clone(), lent(&put.defaults), put.clock, &put.record, &mut other),
     ]
 }
 
