@@ -7,7 +7,7 @@ use std::os::unix::fs::{fchown, MetadataExt};
 use std::path::Path;
 
 use tempfile::NamedTempFile;
-use tillerclover::{Given, Tables, Terminal, Waiting};
+use tillerclover::{Given, Tables, Terminal, Waiting, VERSION_MAJOR};
 
 use crate::fault::{plain, Fault};
 
@@ -22,7 +22,8 @@ pub enum Form {
     Terminal,
 }
 
-const MARK: &[u8; 8] = b"tiller01";
+/// With the version of the tables' bytes, as the example terminal writes it.
+const MARK: [u8; 8] = [b't', b'i', b'l', b'l', b'e', b'r', b'0' + VERSION_MAJOR / 10, b'0' + VERSION_MAJOR % 10];
 const BOTH: usize = Tables::SIZE + Waiting::SIZE;
 
 impl Form {
@@ -122,9 +123,10 @@ fn damage(form: Form, bytes: &[u8]) -> Option<String> {
         return None;
     }
     let (before, sum) = bytes.split_at(bytes.len() - 4);
-    if !before.starts_with(MARK) {
+    if !before.starts_with(&MARK) {
         let place = MARK.iter().zip(before).position(|(one, other)| one != other).unwrap_or_default();
-        return Some(format!("damaged: the mark 'tiller01' is wrong at byte {place}"));
+        let mark = String::from_utf8_lossy(&MARK);
+        return Some(format!("damaged, or of another version: the mark '{mark}' is wrong at byte {place}"));
     }
     let fits = crc32fast::hash(before).to_le_bytes() == *sum;
     (!fits).then(|| format!("damaged: the checksum at byte {} does not fit the bytes before it", before.len()))

@@ -170,6 +170,7 @@ extern "C" {
 /// assert_eq!((tables.state(), tables.creds().len()), (State::RFOTM, 0));
 /// ```
 #[inline]
+#[must_use]
 pub fn fresh(waiting: &mut Waiting, defaults: Defaults) -> Tables {
     let Defaults { creds, aces } = defaults;
     unsafe { tillerclover_fresh(waiting, creds.as_ptr(), creds.len(), aces.as_ptr(), aces.len()) }
@@ -177,6 +178,7 @@ pub fn fresh(waiting: &mut Waiting, defaults: Defaults) -> Tables {
 
 /// The clear button: the tables of a new terminal, whatever these are. Nothing waits then.
 #[inline]
+#[must_use]
 pub fn clear(tables: &Tables, waiting: &mut Waiting, defaults: Defaults) -> Tables {
     let Defaults { creds, aces } = defaults;
     unsafe { tillerclover_clear(*tables, waiting, creds.as_ptr(), creds.len(), aces.as_ptr(), aces.len()) }
@@ -193,6 +195,7 @@ pub fn clear(tables: &Tables, waiting: &mut Waiting, defaults: Defaults) -> Tabl
 /// assert_eq!((outcome.answer, outcome.reply, reply[0]), (Answer::PERMITTED, 17, 1 << 5));
 /// ```
 #[inline]
+#[must_use]
 pub fn judge(
     tables: &Tables,
     waiting: &mut Waiting,
@@ -250,12 +253,14 @@ pub(crate) unsafe fn judge_by(
 
 /// Hands a record in: it waits in its sender's place until its turn comes.
 #[inline]
+#[must_use]
 pub fn hand_in(tables: &Tables, waiting: &mut Waiting, record: &[u8]) -> Outcome {
     unsafe { tillerclover_hand_in(*tables, waiting, record.as_ptr(), record.len()) }
 }
 
 /// Takes the record whose turn it is, and judges it.
 #[inline]
+#[must_use]
 pub fn take(tables: &Tables, waiting: &mut Waiting, defaults: Defaults, clock: u32, reply: &mut [u8]) -> Taken {
     let Defaults { creds, aces } = defaults;
     unsafe {
@@ -275,6 +280,7 @@ pub fn take(tables: &Tables, waiting: &mut Waiting, defaults: Defaults, clock: u
 
 /// Writes the access list as the office's JSON.
 #[inline]
+#[must_use]
 pub fn access_list(tables: &Tables, waiting: &Waiting, text: &mut [u8]) -> Listed {
     unsafe { tillerclover_access_list(*tables, waiting, text.as_mut_ptr(), text.len()) }
 }
@@ -289,6 +295,7 @@ pub fn access_list(tables: &Tables, waiting: &Waiting, text: &mut [u8]) -> Liste
 /// assert_eq!((tested.answer, tested.row), (Answer::TEST_NOT_STORABLE, 2));
 /// ```
 #[inline]
+#[must_use]
 pub fn test_list(rows: &[u8]) -> Tested {
     unsafe { tillerclover_test_list(rows.as_ptr(), rows.len()) }
 }
@@ -311,6 +318,7 @@ pub fn test_list(rows: &[u8]) -> Tested {
 /// # Ok::<(), std::array::TryFromSliceError>(())
 /// ```
 #[inline]
+#[must_use]
 pub fn convert_list(file: &[u8], rows: &mut [u8]) -> Converted {
     unsafe { tillerclover_convert_list(file.as_ptr(), file.len(), rows.as_mut_ptr(), rows.len()) }
 }

@@ -46,6 +46,11 @@
 
 #![deny(missing_docs, unsafe_code)]
 
+/// The version of the tables' bytes, as in the C header: what was stored under another one means other things.
+pub const VERSION_MAJOR: u8 = 1;
+/// The version of all else, as in the C header.
+pub const VERSION_MINOR: u8 = 0;
+
 #[allow(unsafe_code)]
 pub mod interface;
 #[cfg(feature = "measure")]

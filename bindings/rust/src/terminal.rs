@@ -115,6 +115,7 @@ impl Terminal {
     }
 
     /// Hands a record in, to wait for its turn.
+    #[must_use]
     pub fn hand_in(&mut self, record: &[u8]) -> Answer {
         interface::hand_in(&self.tables, &mut self.waiting, record).answer
     }
