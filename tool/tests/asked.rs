@@ -6,8 +6,11 @@
 use std::io::Read;
 
 use model::case::Case;
+use model::directory::find;
 use model::generate::{walk_groups, walk_sessions};
 use model::library;
+use model::rules::{fits, resource_fits, Sender};
+use model::tables::Access;
 use tillerclover::{Ace, Answer, Body, Cred, Given, Header, Tables, Terminal};
 use tool::run::{run, Shown, LIMIT};
 use tool::soundness::findings;
@@ -39,8 +42,22 @@ fn visit(records: u64, one_in: u64, mut visit: impl FnMut(&Case)) {
     });
 }
 
+/// Which parts of each access row fit by the model: subject, resource, season.
+fn parts(case: &Case) -> Vec<[bool; 3]> {
+    let tables = model::tables::Tables::read(&case.tables).expect("sound tables");
+    let header = Header::read(&case.record).expect("a header");
+    let resource = find(header.resource.number()).expect("a known resource");
+    let credential = tables.credentials.iter().find(|row| row.number == header.sender);
+    let sender = credential.map_or(Sender::Unauthenticated, Sender::Partner);
+    let part = |row: &Access| {
+        let here = Access { set: resource.bit(), ..row.clone() };
+        [fits(&here, sender, resource, case.clock), resource_fits(row, resource), row.period.holds_at(case.clock)]
+    };
+    tables.accesses.iter().map(part).collect()
+}
+
 /// The explanation says what the library decides: needed and there agree with the answer, the shares with the
-/// permission, and the parts of a row with the row.
+/// permission, and the parts of a row with the row and with the model.
 #[test]
 fn the_explanation_never_disagrees_with_the_decision() {
     let mut permitted = 0;
@@ -68,8 +85,9 @@ fn the_explanation_never_disagrees_with_the_decision() {
             }
             _ => assert!(rights.there().contains(rights.needed), "{}", case.line()),
         }
-        for fit in &rights.rows {
-            assert_eq!(fit.fits, fit.subject && fit.resource && fit.season, "{}", case.line());
+        for (fit, parts) in rights.rows.iter().zip(parts(case)) {
+            assert_eq!([fit.subject, fit.resource, fit.season], parts, "{}", case.line());
+            assert_eq!(fit.fits, parts == [true; 3], "{}", case.line());
             assert_eq!(fit.share, if fit.fits { fit.row.permission } else { Default::default() }, "{}", case.line());
         }
     });
