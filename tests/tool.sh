@@ -2,7 +2,7 @@
 # Tests of the command tillerclover as people use it: README's lines, each subcommand, bad input, a full disk, kills.
 #
 #     tests/tool.sh PROGRAM             all parts
-#     tests/tool.sh PROGRAM PART..      some: readme, tables, store, records, lists, runs, bad, disk, kills
+#     tests/tool.sh PROGRAM PART..      some: readme, tables, store, records, lists, runs, bad, crowd, disk, kills
 #
 # Exit status 1: a part failed.
 # shellcheck disable=SC2015
@@ -12,7 +12,7 @@ root=$PWD
 program=$(realpath "$1") || exit 2
 shift
 
-ALL=(readme tables store records lists runs bad disk kills)
+ALL=(readme tables store records lists runs bad crowd disk kills)
 work=$(mktemp -d) || exit 2
 small=$work/small
 trap 'umount "$small" 2>/dev/null; rm -rf "$work"' EXIT
@@ -254,6 +254,20 @@ part_bad() {
     setpriv --reuid=65534 --clear-groups tillerclover judge own/a UPDATE /oic/sec/pstat as 5 state=RFPRO >out 2>errors
     [ $? -eq 2 ] && grep -q "own/a: cannot be written: permission denied; it is as it was" errors || fault "own/a: $(cat errors)"
     cmp -s own/a before || fault "a file that may not be written is not as it was"
+}
+
+# Many at once: each change is kept.
+part_crowd() {
+    tillerclover new a >/dev/null
+    local pids=() pid
+    for ((i = 1; i <= 20; i++)); do
+        tillerclover judge a UPDATE /oic/sec/cred "number=$i" "subject=$owner" >/dev/null &
+        pids+=($!)
+    done
+    for pid in "${pids[@]}"; do
+        wait "$pid" || fault "one of many ended with $?"
+    done
+    gives 0 "Credentials, 20 of 24" show a
 }
 
 # A disk with room for one file, and then one that takes no writes.

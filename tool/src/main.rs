@@ -130,6 +130,7 @@ fn records(arguments: &ArgMatches) -> Result<Vec<Vec<u8>>, Fault> {
 
 fn judge(arguments: &ArgMatches) -> Result<Report, Fault> {
     let (file, clock, records) = (file(arguments), clock(arguments)?, records(arguments)?);
+    let _lock = store::lock(file)?;
     let mut stored = Stored::read_whole(file, given(arguments)?)?;
     let before = stored.bytes();
     let lines: Vec<Line> = records.into_iter().map(|record| Line::new(&mut stored.terminal, clock, record)).collect();

@@ -137,6 +137,25 @@ pub fn read(path: &Path) -> Result<Vec<u8>, Fault> {
     fs::read(path).map_err(|fault| Fault::unreadable(path, &fault))
 }
 
+/// Waits until no other run of this command is changing the file, and keeps others waiting until it is dropped.
+pub fn lock(path: &Path) -> Result<File, Fault> {
+    let locked = || -> io::Result<File> {
+        loop {
+            let file = File::open(path)?;
+            match file.lock() {
+                Err(fault) if fault.kind() != io::ErrorKind::Unsupported => return Err(fault),
+                _ => {}
+            }
+            // The one that was waited for has put another file in its place.
+            let (own, there) = (file.metadata()?, fs::metadata(path)?);
+            if (own.dev(), own.ino()) == (there.dev(), there.ino()) {
+                return Ok(file);
+            }
+        }
+    };
+    locked().map_err(|fault| Fault::unreadable(path, &fault))
+}
+
 /// Whether a file that is there may go.
 #[derive(Clone, Copy, Debug, PartialEq, Eq)]
 pub enum Old {
