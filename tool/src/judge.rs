@@ -72,7 +72,7 @@ impl Line {
         json!({
             "record": hex::write(&self.record),
             "words": words::record(&self.record),
-            "answer": { "number": answer.number(), "words": answer.to_string() },
+            "answer": words::answer_json(*answer),
             "permission": words::permission_json(*permission),
             "payload": hex::write(payload),
             "reply": hex::write(reply),

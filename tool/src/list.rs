@@ -37,7 +37,7 @@ pub fn check(path: &Path, list: &[u8]) -> Report {
     }
     let json = json!({
         "file": path.display().to_string(),
-        "answer": { "number": answer.number(), "words": answer.to_string() },
+        "answer": words::answer_json(answer),
         "row": row,
         "reason": reason,
         "rows": rows(list).iter().map(words::ace_json).collect::<Vec<_>>(),
@@ -103,7 +103,7 @@ pub fn convert(old: &Path, new: &Path, force: bool) -> Result<Report, Fault> {
     }
     let json = json!({
         "file": new.display().to_string(),
-        "answer": { "number": 0, "words": Answer::PERMITTED.to_string() },
+        "answer": words::answer_json(Answer::PERMITTED),
         "rows": rows(&made).iter().map(words::ace_json).collect::<Vec<_>>(),
         "warning": warning,
     });
@@ -119,7 +119,7 @@ fn not_converted(old: &Path, file: &[u8], answer: Answer) -> Report {
         text: format!("{}: not converted, {}: {reason}; no file was written\n", old.display(), answer.number()),
         json: json!({
             "file": old.display().to_string(),
-            "answer": { "number": answer.number(), "words": answer.to_string() },
+            "answer": words::answer_json(answer),
             "reason": reason,
         }),
         status: Status::No,
@@ -180,7 +180,7 @@ fn no_text(path: &Path, answer: Answer) -> Report {
         text: format!("{}: {}, {answer}; 'show' says why\n", path.display(), answer.number()),
         json: json!({
             "file": path.display().to_string(),
-            "answer": { "number": answer.number(), "words": answer.to_string() },
+            "answer": words::answer_json(answer),
         }),
         status: Status::No,
     }

@@ -119,7 +119,7 @@ fn json_line(n: u64, clock: u32, record: &[u8], judged: &Judged, state: u8) -> S
         "clock": clock,
         "record": hex::write(record),
         "words": words::record(record),
-        "answer": { "number": answer.number(), "words": answer.to_string() },
+        "answer": words::answer_json(*answer),
         "permission": words::permission_json(*permission),
         "state": state,
     })

@@ -29,13 +29,6 @@ pub fn findings(terminal: &Terminal) -> Vec<Finding> {
     findings
 }
 
-fn in_tables(tables: &Tables) -> Vec<Finding> {
-    let mut findings = head(tables);
-    findings.extend(rows_of("credential row", tables.ncreds, &tables.cred_places(), 84, &CREDS));
-    findings.extend(rows_of("access row", tables.naces, &tables.ace_places(), 1020, &ACES));
-    findings
-}
-
 /// Whether the library finds them sound.
 fn sound(tables: &Tables, waiting: &Waiting) -> bool {
     // An empty record is refused for its length, but for tables that are not sound before that.
@@ -73,80 +66,122 @@ fn head(tables: &Tables) -> Vec<Finding> {
     finding("state", 0, format!("{} in a terminal that nobody owns", tables.state()))
 }
 
-/// How to ask about the rows of one table.
-struct Kind<R: 'static> {
+/// Places of which the first ones are in use, and how to ask about them.
+struct Places<'a> {
+    name: &'a str,
+    held: usize,
+    capacity: usize,
+    /// Where the count stands, where the first place does, and how long a place is.
+    count_at: usize,
+    start: usize,
     length: usize,
-    number: fn(&R) -> u16,
-    /// Puts rows into tables, from a place on and with a count.
-    put: fn(&mut Tables, &[R]),
-    unused: fn(&mut Tables, usize, &R),
-    faults: fn(&R) -> Vec<String>,
+    /// What follows the name of a place.
+    told: &'a dyn Fn(usize) -> String,
+    /// Whether these places are sound where nothing else is.
+    together: &'a dyn Fn(&[usize]) -> bool,
+    /// Whether the place is sound as one that is not in use.
+    unused: &'a dyn Fn(usize) -> bool,
+    /// What is wrong with one that is not sound alone.
+    fault: &'a dyn Fn(usize) -> String,
+    /// What two may not have in common.
+    own: &'a str,
 }
 
-static CREDS: Kind<Cred> = Kind {
-    length: Cred::ROW,
-    number: |row| row.number,
-    put: Tables::set_creds,
-    unused: |tables, place, row| tables.creds[place * Cred::ROW..][..Cred::ROW].copy_from_slice(&row.to_row()),
-    faults: cred_faults,
-};
-
-static ACES: Kind<Ace> = Kind {
-    length: Ace::LENGTH,
-    number: |row| row.number,
-    put: Tables::set_aces,
-    unused: |tables, place, row| tables.aces[place * Ace::LENGTH..][..Ace::LENGTH].copy_from_slice(&row.body()),
-    faults: ace_faults,
-};
-
-/// What is wrong with the rows of one table.
-fn rows_of<R: Copy>(name: &str, count: u8, places: &[R], start: usize, kind: &Kind<R>) -> Vec<Finding> {
-    let mut findings = Vec::new();
-    let held = usize::from(count);
-    if held > places.len() {
-        let byte = if start == 84 { 2 } else { 3 };
-        let what = format!("{held} are claimed, and there is room for {}", places.len());
-        findings.push(Finding { place: format!("{name}s"), byte, what });
+impl Places<'_> {
+    fn findings(&self) -> Vec<Finding> {
+        let claimed = (self.held > self.capacity).then(|| Finding {
+            place: format!("{}s", self.name),
+            byte: self.count_at,
+            what: format!("{} are claimed, and there is room for {}", self.held, self.capacity),
+        });
+        claimed.into_iter().chain((0..self.capacity).filter_map(|place| self.finding(place))).collect()
     }
-    let together = |rows: &[R]| {
-        let mut tables = fresh();
-        (kind.put)(&mut tables, rows);
-        sound_tables(&tables)
-    };
-    for (place, row) in places.iter().enumerate() {
-        let mut add = |place: String, at: usize, what| {
-            findings.push(Finding { place, byte: start + at * kind.length, what });
+
+    fn finding(&self, place: usize) -> Option<Finding> {
+        let what = if place >= self.held {
+            (!(self.unused)(place)).then(|| "is not in use, and is not zero".to_string())
+        } else if !(self.together)(&[place]) {
+            Some((self.fault)(place))
+        } else {
+            let clash = |other: &usize| (self.together)(&[*other]) && !(self.together)(&[*other, place]);
+            (0..place).find(clash).map(|other| format!("repeats the {} of {} {}", self.own, self.name, other + 1))
         };
-        if place >= held {
-            let mut tables = fresh();
-            (kind.unused)(&mut tables, place, row);
-            if !sound_tables(&tables) {
-                add(format!("{name} {}", place + 1), place, "is not in use, and is not zero".into());
-            }
-            continue;
-        }
-        let named = format!("{name} {} (number {})", place + 1, (kind.number)(row));
-        if !together(&[*row]) {
-            let faults = (kind.faults)(row);
-            let what = if faults.is_empty() { "no record could store it".into() } else { faults.join("; ") };
-            add(named, place, what);
-        } else if let Some(other) =
-            (0..place).find(|&other| together(&[places[other]]) && !together(&[places[other], *row]))
-        {
-            add(named, place, format!("repeats the number of {name} {}", other + 1));
-        }
+        let told = if place < self.held { (self.told)(place) } else { String::new() };
+        let named = format!("{} {}{told}", self.name, place + 1);
+        what.map(|what| Finding { place: named, byte: self.start + place * self.length, what })
     }
+}
+
+fn in_tables(tables: &Tables) -> Vec<Finding> {
+    let mut findings = head(tables);
+    findings.extend(creds(tables));
+    findings.extend(aces(tables));
     findings
+}
+
+/// Fresh tables with some bytes of others.
+fn with(change: impl Fn(&mut Tables)) -> Tables {
+    let mut tables = fresh();
+    change(&mut tables);
+    tables
+}
+
+fn creds(tables: &Tables) -> Vec<Finding> {
+    let rows = tables.cred_places();
+    let pick = |places: &[usize]| places.iter().map(|&place| rows[place]).collect::<Vec<_>>();
+    let bytes = |place: usize| place * Cred::ROW..(place + 1) * Cred::ROW;
+    Places {
+        name: "credential row",
+        held: tables.ncreds.into(),
+        capacity: Cred::CAPACITY,
+        count_at: 2,
+        start: 84,
+        length: Cred::ROW,
+        told: &|place| format!(" (number {})", rows[place].number),
+        together: &|places| sound_tables(&with(|fresh| fresh.set_creds(&pick(places)))),
+        unused: &|place| {
+            sound_tables(&with(|fresh| fresh.creds[bytes(place)].copy_from_slice(&tables.creds[bytes(place)])))
+        },
+        fault: &|place| or_else(cred_faults(&rows[place])),
+        own: "number",
+    }
+    .findings()
+}
+
+fn aces(tables: &Tables) -> Vec<Finding> {
+    let rows = tables.ace_places();
+    let pick = |places: &[usize]| places.iter().map(|&place| rows[place]).collect::<Vec<_>>();
+    let bytes = |place: usize| place * Ace::LENGTH..(place + 1) * Ace::LENGTH;
+    Places {
+        name: "access row",
+        held: tables.naces.into(),
+        capacity: Ace::CAPACITY,
+        count_at: 3,
+        start: 1020,
+        length: Ace::LENGTH,
+        told: &|place| format!(" (number {})", rows[place].number),
+        together: &|places| sound_tables(&with(|fresh| fresh.set_aces(&pick(places)))),
+        unused: &|place| {
+            sound_tables(&with(|fresh| fresh.aces[bytes(place)].copy_from_slice(&tables.aces[bytes(place)])))
+        },
+        fault: &|place| or_else(ace_faults(&rows[place])),
+        own: "number",
+    }
+    .findings()
+}
+
+fn or_else(faults: Vec<String>) -> String {
+    if faults.is_empty() {
+        "no record could store it".into()
+    } else {
+        faults.join("; ")
+    }
 }
 
 /// What is wrong with a credential row alone.
 pub fn cred_faults(row: &Cred) -> Vec<String> {
     let good = Cred { number: 1, subject: SOMEBODY, ..Cred::default() };
-    let alone = |row: Cred| {
-        let mut tables = fresh();
-        tables.set_creds(&[row]);
-        !sound_tables(&tables)
-    };
+    let alone = |row: Cred| !sound_tables(&with(|fresh| fresh.set_creds(&[row])));
     let parts = [
         (Cred { number: row.number, ..good }, "the number is 0".to_string()),
         (Cred { subject: row.subject, ..good }, "the subject is nil".into()),
@@ -203,39 +238,35 @@ fn subject_fault(subject: Subject) -> String {
 /// What is wrong with what waits, beside tables that are sound.
 fn in_memory(terminal: &Terminal) -> Vec<Finding> {
     let Terminal { tables, waiting, .. } = terminal;
-    let at = |place: usize| Waiting::SLOTS + place * Waiting::SLOT;
-    let mut findings = Vec::new();
-    let mut add = |place: String, byte: usize, what: String| {
-        findings.push(Finding { place, byte: Tables::SIZE + byte, what });
-    };
-    let held = usize::from(waiting.count());
-    if held > Waiting::CAPACITY {
-        add("waiting records".into(), 0, format!("{held} are claimed, and there is room for {}", Waiting::CAPACITY));
-    }
     let mut round = Waiting::FRESH;
-    round.bytes[1..4].copy_from_slice(&waiting.bytes[1..4]);
-    if !sound(tables, &round) {
-        add("round".into(), 1, "neither zeros nor 1 and a credential number".into());
-    }
-    let slots: Vec<&[u8]> = (0..Waiting::CAPACITY).map(|place| waiting.slot_bytes(place)).collect();
-    let together = |slots: &[&[u8]]| sound(tables, &memory(slots));
-    for (place, slot) in slots.iter().enumerate() {
-        let named = format!("waiting record {}", place + 1);
-        if place >= held {
+    round.bytes[1..Waiting::SLOTS].copy_from_slice(&waiting.bytes[1..Waiting::SLOTS]);
+    let round = (!sound(tables, &round)).then(|| Finding {
+        place: "round".into(),
+        byte: Tables::SIZE + 1,
+        what: "neither zeros nor 1 and a credential number".into(),
+    });
+    let slots = Places {
+        name: "waiting record",
+        held: waiting.count().into(),
+        capacity: Waiting::CAPACITY,
+        count_at: Tables::SIZE,
+        start: Tables::SIZE + Waiting::SLOTS,
+        length: Waiting::SLOT,
+        told: &|_| String::new(),
+        together: &|places| {
+            let slots: Vec<&[u8]> = places.iter().map(|&place| waiting.slot_bytes(place)).collect();
+            sound(tables, &memory(&slots))
+        },
+        unused: &|place| {
             let mut unused = Waiting::FRESH;
-            unused.bytes[at(place)..at(place) + Waiting::SLOT].copy_from_slice(slot);
-            if !sound(tables, &unused) {
-                add(named, at(place), "is not in use, and is not zero".into());
-            }
-        } else if !together(&[slot]) {
-            add(named, at(place), slot_fault(terminal, place));
-        } else if let Some(other) =
-            (0..place).find(|&other| together(&[slots[other]]) && !together(&[slots[other], slot]))
-        {
-            add(named, at(place), format!("is of the same sender as waiting record {}", other + 1));
-        }
-    }
-    findings
+            let at = Waiting::SLOTS + place * Waiting::SLOT;
+            unused.bytes[at..at + Waiting::SLOT].copy_from_slice(waiting.slot_bytes(place));
+            sound(tables, &unused)
+        },
+        fault: &|place| slot_fault(terminal, place),
+        own: "sender",
+    };
+    round.into_iter().chain(slots.findings()).collect()
 }
 
 /// Memory with just these slots.
@@ -250,7 +281,8 @@ fn memory(slots: &[&[u8]]) -> Waiting {
 /// What is wrong with a waiting record alone: what its hand-in would get, or else its place.
 fn slot_fault(terminal: &Terminal, place: usize) -> String {
     let slot = &terminal.waiting.slots()[place];
-    let answer = interface::hand_in(&terminal.tables, &mut Waiting::FRESH.clone(), &slot.record).answer;
+    let mut alone = Terminal { waiting: Waiting::FRESH, ..terminal.clone() };
+    let answer = alone.hand_in(&slot.record);
     if usize::from(slot.length) > interface::RECORD_MAX {
         format!("its length is {}, and a record has at most {}", slot.length, interface::RECORD_MAX)
     } else if !answer.is_permitted() {

@@ -223,7 +223,7 @@ impl Explanation {
             "record": hex::write(&self.record),
             "words": words::record(&self.record),
             "clock": self.clock,
-            "answer": { "number": self.judged.answer.number(), "words": self.judged.answer.to_string() },
+            "answer": words::answer_json(self.judged.answer),
             "passed": passed(self.judged.answer).iter().map(number).collect::<Vec<_>>(),
             "sender": self.sender,
             "notes": self.notes,

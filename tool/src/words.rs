@@ -2,7 +2,9 @@
 //! typed again as a record.
 
 use serde_json::{json, Value};
-use tillerclover::{Ace, Asserted, Body, Cred, Header, Period, Permission, Resource, Set, State, Subject, Uuid, Verb};
+use tillerclover::{
+    Ace, Answer, Asserted, Body, Cred, Header, Period, Permission, Resource, Set, State, Subject, Uuid, Verb,
+};
 
 use crate::{hex, times};
 
@@ -150,6 +152,11 @@ pub fn reply(resource: Resource, reply: &[u8]) -> Vec<String> {
     };
     lines.extend(rows.chunks(length).map(|row| body(Verb::UPDATE, resource, row)));
     lines
+}
+
+/// An answer for programs.
+pub fn answer_json(answer: Answer) -> Value {
+    json!({ "number": answer.number(), "words": answer.to_string() })
 }
 
 /// A permission for programs.
