@@ -12,8 +12,12 @@ use model::library;
 use model::rules::{fits, resource_fits, Sender};
 use model::tables::Access;
 use tillerclover::{Ace, Answer, Body, Cred, Given, Header, Tables, Terminal};
+use tool::judge::Line;
+use tool::report::Status;
 use tool::run::{run, Shown, LIMIT};
+use tool::show::show;
 use tool::soundness::findings;
+use tool::store::{Form, Stored};
 use tool::why::explain;
 use tool::{list, typed, words};
 
@@ -161,4 +165,23 @@ fn runs_have_the_numbers_of_the_run_program() {
         let text: String = String::from_utf8(text).expect("words").lines().map(numbers).collect();
         assert_eq!(text, model::run::text(&input));
     }
+}
+
+/// Whatever tables and record there are, they can be shown, judged and explained, and all say the same.
+#[test]
+fn everything_can_be_shown() {
+    let path = std::path::Path::new("tables");
+    visit(1500, 211, |case| {
+        let mut terminal = terminal(case);
+        let sound = terminal.is_sound();
+        let stored = Stored { form: Form::Memory, terminal: terminal.clone(), damage: None };
+        let shown = show(path, &stored);
+        assert_eq!(shown.json["sound"], sound);
+        assert_eq!(shown.text.contains("tables: sound"), sound, "{}", shown.text);
+        let said = explain(&terminal, case.clock, &case.record).report(0);
+        let line = Line::new(&mut terminal, case.clock, case.record.clone());
+        assert_eq!(line.json()["answer"], said.json["answer"]);
+        assert_eq!(line.text().starts_with("permitted"), said.text.contains(": permitted\n"), "{}", said.text);
+        assert_eq!(said.status, Status::of(line.permitted()));
+    });
 }
