@@ -229,6 +229,8 @@ part_bad() {
         gives 2 "short: ends at byte 100; a file of tables has 2172 bytes" $(on_file short)
     done
     gives 1 "it ends at byte 100, 28 bytes into row 3" list text short
+    gives 2 "/dev/zero: has more than 65536 bytes" show /dev/zero
+    gives 1 "8688 bytes is the length of tables" list check a
     gives 2 "missing: cannot be read" list check missing
     gives 2 "folder: cannot be read" list convert folder new
     gives 2 "folder: cannot be read: is a directory" run folder

@@ -2,6 +2,8 @@
 //! each in its own order, give every run of records, hand-ins and takes the same,
 //! but for that order.
 
+#![forbid(unsafe_code)]
+
 use model::case::{Call, Case};
 use model::directory::find;
 use model::generate::{any_sound, clock, defaults, full_sound, record, room, waiting, Style};

@@ -1,5 +1,7 @@
 //! Programs that only look right are told apart from the rules.
 
+#![forbid(unsafe_code)]
+
 use model::case::{Call, Case, Seen};
 use model::defaults::{Defaults, ListFault};
 use model::directory::{find, set_bit, LINKS, ROLES, YARD};

@@ -31,7 +31,8 @@ pub fn check(path: &Path, list: &[u8]) -> Report {
         None => format!("{}: accepted, {}\n", path.display(), many(rows(list).len(), "row")),
         Some(reason) => format!("{}: not accepted, {}:{place} {reason}\n", path.display(), answer.number()),
     };
-    if !rows(list).is_empty() {
+    // What has another size may be no list at all.
+    if !rows(list).is_empty() && rows(list).len() <= Ace::CAPACITY {
         let lines: Vec<String> = rows(list).iter().map(words::ace_columns).collect();
         text += &format!("\n{}", columns(&[vec![words::ACE_HEAD.to_string()], lines].concat()));
     }
@@ -49,6 +50,9 @@ pub fn check(path: &Path, list: &[u8]) -> Report {
 fn refusal(list: &[u8], tested: Tested) -> String {
     let Tested { answer, row } = tested;
     let whole = list.len() / Ace::LENGTH;
+    if answer == Answer::TEST_BAD_SIZE && Form::of_length(list.len()).is_some() {
+        return format!("{} bytes is the length of tables; 'list text' and 'show' take these", list.len());
+    }
     if answer == Answer::TEST_BAD_SIZE {
         return match list.len() % Ace::LENGTH {
             0 => format!("{}, and a terminal holds {}", many(whole, "row"), Ace::CAPACITY),
@@ -151,8 +155,7 @@ fn bad_file(file: &[u8]) -> String {
 /// The office text of a file of tables, or of a list that a terminal would load.
 pub fn text(path: &Path) -> Result<Report, Fault> {
     let bytes = store::read(path)?;
-    let tables = Form::ALL.iter().any(|form| form.length() == bytes.len());
-    let terminal = if tables {
+    let terminal = if Form::of_length(bytes.len()).is_some() {
         Stored::read_whole(path, Default::default())?.terminal
     } else {
         match load(&bytes) {

@@ -2,7 +2,7 @@
 //! file, so that a power cut leaves the old file or the new one.
 
 use std::fs::{self, File, Metadata, OpenOptions};
-use std::io::{self, Write};
+use std::io::{self, Read, Write};
 use std::os::unix::fs::{fchown, MetadataExt};
 use std::path::Path;
 
@@ -48,6 +48,11 @@ impl Form {
         }
     }
 
+    /// The form of a file with so many bytes.
+    pub fn of_length(length: usize) -> Option<Form> {
+        Form::ALL.into_iter().find(|form| form.length() == length)
+    }
+
     /// Where the tables begin in it.
     pub fn start(self) -> usize {
         if self == Form::Terminal {
@@ -85,7 +90,7 @@ impl Stored {
     }
 
     fn of(bytes: &[u8], defaults: Given) -> Result<Stored, String> {
-        let form = Form::ALL.into_iter().find(|form| form.length() == bytes.len()).ok_or_else(|| {
+        let form = Form::of_length(bytes.len()).ok_or_else(|| {
             let [tables, memory, terminal] = Form::ALL.map(Form::length);
             format!(
                 "ends at byte {}; a file of tables has {tables} bytes, {memory} with what waits, or {terminal} with mark \
@@ -132,9 +137,18 @@ fn damage(form: Form, bytes: &[u8]) -> Option<String> {
     (!fits).then(|| format!("damaged: the checksum at byte {} does not fit the bytes before it", before.len()))
 }
 
-/// A whole file.
+/// No file of tables and no list is longer.
+const LONGEST: u64 = 65_536;
+
+/// A whole file, unless it is longer than any that is meant.
 pub fn read(path: &Path) -> Result<Vec<u8>, Fault> {
-    fs::read(path).map_err(|fault| Fault::unreadable(path, &fault))
+    let mut bytes = Vec::new();
+    let read = File::open(path).and_then(|file| file.take(LONGEST + 1).read_to_end(&mut bytes));
+    read.map_err(|fault| Fault::unreadable(path, &fault))?;
+    if bytes.len() as u64 > LONGEST {
+        return Err(Fault::of(path, format!("has more than {LONGEST} bytes, and is neither tables nor a list")));
+    }
+    Ok(bytes)
 }
 
 /// Waits until no other run of this command is changing the file, and keeps others waiting until it is dropped.

@@ -1,5 +1,7 @@
 //! The numbers of the binding are those of include/tillerclover.h.
 
+#![forbid(unsafe_code)]
+
 use std::collections::BTreeMap;
 
 use tillerclover::{
