@@ -1,0 +1,55 @@
+-- Bytes that are all 0: a union of bytes is 0 where each is, and the bytes of a list are where those of its parts are.
+-- Assumes nothing.
+use mathlib.Core.Path.{_≡_, refl, sym, ap, _∙_}
+use mathlib.Core.Bool.{Bool, true, false, _&&_, and-assoc}
+use mathlib.Core.List.{List, [], _∷_, _++_}
+use Prim.Native.Nat.{ℕ, zero, suc, _+_, _<_, _≤_}
+use native.Mathlib.Numerals.{add-one}
+use native.Mathlib.Omega.{arith}
+use borrow.Author.Tests.{ne-eqb}
+use lib.Bits.{bitOr, or-add-and, and-le-r}
+use lib.Dec.{eqb, eqb·suc-zero}
+use lib.ListN.{length, take, drop, getD, take-append-drop, drop-of-length-le}
+use lib.Seq.{drop-cons, drop-drop}
+use Rattle.rows.specs.Rows.{allZero}
+
+-- ---- unions
+
+pub zero-both : (a b : ℕ) → eqb (bitOr a b) 0 ≡ (eqb a 0 && eqb b 0)
+zero-both zero b = refl
+zero-both (suc a) b = ne-eqb (bitOr (suc a) b) 0 (λ e. omega (arith, or-add-and (suc a) b, and-le-r (suc a) b)) ∙ rw (eqb·suc-zero a)
+
+-- a byte more
+pub zero-more : (any byte : ℕ) (rest : Bool) → (eqb any 0 && (eqb byte 0 && rest)) ≡ (eqb (bitOr any byte) 0 && rest)
+zero-more any byte rest = rw zero-both (sym (and-assoc (eqb any 0) (eqb byte 0) rest))
+
+swap-middle : (a b c d : Bool) → ((a && b) && (c && d)) ≡ ((a && c) && (b && d))
+swap-middle true true c d = refl
+swap-middle true false true d = refl
+swap-middle true false false d = refl
+swap-middle false b c d = refl
+
+-- two bytes, each before others
+pub zero-beside : (x y : ℕ) (s t : Bool) → ((eqb x 0 && s) && (eqb y 0 && t)) ≡ (eqb (bitOr x y) 0 && (s && t))
+zero-beside x y s t = rw zero-both (swap-middle (eqb x 0) s (eqb y 0) t)
+
+-- ---- parts
+
+-- from a byte on
+pub zeros-from : (b : List ℕ) (i : ℕ) → i < length b → allZero (drop i b) ≡ (eqb (getD b i 0) 0 && allZero (drop (i + 1) b))
+unfolding allZero
+zeros-from b i h = rw (drop-cons b i 0 h, add-one)
+
+-- past the end
+pub zeros-past : (b : List ℕ) (i : ℕ) → length b ≤ i → allZero (drop i b) ≡ true
+unfolding allZero
+zeros-past b i h = rw (drop-of-length-le b h)
+
+zeros-append : (a b : List ℕ) → allZero (a ++ b) ≡ (allZero a && allZero b)
+unfolding allZero
+zeros-append [] b = refl
+zeros-append (x ∷ a) b = ap (λ (t : Bool). eqb x 0 && t) (zeros-append a b) ∙ sym (and-assoc (eqb x 0) (allZero a) (allZero b))
+
+-- n bytes, and those after them
+pub zeros-part : (n i : ℕ) (b : List ℕ) → allZero (drop i b) ≡ (allZero (take n (drop i b)) && allZero (drop (i + n) b))
+zeros-part n i b = rw (← drop-drop n i b) (ap allZero (sym (take-append-drop n (drop i b))) ∙ zeros-append (take n (drop i b)) (drop n (drop i b)))
