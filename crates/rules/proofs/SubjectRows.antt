@@ -1,13 +1,11 @@
 -- Theorems, U3: a permitted DELETE of cred with 16 bytes leaves exactly the rows without that subject, in their order, and all else as it was.
 -- 13 where no row has it. Of a record at any clock, with any buffer and for any default lists, and for every subject.
 use Prim.Native.Nat.{ℕ}
-use native.Mathlib.Omega.{arith}
 use mathlib.Core.Path.{_≡_, refl, sym, ap, _∙_}
 use mathlib.Core.Bool.{Bool, true, false, not, _&&_, cond}
 use mathlib.Core.List.{List, [], _∷_, _++_, List·Memᴰ, Sublistᴰ}
 use lib.Dec.{eqb}
 use lib.ListN.{length, take, drop}
-use borrow.Author.Tests.{le-ltb}
 use Rattle.rows.specs.Rows.{Row, same, some, without, hasKey}
 use Rattle.rows.proofs.Kept.{same-true, same-refl}
 use Rattle.rows.proofs.Without.{without-order, without-gone, without-left}
@@ -23,12 +21,12 @@ use Rattle.rules.specs.Tables.{rows, withRows, sound}
 use Rattle.rules.specs.Defaults.{Defaults}
 use Rattle.rules.specs.Permission.{permission}
 use Rattle.rules.specs.Action.{ifAllowed, deleteCreds, action}
-use Rattle.rules.specs.Reading.{reads, replyOf, tooShort}
+use Rattle.rules.specs.Reading.{reads, tooShort}
 use Rattle.rules.specs.Places.{deletes}
 use Rattle.rules.specs.Checks.{checks, verdict, numberOf, isMalformed, missing, formChecks, requestChecks, stateChecks, rowChecks, roomChecks}
 use Rattle.rules.specs.Outcome.{replyTo, tablesAfter}
 use Rattle.rules.proofs.Bools.{cond-cases, contradiction}
-use Rattle.rules.proofs.Answers.{passed}
+use Rattle.rules.proofs.Answers.{passed, no-reply-fits}
 use Rattle.rules.proofs.CheckLaws.{skip-all}
 use Rattle.rules.proofs.TableLaws.{rows-with}
 use Rattle.rules.proofs.SoundKept.{removed-sound}
@@ -78,9 +76,9 @@ has-own s w e = rw e (same-refl s)
 
 -- ---- the checks from 13 on
 
-no-reply : (t : Tables) (q : Request) → verb (q .bytes) ≡ 3 → tooShort t q ≡ false
-unfolding tooShort replyOf reads
-no-reply t q v = rw v (le-ltb (q .room) 0 (omega arith))
+delete-unread : (r : List ℕ) → verb r ≡ 3 → reads r ≡ false
+unfolding reads
+delete-unread r v = rw v
 
 last-checks : (m short : Bool) (found : Bool) → m ≡ not found → short ≡ false → verdict ((13, m) ∷ (14, false) ∷ (22, false) ∷ (15, short) ∷ []) ≡ cond found Pass (Refuse 13)
 unfolding verdict
@@ -122,5 +120,5 @@ module _ (d : Defaults) (t : Tables) (q : Request) (asks : deletes Creds (q .byt
       let v : verdict (checks t p q) ≡ cond some-has Pass (Refuse 13) =
       sym (skip-all (earlier t p r) (rowChecks (q .clock) t r (action r) ++ roomChecks t q) refl e refl)
       ∙ ap (λ (a : Action). verdict (rowChecks (q .clock) t r a ++ roomChecks t q)) i
-      ∙ last-checks (missing t b (Remove Creds 2)) (tooShort t q) some-has m (no-reply t q (delete-verb Creds r asks)) in
+      ∙ last-checks (missing t b (Remove Creds 2)) (tooShort t q) some-has m (no-reply-fits t q (delete-unread r (delete-verb Creds r asks))) in
       answer-is d t q ∙ ap numberOf v ∙ cond-cases (λ (c : Check). numberOf c ≡ cond some-has 0 13) some-has (λ x. rw x) (λ x. rw x)

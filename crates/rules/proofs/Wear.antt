@@ -1,6 +1,6 @@
 -- Theorems, U4: what a permitted DELETE reports, and what it leaves in the memory that wears; everything else reports 0 and 0.
 -- Of a record at any clock, with any buffer and for any default lists. The bytes' length is that which the struct's type gives.
-use Prim.Native.Nat.{ℕ, zero, suc, _+_, _*_, _≤_, _<_}
+use Prim.Native.Nat.{ℕ, _+_, _*_, _≤_, _<_}
 use native.Mathlib.Omega.{arith}
 use mathlib.Core.Path.{_≡_, refl, sym, ap, _∙_}
 use mathlib.Core.Bool.{Bool, true, false}
@@ -16,12 +16,12 @@ use Rattle.rules.specs.Record.{Request, body}
 use Rattle.rules.specs.Tables.{stride, capacity, count, bytes, rows, withRows, sound}
 use Rattle.rules.specs.Defaults.{Defaults}
 use Rattle.rules.specs.Places.{nowhere, gapOf, deletes, overwritten}
-use Rattle.rules.specs.Outcome.{Outcome, replyTo, tablesAfter}
+use Rattle.rules.specs.Outcome.{Reply, Outcome, replyTo, tablesAfter}
 use Rattle.rules.proofs.Bools.{cond-cases}
 use Rattle.rules.proofs.Answers.{rows-are}
 use Rattle.rules.proofs.TableLaws.{rows-with}
 use Rattle.rules.proofs.SoundKept.{removed-sound}
-use Rattle.rules.proofs.Refusals.{refusal-is, permitted-passes, passed-outcome}
+use Rattle.rules.proofs.Refusals.{not-told, permitted-passes, passed-outcome}
 use Rattle.rules.proofs.Gaps as gaps
 use Rattle.rules.proofs.Gaps.{with-count}
 use Rattle.rules.proofs.Deletes.{deleted, quiet}
@@ -86,19 +86,11 @@ pub record NoPlaces (d : Defaults) (t : Tables) (q : Request) : Type 0 where
   pub no-delete : ((k : Table) → deletes k (q .bytes) ≡ false) → replyTo d t q .places ≡ nowhere
   pub no-rows : (k : Table) → deletes k (q .bytes) ≡ true → count k (tablesAfter d t q) ≡ count k t → replyTo d t q .places ≡ nowhere
 
--- a refused record has none
-unless : (d : Defaults) (t : Tables) (q : Request) → (replyTo d t q .answer ≡ 0 → replyTo d t q .places ≡ nowhere) → replyTo d t q .places ≡ nowhere
-unless d t q permitted = go (replyTo d t q .answer) refl
-  where
-    go : (n : ℕ) → replyTo d t q .answer ≡ n → replyTo d t q .places ≡ nowhere
-    go zero e = permitted e
-    go (suc n) e = ap (λ (o : Outcome). o .reply .places) (refusal-is d t q n e)
-
 pub no-places : (d : Defaults) (t : Tables) (q : Request) → NoPlaces d t q
 no-places d t q = record {
-  refused = λ other. unless d t q (λ z. absurd (other z));
-  no-delete = λ other. unless d t q (λ z. ap (λ (o : Outcome). o .reply .places) (passed-outcome d t q (permitted-passes d t q z)) ∙ quiet t (q .bytes) other);
-  no-rows = λ k h same. unless d t q (λ z.
+  refused = λ other. not-told (λ (x : Reply). x .places) nowhere d t q (λ n. refl) (λ z. absurd (other z));
+  no-delete = λ other. not-told (λ (x : Reply). x .places) nowhere d t q (λ n. refl) (λ z. ap (λ (o : Outcome). o .reply .places) (passed-outcome d t q (permitted-passes d t q z)) ∙ quiet t (q .bytes) other);
+  no-rows = λ k h same. not-told (λ (x : Reply). x .places) nowhere d t q (λ n. refl) (λ z.
       let x = deleted d t q k h z in
       let ws = without (hasKey (x .at) (body (q .bytes))) (rows k t) in
       x .places ∙ gap-none (hasKey (x .at) (body (q .bytes))) (rows k t) (sym (with-count k t ws) ∙ ap (count k) (sym (x .tables)) ∙ same ∙ sym (held k t (x .sound))));

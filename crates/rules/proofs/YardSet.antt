@@ -1,0 +1,105 @@
+-- Theorems, U9: the set that a permitted RETRIEVE or UPDATE of /yard answers holds exactly the links whose own record gets answer 0, and its size is their number.
+-- Every other record has the empty set and size 0. Of a record at any clock, with any buffer and for any default lists.
+use Prim.Native.Nat.{ℕ, _<_, _^_}
+use native.Mathlib.Nat.{le-trans}
+use native.Mathlib.Omega.{arith}
+use mathlib.Core.Path.{_≡_, refl, sym, ap, _∙_}
+use mathlib.Core.Bool.{Bool, true, false, _&&_, and-false}
+use mathlib.Core.List.{List, [], _∷_, _++_}
+use lib.Count.{ones, onesIn}
+use lib.Dec.{eqb}
+use Rattle.rules.specs.declared.Tables.{Tables}
+use Rattle.rules.specs.declared.Links.{Links}
+use Rattle.rules.specs.Directory.{isSecurity, links}
+use Rattle.rules.specs.Record.{Request, asked, resource}
+use Rattle.rules.specs.Defaults.{Defaults}
+use Rattle.rules.specs.Permission.{permission}
+use Rattle.rules.specs.Action.{action}
+use Rattle.rules.specs.Reading.{reads}
+use Rattle.rules.specs.Links.{ownRecord, permits, setOf, asksLinks, linkSet, linksOf, noLinks, inLinks, isOneOf, countBelow}
+use Rattle.rules.specs.Checks.{checks, formChecks, askedChecks, verdict, isPass}
+use Rattle.rules.specs.Outcome.{Reply, Outcome, replyTo}
+use Rattle.rules.proofs.Answers.{passed, long-enough, no-reply-fits}
+use Rattle.rules.proofs.BodyLaws.{security-number}
+use Rattle.rules.proofs.Refusals.{zero-passes, not-told, permitted-passes, passed-outcome}
+use Rattle.rules.proofs.LinkLaws.{Own, own, Rising, set-below, in-set, above-floor, ones-held}
+
+-- of a permitted RETRIEVE or UPDATE of /yard
+pub record YardSet (d : Defaults) (t : Tables) (q : Request) : Type 0 where
+  -- a resource is in the set exactly where it is a link whose own record gets answer 0, at the same clock and on the same tables, with any buffer and for any default lists
+  pub member : (n : ℕ) → n < 64 → (d′ : Defaults) (room : ℕ)
+      → inLinks (replyTo d t q .links .set) n ≡ (isOneOf links n && eqb (replyTo d′ t (asked (q .clock) (ownRecord (q .bytes) n) room) .answer) 0)
+  -- that record has the verb and the sender of the one that asks
+  pub own : (n : ℕ) → n < 64 → Own (q .bytes) n
+  -- the set has 64 bits, and the size is the number of its members
+  pub fits : replyTo d t q .links .set < 2 ^ 64
+  pub size : replyTo d t q .links .size ≡ countBelow 64 (inLinks (replyTo d t q .links .set))
+
+-- ---- a link's own record
+
+links-rise : Rising 7 links
+links-rise = (omega arith, omega arith, (omega arith, omega arith, (omega arith, omega arith, (omega arith, omega arith, (omega arith, omega arith, (omega arith, omega arith, (omega arith, omega arith, tt)))))))
+
+link-plain : (n : ℕ) → isOneOf links n ≡ true → isSecurity n ≡ false
+link-plain n h = go (isSecurity n) refl
+  where
+    go : (b : Bool) → isSecurity n ≡ b → b ≡ false
+    go true e = absurd (omega (arith, security-number n e, above-floor 7 links links-rise n h))
+    go false e = refl
+
+-- a record that is not read gets answer 0 where it is permitted with no buffer, whatever its buffer
+permits-zero : (clock : ℕ) (t : Tables) (r : List ℕ) → reads r ≡ false → (e : Defaults) (room : ℕ) → permits clock t r ≡ eqb (replyTo e t (asked clock r room) .answer) 0
+unfolding permits
+permits-zero clock t r unread e room =
+    ap (λ (b : Bool). isPass (verdict (formChecks t r ++ askedChecks clock t (permission clock t r) r (action r) ++ (15, b) ∷ [])))
+    (no-reply-fits t (asked clock r 0) unread ∙ sym (no-reply-fits t (asked clock r room) unread))
+    ∙ sym (zero-passes e t (asked clock r room))
+
+served-unread : (r : List ℕ) → isSecurity (resource r) ≡ false → reads r ≡ false
+unfolding reads
+served-unread r a = rw (a, and-false)
+
+and-where : (a : Bool) {b c : Bool} → (a ≡ true → b ≡ c) → (a && b) ≡ (a && c)
+and-where true h = h refl
+and-where false h = refl
+
+-- ---- of a record
+
+asked-set : (clock : ℕ) (t : Tables) (r : List ℕ) → asksLinks r ≡ true → linkSet clock t r ≡ setOf (λ n. permits clock t (ownRecord r n)) links
+unfolding linkSet
+asked-set clock t r a = rw a
+
+pub yard-set : (d : Defaults) (t : Tables) (q : Request) → asksLinks (q .bytes) ≡ true → replyTo d t q .answer ≡ 0 → YardSet d t q
+yard-set d t q asks z =
+    let r = q .bytes in
+    let passes : ℕ → Bool = λ n. permits (q .clock) t (ownRecord r n) in
+    let e = permitted-passes d t q z in
+    let l = long-enough r (passed (checks t (permission (q .clock) t r) q) e 2) in
+    let are : replyTo d t q .links ≡ linksOf (q .clock) t r = ap (λ (o : Outcome). o .reply .links) (passed-outcome d t q e) in
+    let is : replyTo d t q .links .set ≡ setOf passes links = ap (λ (x : Links). x .set) are ∙ asked-set (q .clock) t r asks in
+    let small : replyTo d t q .links .set < 2 ^ 64 = rw is (le-trans (set-below passes 7 links links-rise) (omega arith)) in
+    record {
+      member = λ n h d′ room.
+          ap (λ (x : ℕ). inLinks x n) is
+          ∙ in-set passes 7 links links-rise n h
+          ∙ and-where (isOneOf links n) (λ m.
+          permits-zero (q .clock) t (ownRecord r n) (served-unread (ownRecord r n) (ap (λ (i : ℕ). isSecurity i) (own r n l h .resource-is) ∙ link-plain n m)) d′ room);
+      own = λ n h. own r n l h;
+      fits = small;
+      size = ap (λ (x : Links). x .size) are ∙ ap (λ (x : Links). ones (x .set)) (sym are) ∙ ones-held (replyTo d t q .links .set) small;
+    }
+
+-- every other record: one that is refused, and one that is no RETRIEVE or UPDATE of /yard
+pub record NoSet (d : Defaults) (t : Tables) (q : Request) : Type 0 where
+  pub refused : (replyTo d t q .answer ≡ 0 → ⊥) → replyTo d t q .links ≡ noLinks
+  pub other : asksLinks (q .bytes) ≡ false → replyTo d t q .links ≡ noLinks
+
+not-asked : (clock : ℕ) (t : Tables) (r : List ℕ) → asksLinks r ≡ false → linksOf clock t r ≡ noLinks
+unfolding linkSet ones onesIn
+not-asked clock t r a = rw a
+
+pub no-set : (d : Defaults) (t : Tables) (q : Request) → NoSet d t q
+no-set d t q = record {
+  refused = λ other. not-told (λ (x : Reply). x .links) noLinks d t q (λ n. refl) (λ z. absurd (other z));
+  other = λ a. not-told (λ (x : Reply). x .links) noLinks d t q (λ n. refl) (λ z. ap (λ (o : Outcome). o .reply .links) (passed-outcome d t q (permitted-passes d t q z)) ∙ not-asked (q .clock) t (q .bytes) a);
+}
