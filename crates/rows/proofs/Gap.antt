@@ -121,7 +121,8 @@ module _ (goes : Row → Bool) where
   fewer-stay [] h = absurd (false≢true h)
   fewer-stay (w ∷ ws) h = go (goes w) h (fewer-stay ws)
     where
-      go : (t : Bool) → (t || some goes ws) ≡ true → (some goes ws ≡ true → length (without goes ws) < length ws) → length (cond t (without goes ws) (w ∷ without goes ws)) < suc (length ws)
+      go : (t : Bool) → (t || some goes ws) ≡ true → (some goes ws ≡ true → length (without goes ws) < length ws)
+          → length (cond t (without goes ws) (w ∷ without goes ws)) < suc (length ws)
       go true h ih = omega (arith, length-without goes ws)
       go false h ih = omega (arith, ih h)
 

@@ -26,7 +26,8 @@ module _ (passes : Row → Bool) where
       step e ih (inl is) = ap passes is ∙ e
       step e ih (inr m) = ih m
 
-      go : (t : Bool) → passes row ≡ t → List·Memᴰ w (cond t (without passes rows) (row ∷ without passes rows)) → (List·Memᴰ w (without passes rows) → passes w ≡ false) → passes w ≡ false
+      go : (t : Bool) → passes row ≡ t → List·Memᴰ w (cond t (without passes rows) (row ∷ without passes rows))
+          → (List·Memᴰ w (without passes rows) → passes w ≡ false) → passes w ≡ false
       go true e m ih = ih m
       go false e m ih = step e ih (List·Memᴰ·cases-cons m)
 
@@ -36,7 +37,8 @@ module _ (passes : Row → Bool) where
   without-left w [] m f = absurd (List·Memᴰ·not-nil m)
   without-left w (row ∷ rows) m f = go (passes row) refl (List·Memᴰ·cases-cons m) (λ m. without-left w rows m f)
     where
-      go : (t : Bool) → passes row ≡ t → (w ≡ row) ⊎ List·Memᴰ w rows → (List·Memᴰ w rows → List·Memᴰ w (without passes rows)) → List·Memᴰ w (cond t (without passes rows) (row ∷ without passes rows))
+      go : (t : Bool) → passes row ≡ t → (w ≡ row) ⊎ List·Memᴰ w rows → (List·Memᴰ w rows → List·Memᴰ w (without passes rows))
+          → List·Memᴰ w (cond t (without passes rows) (row ∷ without passes rows))
       go true e (inl is) ih = absurd (true≢false (sym e ∙ ap passes (sym is) ∙ f))
       go true e (inr m) ih = ih m
       go false e (inl is) ih = List·Memᴰ·head is

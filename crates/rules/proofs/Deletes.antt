@@ -27,7 +27,7 @@ use Rattle.rules.specs.Checks.{checks, isMalformed, missing}
 use Rattle.rules.specs.Outcome.{Outcome, effect, replyTo, tablesAfter}
 use Rattle.rules.proofs.Bools.{cond-cases, bool-cases, contradiction, and-left, and-right, and-both}
 use Rattle.rules.proofs.Answers.{passed}
-use Rattle.rules.proofs.Refusals.{permitted-passes, passed-outcome}
+use Rattle.rules.proofs.Refusals.{permitted-passes, permitted-outcome}
 
 -- ---- what it asks for
 
@@ -103,7 +103,7 @@ module _ (d : Defaults) (t : Tables) (q : Request) (k : Table) where
       let r = q .bytes in
       let p = permission (q .clock) t r in
       let e = permitted-passes d t q z in
-      let o = passed-outcome d t q e in
+      let o = permitted-outcome d t q z in
       let i = delete-is k r h in
       let m = removing k (body r) (ap isMalformed (sym i) ∙ passed (checks t p q) e 10) in
       let a : action r ≡ Remove k (m .0) = i ∙ m .1 in

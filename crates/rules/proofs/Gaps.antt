@@ -68,7 +68,10 @@ place-room : (k : Table) (i : ℕ) → i < capacity k → i * stride k + stride 
 place-room k i h = le-trans (omega (arith, suc-mul i (stride k))) (mul-le-mul-right (stride k) h)
 
 -- where no other byte changes, the old bytes with the places overwritten are the new ones
-overwritten-is : (s : ℕ) (p : Places) (old new : List ℕ) → take (p .first * s) new ≡ take (p .first * s) old → drop ((p .first + p .many) * s) new ≡ drop ((p .first + p .many) * s) old → overwritten s p old new ≡ new
+overwritten-is : (s : ℕ) (p : Places) (old new : List ℕ)
+    → take (p .first * s) new ≡ take (p .first * s) old
+    → drop ((p .first + p .many) * s) new ≡ drop ((p .first + p .many) * s) old
+    → overwritten s p old new ≡ new
 unfolding overwritten
 overwritten-is s p old new front rest =
     ap₂ (λ (x y : List ℕ). x ++ (take (p .many * s) (drop (p .first * s) new) ++ y)) (sym front)
@@ -141,7 +144,8 @@ module _ (k : Table) (t : Tables) (goes : Row → Bool) (h : sound t ≡ true) (
   pub places-unused : (i : ℕ) → count k after ≤ i → i < capacity k → numberAt (stride k) i (bytes k after) ≡ 0 ∷ 0 ∷ []
   places-unused i m c =
       ap (numberAt (stride k) i) (with-bytes k t (without goes (rows k t)))
-      ∙ gap.number-unused (stride k) (capacity k * stride k) i (without goes (rows k t)) long′ (two-long k) (omega (arith, with-count k t (without goes (rows k t)))) (place-room k i c)
+      ∙ gap.number-unused (stride k) (capacity k * stride k) i (without goes (rows k t)) long′ (two-long k)
+      (omega (arith, with-count k t (without goes (rows k t)))) (place-room k i c)
 
   -- and no byte of a row before the first is written
   pub bytes-kept : take (gapOf goes (rows k t) .first * stride k) (bytes k after) ≡ take (gapOf goes (rows k t) .first * stride k) (bytes k t)
@@ -156,12 +160,15 @@ module _ (k : Table) (t : Tables) (goes : Row → Bool) (h : sound t ≡ true) (
       go false s = ap (take (0 * stride k)) (none-same s)
 
   -- nor a byte behind the last
-  pub bytes-rest : drop ((gapOf goes (rows k t) .first + gapOf goes (rows k t) .many) * stride k) (bytes k after) ≡ drop ((gapOf goes (rows k t) .first + gapOf goes (rows k t) .many) * stride k) (bytes k t)
+  pub bytes-rest :
+      drop ((gapOf goes (rows k t) .first + gapOf goes (rows k t) .many) * stride k) (bytes k after)
+      ≡ drop ((gapOf goes (rows k t) .first + gapOf goes (rows k t) .many) * stride k) (bytes k t)
   unfolding gapOf
   bytes-rest = go (some goes (rows k t)) refl
     where
       go : (b : Bool) → some goes (rows k t) ≡ b
-          → drop ((cond b found nowhere .first + cond b found nowhere .many) * stride k) (bytes k after) ≡ drop ((cond b found nowhere .first + cond b found nowhere .many) * stride k) (bytes k t)
+          → drop ((cond b found nowhere .first + cond b found nowhere .many) * stride k) (bytes k after)
+          ≡ drop ((cond b found nowhere .first + cond b found nowhere .many) * stride k) (bytes k t)
       go true s =
           let n = found .first + found .many in
           let e : length (rows k t) ≤ n = omega arith in

@@ -62,7 +62,8 @@ subject-is : (b : List ℕ) → length b ≡ 16 → isMalformed (deleteCreds b) 
 unfolding ifAllowed
 subject-is b l m =
     by-subject b l
-    ∙ cond-cases (λ (a : Action). isMalformed a ≡ false → a ≡ Remove Creds 2) (not (isNil b)) (λ _ _. refl) (λ _ h. contradiction refl h) (ap isMalformed (sym (by-subject b l)) ∙ m)
+    ∙ cond-cases (λ (a : Action). isMalformed a ≡ false → a ≡ Remove Creds 2) (not (isNil b)) (λ _ _. refl) (λ _ h. contradiction refl h)
+    (ap isMalformed (sym (by-subject b l)) ∙ m)
 
 other-subject : (s : List ℕ) (w : Row) → (credSubject w ≡ s → ⊥) → hasSubject s w ≡ false
 other-subject s w other = go (hasSubject s w) refl
@@ -80,7 +81,8 @@ delete-unread : (r : List ℕ) → verb r ≡ 3 → reads r ≡ false
 unfolding reads
 delete-unread r v = rw v
 
-last-checks : (m short : Bool) (found : Bool) → m ≡ not found → short ≡ false → verdict ((13, m) ∷ (14, false) ∷ (22, false) ∷ (15, short) ∷ []) ≡ cond found Pass (Refuse 13)
+last-checks : (m short found : Bool) → m ≡ not found → short ≡ false
+    → verdict ((13, m) ∷ (14, false) ∷ (22, false) ∷ (15, short) ∷ []) ≡ cond found Pass (Refuse 13)
 unfolding verdict
 last-checks m short true e f = rw (e, f)
 last-checks m short false e f = rw e
@@ -92,12 +94,14 @@ module _ (d : Defaults) (t : Tables) (q : Request) (asks : deletes Creds (q .byt
   subject-gone z =
       let b = body (q .bytes) in
       let x = deleted d t q Creds asks z in
-      let i : Remove Creds (x .at) ≡ Remove Creds 2 = sym (x .is) ∙ delete-is Creds (q .bytes) asks ∙ subject-is b long (ap isMalformed (sym (delete-is Creds (q .bytes) asks) ∙ x .is)) in
+      let is-delete = delete-is Creds (q .bytes) asks in
+      let by : Remove Creds (x .at) ≡ Remove Creds 2 = sym (x .is) ∙ is-delete ∙ subject-is b long (ap isMalformed (sym is-delete ∙ x .is)) in
       let at : x .at ≡ 2 = cc in
       let goes : hasKey (x .at) b ≡ hasSubject b = ap (λ (n : ℕ). hasKey n b) at ∙ key-subject b long in
       let s = removed-sound Creds t (hasSubject b) (x .sound) in
-      let is : tablesAfter d t q ≡ withRows Creds t (without (hasSubject b) (rows Creds t)) = x .tables ∙ ap (λ (g : Row → Bool). withRows Creds t (without g (rows Creds t))) goes in
-      let are : rows Creds (tablesAfter d t q) ≡ without (hasSubject b) (rows Creds t) = ap (rows Creds) is ∙ rows-with Creds t (without (hasSubject b) (rows Creds t)) (s .few) (s .stores) in
+      let ws = without (hasSubject b) (rows Creds t) in
+      let is : tablesAfter d t q ≡ withRows Creds t ws = x .tables ∙ ap (λ (g : Row → Bool). withRows Creds t (without g (rows Creds t))) goes in
+      let are : rows Creds (tablesAfter d t q) ≡ ws = ap (rows Creds) is ∙ rows-with Creds t ws (s .few) (s .stores) in
       record {
         rows-left = are;
         gone = λ w m e. contradiction (has-own b w e) (without-gone (hasSubject b) w (rows Creds t) (rw are at m));
@@ -107,14 +111,16 @@ module _ (d : Defaults) (t : Tables) (q : Request) (asks : deletes Creds (q .byt
       }
 
   -- where the earlier checks pass: 0 where a row has the subject, and else 13
-  pub subject-answer : noneApplies (earlier t (permission (q .clock) t (q .bytes)) (q .bytes)) ≡ true → replyTo d t q .answer ≡ cond (some (hasSubject (body (q .bytes))) (rows Creds t)) 0 13
+  pub subject-answer : noneApplies (earlier t (permission (q .clock) t (q .bytes)) (q .bytes)) ≡ true
+      → replyTo d t q .answer ≡ cond (some (hasSubject (body (q .bytes))) (rows Creds t)) 0 13
   subject-answer h =
       let r = q .bytes in
       let b = body r in
       let p = permission (q .clock) t r in
       let some-has = some (hasSubject b) (rows Creds t) in
       let e : verdict (earlier t p r) ≡ Pass = none-permitted (earlier t p r) h in
-      let i : action r ≡ Remove Creds 2 = delete-is Creds r asks ∙ subject-is b long (ap isMalformed (sym (delete-is Creds r asks)) ∙ passed (earlier t p r) e 10) in
+      let is-delete = delete-is Creds r asks in
+      let i : action r ≡ Remove Creds 2 = is-delete ∙ subject-is b long (ap isMalformed (sym is-delete) ∙ passed (earlier t p r) e 10) in
       let m : missing t b (Remove Creds 2) ≡ not some-has =
       ap (λ (n : ℕ). not (eqb n 0) && not (some (hasKey 2 b) (rows Creds t))) long ∙ ap (λ (g : Row → Bool). not (some g (rows Creds t))) (key-subject b long) in
       let v : verdict (checks t p q) ≡ cond some-has Pass (Refuse 13) =

@@ -21,7 +21,7 @@ use Rattle.rules.proofs.Bools.{cond-cases}
 use Rattle.rules.proofs.Answers.{rows-are}
 use Rattle.rules.proofs.TableLaws.{rows-with}
 use Rattle.rules.proofs.SoundKept.{removed-sound}
-use Rattle.rules.proofs.Refusals.{not-told, permitted-passes, passed-outcome}
+use Rattle.rules.proofs.Refusals.{not-told, permitted-outcome}
 use Rattle.rules.proofs.Gaps as gaps
 use Rattle.rules.proofs.Gaps.{with-count}
 use Rattle.rules.proofs.Deletes.{deleted, quiet}
@@ -52,7 +52,10 @@ held k t h = ap length (rows-are k t h) ∙ length-rowsOf (stride k) (count k t)
 -- they end with the last row, also where there is none
 gap-ends : (goes : Row → Bool) (ws : List Row) → (some goes ws ≡ false → ws ≡ []) → gapOf goes ws .first + gapOf goes ws .many ≡ length ws
 unfolding gapOf
-gap-ends goes ws none = cond-cases (λ (p : Places). p .first + p .many ≡ length ws) (some goes ws) (λ _. omega (arith, gap.before-all goes ws)) (λ e. sym (ap length (none e)))
+gap-ends goes ws none =
+    cond-cases (λ (p : Places). p .first + p .many ≡ length ws) (some goes ws)
+    (λ _. omega (arith, gap.before-all goes ws))
+    (λ e. sym (ap length (none e)))
 
 -- where no fewer rows stay, there are no places
 gap-none : (goes : Row → Bool) (ws : List Row) → length (without goes ws) ≡ length ws → gapOf goes ws ≡ nowhere
@@ -61,7 +64,8 @@ gap-none goes ws same = cond-cases (λ (p : Places). p ≡ nowhere) (some goes w
 
 -- ---- of a record
 
-pub delete-worn : (d : Defaults) (t : Tables) (q : Request) (k : Table) → deletes k (q .bytes) ≡ true → replyTo d t q .answer ≡ 0 → length (bytes k t) ≡ capacity k * stride k
+pub delete-worn : (d : Defaults) (t : Tables) (q : Request) (k : Table)
+    → deletes k (q .bytes) ≡ true → replyTo d t q .answer ≡ 0 → length (bytes k t) ≡ capacity k * stride k
     → Worn k t (tablesAfter d t q) (replyTo d t q .places)
 delete-worn d t q k h z l =
     let x = deleted d t q k h z in
@@ -86,11 +90,14 @@ pub record NoPlaces (d : Defaults) (t : Tables) (q : Request) : Type 0 where
   pub no-delete : ((k : Table) → deletes k (q .bytes) ≡ false) → replyTo d t q .places ≡ nowhere
   pub no-rows : (k : Table) → deletes k (q .bytes) ≡ true → count k (tablesAfter d t q) ≡ count k t → replyTo d t q .places ≡ nowhere
 
+places-unless : (d : Defaults) (t : Tables) (q : Request) → (replyTo d t q .answer ≡ 0 → replyTo d t q .places ≡ nowhere) → replyTo d t q .places ≡ nowhere
+places-unless d t q = not-told (λ (x : Reply). x .places) nowhere d t q (λ n. refl)
+
 pub no-places : (d : Defaults) (t : Tables) (q : Request) → NoPlaces d t q
 no-places d t q = record {
-  refused = λ other. not-told (λ (x : Reply). x .places) nowhere d t q (λ n. refl) (λ z. absurd (other z));
-  no-delete = λ other. not-told (λ (x : Reply). x .places) nowhere d t q (λ n. refl) (λ z. ap (λ (o : Outcome). o .reply .places) (passed-outcome d t q (permitted-passes d t q z)) ∙ quiet t (q .bytes) other);
-  no-rows = λ k h same. not-told (λ (x : Reply). x .places) nowhere d t q (λ n. refl) (λ z.
+  refused = λ other. places-unless d t q (λ z. absurd (other z));
+  no-delete = λ other. places-unless d t q (λ z. ap (λ (o : Outcome). o .reply .places) (permitted-outcome d t q z) ∙ quiet t (q .bytes) other);
+  no-rows = λ k h same. places-unless d t q (λ z.
       let x = deleted d t q k h z in
       let ws = without (hasKey (x .at) (body (q .bytes))) (rows k t) in
       x .places ∙ gap-none (hasKey (x .at) (body (q .bytes))) (rows k t) (sym (with-count k t ws) ∙ ap (count k) (sym (x .tables)) ∙ same ∙ sym (held k t (x .sound))));

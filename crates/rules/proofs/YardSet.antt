@@ -21,12 +21,13 @@ use Rattle.rules.specs.Checks.{checks, formChecks, askedChecks, verdict,
 use Rattle.rules.specs.Outcome.{Reply, Outcome, replyTo}
 use Rattle.rules.proofs.Answers.{passed, long-enough, no-reply-fits}
 use Rattle.rules.proofs.BodyLaws.{security-number}
-use Rattle.rules.proofs.Refusals.{zero-passes, not-told, permitted-passes, passed-outcome}
+use Rattle.rules.proofs.Refusals.{zero-passes, not-told, permitted-passes, permitted-outcome}
 use Rattle.rules.proofs.LinkLaws.{Own, own, Rising, set-below, in-set, above-floor, ones-held}
 
 -- of a permitted RETRIEVE or UPDATE of /yard
 pub record YardSet (d : Defaults) (t : Tables) (q : Request) : Type 0 where
-  -- a resource is in the set exactly where it is a link whose own record gets answer 0, at the same clock and on the same tables, with any buffer and for any default lists
+  -- a resource is in the set exactly where it is a link whose own record gets answer 0,
+  -- at the same clock and on the same tables, with any buffer and for any default lists
   pub member : (n : ℕ) → n < 64 → (d′ : Defaults) (room : ℕ)
       → inLinks (replyTo d t q .links .set) n ≡ (isOneOf links n && eqb (replyTo d′ t (asked (q .clock) (ownRecord (q .bytes) n) room) .answer) 0)
   -- that record has the verb and the sender of the one that asks
@@ -48,12 +49,13 @@ link-plain n h = go (isSecurity n) refl
     go false e = refl
 
 -- a record that is not read gets answer 0 where it is permitted with no buffer, whatever its buffer
-permits-zero : (clock : ℕ) (t : Tables) (r : List ℕ) → reads r ≡ false → (e : Defaults) (room : ℕ) → permits clock t r ≡ eqb (replyTo e t (asked clock r room) .answer) 0
+permits-zero : (clock : ℕ) (t : Tables) (r : List ℕ) → reads r ≡ false → (d : Defaults) (room : ℕ)
+    → permits clock t r ≡ eqb (replyTo d t (asked clock r room) .answer) 0
 unfolding permits
-permits-zero clock t r unread e room =
+permits-zero clock t r unread d room =
     ap (λ (b : Bool). isPass (verdict (formChecks t r ++ askedChecks clock t (permission clock t r) r (action r) ++ (15, b) ∷ [])))
     (no-reply-fits t (asked clock r 0) unread ∙ sym (no-reply-fits t (asked clock r room) unread))
-    ∙ sym (zero-passes e t (asked clock r room))
+    ∙ sym (zero-passes d t (asked clock r room))
 
 served-unread : (r : List ℕ) → isSecurity (resource r) ≡ false → reads r ≡ false
 unfolding reads
@@ -75,7 +77,7 @@ yard-set d t q asks z =
     let passes : ℕ → Bool = λ n. permits (q .clock) t (ownRecord r n) in
     let e = permitted-passes d t q z in
     let l = long-enough r (passed (checks t (permission (q .clock) t r) q) e 2) in
-    let are : replyTo d t q .links ≡ linksOf (q .clock) t r = ap (λ (o : Outcome). o .reply .links) (passed-outcome d t q e) in
+    let are : replyTo d t q .links ≡ linksOf (q .clock) t r = ap (λ (o : Outcome). o .reply .links) (permitted-outcome d t q z) in
     let is : replyTo d t q .links .set ≡ setOf passes links = ap (λ (x : Links). x .set) are ∙ asked-set (q .clock) t r asks in
     let small : replyTo d t q .links .set < 2 ^ 64 = rw is (le-trans (set-below passes 7 links links-rise) (omega arith)) in
     record {
@@ -98,8 +100,11 @@ not-asked : (clock : ℕ) (t : Tables) (r : List ℕ) → asksLinks r ≡ false 
 unfolding linkSet ones onesIn
 not-asked clock t r a = rw a
 
+links-unless : (d : Defaults) (t : Tables) (q : Request) → (replyTo d t q .answer ≡ 0 → replyTo d t q .links ≡ noLinks) → replyTo d t q .links ≡ noLinks
+links-unless d t q = not-told (λ (x : Reply). x .links) noLinks d t q (λ n. refl)
+
 pub no-set : (d : Defaults) (t : Tables) (q : Request) → NoSet d t q
 no-set d t q = record {
-  refused = λ other. not-told (λ (x : Reply). x .links) noLinks d t q (λ n. refl) (λ z. absurd (other z));
-  other = λ a. not-told (λ (x : Reply). x .links) noLinks d t q (λ n. refl) (λ z. ap (λ (o : Outcome). o .reply .links) (passed-outcome d t q (permitted-passes d t q z)) ∙ not-asked (q .clock) t (q .bytes) a);
+  refused = λ other. links-unless d t q (λ z. absurd (other z));
+  other = λ a. links-unless d t q (λ z. ap (λ (o : Outcome). o .reply .links) (permitted-outcome d t q z) ∙ not-asked (q .clock) t (q .bytes) a);
 }
