@@ -1,13 +1,14 @@
--- Theorems, U9: the set that a permitted RETRIEVE or UPDATE of /yard answers holds exactly the links whose own record gets answer 0, and its size is their number.
+-- Theorems, U9: the set that a permitted RETRIEVE or UPDATE of /yard answers holds exactly those of 8 to 14 whose own record gets answer 0.
 -- Every other record has the empty set and size 0. Of a record at any clock, with any buffer and for any default lists.
 use Prim.Native.Nat.{ℕ, _<_, _^_}
 use native.Mathlib.Nat.{le-trans}
 use native.Mathlib.Omega.{arith}
-use mathlib.Core.Path.{_≡_, refl, sym, ap, _∙_}
+use mathlib.Core.Path.{_≡_, refl, sym, ap, ap₂, _∙_}
 use mathlib.Core.Bool.{Bool, true, false, _&&_, and-false}
 use mathlib.Core.List.{List, [], _∷_, _++_}
 use lib.Count.{ones, onesIn}
-use lib.Dec.{eqb}
+use lib.Dec.{eqb, leb, ltb, leb·suc-suc}
+use borrow.Author.Tests.{leb-true}
 use Rattle.rules.specs.declared.Tables.{Tables}
 use Rattle.rules.specs.declared.Links.{Links}
 use Rattle.rules.specs.Directory.{isSecurity, links}
@@ -16,20 +17,20 @@ use Rattle.rules.specs.Defaults.{Defaults}
 use Rattle.rules.specs.Permission.{permission}
 use Rattle.rules.specs.Action.{action}
 use Rattle.rules.specs.Reading.{reads}
-use Rattle.rules.specs.Links.{ownRecord, permits, setOf, asksLinks, linkSet, linksOf, noLinks, inLinks, isOneOf, countBelow}
+use Rattle.rules.specs.Links.{ownRecord, permits, setOf, asksLinks, linkSet, linksOf, noLinks, inLinks, countBelow}
 use Rattle.rules.specs.Checks.{checks, formChecks, askedChecks, verdict, isPass}
 use Rattle.rules.specs.Outcome.{Reply, Outcome, replyTo}
 use Rattle.rules.proofs.Answers.{passed, long-enough, no-reply-fits}
 use Rattle.rules.proofs.BodyLaws.{security-number}
 use Rattle.rules.proofs.Refusals.{zero-passes, not-told, permitted-passes, permitted-outcome}
-use Rattle.rules.proofs.LinkLaws.{Own, own, Rising, set-below, in-set, above-floor, ones-held}
+use Rattle.rules.proofs.LinkLaws.{Own, own, from, within, set-below, in-set, ones-held}
 
 -- of a permitted RETRIEVE or UPDATE of /yard
 pub record YardSet (d : Defaults) (t : Tables) (q : Request) : Type 0 where
-  -- a resource is in the set exactly where it is a link whose own record gets answer 0,
+  -- a resource is in the set exactly where it is one of 8 to 14, and its own record gets answer 0,
   -- at the same clock and on the same tables, with any buffer and for any default lists
   pub member : (n : ℕ) → n < 64 → (d′ : Defaults) (room : ℕ)
-      → inLinks (replyTo d t q .links .set) n ≡ (isOneOf links n && eqb (replyTo d′ t (asked (q .clock) (ownRecord (q .bytes) n) room) .answer) 0)
+      → inLinks (replyTo d t q .links .set) n ≡ (leb 8 n && leb n 14 && eqb (replyTo d′ t (asked (q .clock) (ownRecord (q .bytes) n) room) .answer) 0)
   -- that record has the verb and the sender of the one that asks
   pub own : (n : ℕ) → n < 64 → Own (q .bytes) n
   -- the set has 64 bits, and the size is the number of its members
@@ -38,14 +39,11 @@ pub record YardSet (d : Defaults) (t : Tables) (q : Request) : Type 0 where
 
 -- ---- a link's own record
 
-links-rise : Rising 7 links
-links-rise = (omega arith, omega arith, (omega arith, omega arith, (omega arith, omega arith, (omega arith, omega arith, (omega arith, omega arith, (omega arith, omega arith, (omega arith, omega arith, tt)))))))
-
-link-plain : (n : ℕ) → isOneOf links n ≡ true → isSecurity n ≡ false
+link-plain : (n : ℕ) → leb 8 n ≡ true → isSecurity n ≡ false
 link-plain n h = go (isSecurity n) refl
   where
     go : (b : Bool) → isSecurity n ≡ b → b ≡ false
-    go true e = absurd (omega (arith, security-number n e, above-floor 7 links links-rise n h))
+    go true e = absurd (omega (arith, security-number n e, leb-true 8 n h))
     go false e = refl
 
 -- a record that is not read gets answer 0 where it is permitted with no buffer, whatever its buffer
@@ -61,13 +59,18 @@ served-unread : (r : List ℕ) → isSecurity (resource r) ≡ false → reads r
 unfolding reads
 served-unread r a = rw (a, and-false)
 
-and-where : (a : Bool) {b c : Bool} → (a ≡ true → b ≡ c) → (a && b) ≡ (a && c)
-and-where true h = h refl
-and-where false h = refl
+-- 8 to 14
+from-8 : (n : ℕ) {b c : Bool} → (leb 8 n ≡ true → b ≡ c) → (within 8 7 n && b) ≡ (leb 8 n && leb n 14 && c)
+from-8 n {b} {c} h = go (leb 8 n) h
+  where
+    go : (low : Bool) → (low ≡ true → b ≡ c) → ((low && ltb n 15) && b) ≡ ((low && leb n 14) && c)
+    go true h = ap₂ (λ (x y : Bool). x && y) (leb·suc-suc n 14) (h refl)
+    go false h = refl
 
 -- ---- of a record
 
-asked-set : (clock : ℕ) (t : Tables) (r : List ℕ) → asksLinks r ≡ true → linkSet clock t r ≡ setOf (λ n. permits clock t (ownRecord r n)) links
+-- the links are seven from 8 on
+asked-set : (clock : ℕ) (t : Tables) (r : List ℕ) → asksLinks r ≡ true → linkSet clock t r ≡ setOf (λ n. permits clock t (ownRecord r n)) (from 8 7)
 unfolding linkSet
 asked-set clock t r a = rw a
 
@@ -78,14 +81,15 @@ yard-set d t q asks z =
     let e = permitted-passes d t q z in
     let l = long-enough r (passed (checks t (permission (q .clock) t r) q) e 2) in
     let are : replyTo d t q .links ≡ linksOf (q .clock) t r = ap (λ (o : Outcome). o .reply .links) (permitted-outcome d t q z) in
-    let is : replyTo d t q .links .set ≡ setOf passes links = ap (λ (x : Links). x .set) are ∙ asked-set (q .clock) t r asks in
-    let small : replyTo d t q .links .set < 2 ^ 64 = rw is (le-trans (set-below passes 7 links links-rise) (omega arith)) in
+    let is : replyTo d t q .links .set ≡ setOf passes (from 8 7) = ap (λ (x : Links). x .set) are ∙ asked-set (q .clock) t r asks in
+    let small : replyTo d t q .links .set < 2 ^ 64 = rw is (le-trans (set-below passes 7 7 (omega arith)) (omega arith)) in
     record {
       member = λ n h d′ room.
           ap (λ (x : ℕ). inLinks x n) is
-          ∙ in-set passes 7 links links-rise n h
-          ∙ and-where (isOneOf links n) (λ m.
-          permits-zero (q .clock) t (ownRecord r n) (served-unread (ownRecord r n) (ap (λ (i : ℕ). isSecurity i) (own r n l h .resource-is) ∙ link-plain n m)) d′ room);
+          ∙ in-set passes 8 7 (omega arith) n h
+          ∙ from-8 n (λ m.
+          let plain = ap (λ (i : ℕ). isSecurity i) (own r n l h .resource-is) ∙ link-plain n m in
+          permits-zero (q .clock) t (ownRecord r n) (served-unread (ownRecord r n) plain) d′ room);
       own = λ n h. own r n l h;
       fits = small;
       size = ap (λ (x : Links). x .size) are ∙ ap (λ (x : Links). ones (x .set)) (sym are) ∙ ones-held (replyTo d t q .links .set) small;

@@ -1,7 +1,7 @@
 -- The links of /yard (U9): of a RETRIEVE or an UPDATE, those whose own record would be permitted.
 -- A link's own record has the verb and the sender of the record that asks, the link's number and no body.
 use Prim.Native.Nat.{ℕ, zero, suc, _+_, _*_, _-_, _/_, _%_, _^_}
-use mathlib.Core.Bool.{Bool, false, _&&_, _||_, cond}
+use mathlib.Core.Bool.{Bool, _&&_, _||_, cond}
 use mathlib.Core.List.{List, [], _∷_}
 use lib.Count.{ones}
 use lib.Dec.{eqb}
@@ -45,11 +45,6 @@ noLinks = record { set = 0; size = 0 }
 -- the resource n, which has 6 bits, is in the set
 unfoldable pub inLinks : ℕ → ℕ → Bool
 inLinks set n = eqb (set / 2 ^ (63 - n) % 2) 1
-
--- n is one of these numbers
-unfoldable pub isOneOf : List ℕ → ℕ → Bool
-isOneOf [] n = false
-isOneOf (m ∷ ms) n = eqb n m || isOneOf ms n
 
 -- how many numbers below m pass
 unfoldable pub countBelow : ℕ → (ℕ → Bool) → ℕ
