@@ -1,4 +1,4 @@
--- The laws of the definitions, and the theorems over them: Refusals, SoundKept, ReadBack, Gaps, Wear, SubjectRows, LinkLaws, YardSet, Isolated, Built, Examples, RoleExamples.
+-- The laws of the definitions, and the theorems over them: Refusals, SoundKept, ReadBack, Gaps, Wear, SubjectRows, LinkLaws, AnyBody, YardSet, Isolated, Built, Examples, RoleExamples.
 pub mod Bools
 pub mod BitLaws
 pub mod RecordLaws
@@ -22,6 +22,7 @@ pub mod Deletes
 pub mod Wear
 pub mod SubjectRows
 pub mod LinkLaws
+pub mod AnyBody
 pub mod YardSet
 pub mod Alike
 pub mod Isolated

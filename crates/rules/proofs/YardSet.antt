@@ -1,6 +1,6 @@
 -- Theorems, U9: the set that a permitted RETRIEVE or UPDATE of /yard answers holds exactly those of 8 to 14 whose own record gets answer 0.
 -- Every other record has the empty set and size 0. Of a record at any clock, with any buffer and for any default lists.
-use Prim.Native.Nat.{ℕ, _<_, _^_}
+use Prim.Native.Nat.{ℕ, _+_, _*_, _/_, _%_, _^_, _≤_, _<_}
 use native.Mathlib.Nat.{le-trans}
 use native.Mathlib.Omega.{arith}
 use mathlib.Core.Path.{_≡_, refl, sym, ap, ap₂, _∙_}
@@ -8,11 +8,13 @@ use mathlib.Core.Bool.{Bool, true, false, _&&_, and-false}
 use mathlib.Core.List.{List, [], _∷_, _++_}
 use lib.Count.{ones, onesIn}
 use lib.Dec.{eqb, leb, ltb, leb·suc-suc}
-use borrow.Author.Tests.{leb-true}
+use lib.ListN.{length}
+use borrow.Author.Tests.{leb-true, le-leb}
 use Rattle.rules.specs.declared.Tables.{Tables}
 use Rattle.rules.specs.declared.Links.{Links}
 use Rattle.rules.specs.Directory.{isSecurity, links}
-use Rattle.rules.specs.Record.{Request, asked, resource}
+use Rattle.rules.specs.Bits.{word}
+use Rattle.rules.specs.Record.{Request, asked, verb, connection, resource, credential}
 use Rattle.rules.specs.Defaults.{Defaults}
 use Rattle.rules.specs.Permission.{permission}
 use Rattle.rules.specs.Action.{action}
@@ -23,6 +25,7 @@ use Rattle.rules.specs.Outcome.{Reply, Outcome, replyTo}
 use Rattle.rules.proofs.Answers.{passed, long-enough, no-reply-fits}
 use Rattle.rules.proofs.BodyLaws.{security-number}
 use Rattle.rules.proofs.Refusals.{zero-passes, not-told, permitted-passes, permitted-outcome}
+use Rattle.rules.proofs.AnyBody.{any-body}
 use Rattle.rules.proofs.LinkLaws.{Own, own, from, within, set-below, in-set, ones-held}
 
 -- of a permitted RETRIEVE or UPDATE of /yard
@@ -31,8 +34,10 @@ pub record YardSet (d : Defaults) (t : Tables) (q : Request) : Type 0 where
   -- at the same clock and on the same tables, with any buffer and for any default lists
   pub member : (n : ℕ) → n < 64 → (d′ : Defaults) (room : ℕ)
       → inLinks (replyTo d t q .links .set) n ≡ (leb 8 n && leb n 14 && eqb (replyTo d′ t (asked (q .clock) (ownRecord (q .bytes) n) room) .answer) 0)
-  -- that record has the verb and the sender of the one that asks
+  -- that record has the verb and the sender of the one that asks, and no body; with any body that has room it gets the same answer
   pub own : (n : ℕ) → n < 64 → Own (q .bytes) n
+  pub with-body : (n : ℕ) → n < 64 → 8 ≤ n → (b : List ℕ) → length b ≤ 252 → (d′ : Defaults) (room : ℕ)
+      → replyTo d′ t (asked (q .clock) (ownRecord (q .bytes) n ++ b) room) .answer ≡ replyTo d′ t (asked (q .clock) (ownRecord (q .bytes) n) room) .answer
   -- the set has 64 bits, and the size is the number of its members
   pub fits : replyTo d t q .links .set < 2 ^ 64
   pub size : replyTo d t q .links .size ≡ countBelow 64 (inLinks (replyTo d t q .links .set))
@@ -59,6 +64,11 @@ served-unread : (r : List ℕ) → isSecurity (resource r) ≡ false → reads r
 unfolding reads
 served-unread r a = rw (a, and-false)
 
+own-any-body : (r : List ℕ) (n : ℕ) (b : List ℕ) → length b ≤ 252 → isSecurity (resource (ownRecord r n)) ≡ false → (d : Defaults) (t : Tables) (clock room : ℕ)
+    → replyTo d t (asked clock (ownRecord r n ++ b) room) .answer ≡ replyTo d t (asked clock (ownRecord r n) room) .answer
+unfolding ownRecord word
+own-any-body r n b few plain = any-body (verb r * 32 + connection r * 16 + n / 4) (n % 4 * 64) (credential r / 256) (credential r % 256) b few plain
+
 -- 8 to 14
 from-8 : (n : ℕ) {b c : Bool} → (leb 8 n ≡ true → b ≡ c) → (within 8 7 n && b) ≡ (leb 8 n && leb n 14 && c)
 from-8 n {b} {c} h = go (leb 8 n) h
@@ -80,6 +90,7 @@ yard-set d t q asks z =
     let passes : ℕ → Bool = λ n. permits (q .clock) t (ownRecord r n) in
     let e = permitted-passes d t q z in
     let l = long-enough r (passed (checks t (permission (q .clock) t r) q) e 2) in
+    let plain : (n : ℕ) → n < 64 → leb 8 n ≡ true → isSecurity (resource (ownRecord r n)) ≡ false = λ n h m. ap (λ (i : ℕ). isSecurity i) (own r n l h .resource-is) ∙ link-plain n m in
     let are : replyTo d t q .links ≡ linksOf (q .clock) t r = ap (λ (o : Outcome). o .reply .links) (permitted-outcome d t q z) in
     let is : replyTo d t q .links .set ≡ setOf passes (from 8 7) = ap (λ (x : Links). x .set) are ∙ asked-set (q .clock) t r asks in
     let small : replyTo d t q .links .set < 2 ^ 64 = rw is (le-trans (set-below passes 7 7 (omega arith)) (omega arith)) in
@@ -87,10 +98,9 @@ yard-set d t q asks z =
       member = λ n h d′ room.
           ap (λ (x : ℕ). inLinks x n) is
           ∙ in-set passes 8 7 (omega arith) n h
-          ∙ from-8 n (λ m.
-          let plain = ap (λ (i : ℕ). isSecurity i) (own r n l h .resource-is) ∙ link-plain n m in
-          permits-zero (q .clock) t (ownRecord r n) (served-unread (ownRecord r n) plain) d′ room);
+          ∙ from-8 n (λ m. permits-zero (q .clock) t (ownRecord r n) (served-unread (ownRecord r n) (plain n h m)) d′ room);
       own = λ n h. own r n l h;
+      with-body = λ n h m b few d′ room. own-any-body r n b few (plain n h (le-leb 8 n m)) d′ t (q .clock) room;
       fits = small;
       size = ap (λ (x : Links). x .size) are ∙ ap (λ (x : Links). ones (x .set)) (sym are) ∙ ones-held (replyTo d t q .links .set) small;
     }
