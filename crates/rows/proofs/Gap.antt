@@ -4,16 +4,16 @@ use mathlib.Core.Path.{_≡_, refl, sym, ap, _∙_}
 use mathlib.Core.Bool.{Bool, true, false, cond, not, _&&_, _||_, true≢false, false≢true}
 use mathlib.Core.List.{List, [], _∷_, _++_, append-assoc}
 use Prim.Native.Nat.{ℕ, zero, suc, _+_, _*_, _-_, _≤_, _<_}
-use native.Mathlib.Nat.{zero-mul, suc-mul, add-comm, le-trans, mul-le-mul-right}
+use native.Mathlib.Nat.{zero-mul, suc-mul, add-comm, mul-le-mul-right}
 use native.Mathlib.Omega.{arith}
-use lib.ListN.{length, take, drop, getD, replicate, length-append, length-drop, length-replicate}
-use lib.Seq.{take-append-le, take-append-add, drop-append-add, take-take, getD-append-add}
+use lib.ListN.{length, take, drop, getD, replicate}
+use lib.Seq.{take-append-le, take-append-add, drop-append-add}
 use lib.Dec.{leb}
 use borrow.Author.Tests.{leb-true, leb-false}
 use Rattle.rows.specs.declared.Found.the-variants.{At}
 use Rattle.rows.specs.Rows.{Row, placeFrom, same, numberedAs, numberAt, some, without, rowsBefore, distinctNumbers, joined, packed}
 use Rattle.rows.proofs.Laws.{drop-replicate, isAt}
-use Rattle.rows.proofs.Kept.{AllLong, length-joined, same-refl}
+use Rattle.rows.proofs.Kept.{AllLong, length-joined, length-without, same-refl}
 
 -- ---- the number at a place of packed rows
 
@@ -43,13 +43,18 @@ drop-past n m j h =
     let e : n ≡ length j + (n - length j) = omega arith in
     ap (λ (k : ℕ). drop k (j ++ replicate m 0)) e ∙ drop-append-add j (replicate m 0) (n - length j) ∙ drop-replicate (n - length j) m 0
 
-pub number-unused : (s size i : ℕ) (ws : List Row) → AllLong s ws → 2 ≤ s → length ws ≤ i → i * s + s ≤ size → numberAt s i (packed size ws) ≡ 0 ∷ 0 ∷ []
-unfolding numberAt packed
-number-unused s size i ws a two h room =
+-- behind the rows stand zeros
+pub bytes-behind : (s size n : ℕ) (ws : List Row) → AllLong s ws → length ws ≤ n → drop (n * s) (packed size ws) ≡ replicate (size - n * s) 0
+unfolding packed
+bytes-behind s size n ws a h =
     let l : length (joined ws) ≡ length ws * s = length-joined s ws a in
-    let m : length ws * s ≤ i * s = mul-le-mul-right s h in
-    ap (take 2) (drop-past (i * s) (size - length (joined ws)) (joined ws) (omega (arith, l, m)))
-    ∙ two-zeros (size - length (joined ws) - (i * s - length (joined ws))) (omega (arith, l, m, room))
+    let m : length ws * s ≤ n * s = mul-le-mul-right s h in
+    let e : size - length (joined ws) - (n * s - length (joined ws)) ≡ size - n * s = omega arith in
+    drop-past (n * s) (size - length (joined ws)) (joined ws) (omega arith) ∙ ap (λ (k : ℕ). replicate k 0) e
+
+pub number-unused : (s size i : ℕ) (ws : List Row) → AllLong s ws → 2 ≤ s → length ws ≤ i → i * s + s ≤ size → numberAt s i (packed size ws) ≡ 0 ∷ 0 ∷ []
+unfolding numberAt
+number-unused s size i ws a two h room = ap (take 2) (bytes-behind s size i ws a h) ∙ two-zeros (size - i * s) (omega arith)
 
 -- ---- where a row comes from
 
@@ -108,6 +113,17 @@ module _ (goes : Row → Bool) where
     where
       go : (t : Bool) → (t || some goes ws) ≡ true → (some goes ws ≡ true → rowsBefore goes ws < length ws) → cond t 0 (suc (rowsBefore goes ws)) < suc (length ws)
       go true h ih = omega arith
+      go false h ih = omega (arith, ih h)
+
+  -- where one goes, fewer stay
+  pub fewer-stay : (ws : List Row) → some goes ws ≡ true → length (without goes ws) < length ws
+  unfolding some without
+  fewer-stay [] h = absurd (false≢true h)
+  fewer-stay (w ∷ ws) h = go (goes w) h (fewer-stay ws)
+    where
+      go : (t : Bool) → (t || some goes ws) ≡ true → (some goes ws ≡ true → length (without goes ws) < length ws)
+          → length (cond t (without goes ws) (w ∷ without goes ws)) < suc (length ws)
+      go true h ih = omega (arith, length-without goes ws)
       go false h ih = omega (arith, ih h)
 
   pub before-kept : (ws : List Row) → rowsBefore goes ws ≤ length (without goes ws)

@@ -1,23 +1,24 @@
 -- What a verdict says of each check, and what soundness says of each part.
 -- A permitted record passed every check: cited by number, so an added check moves nothing.
-use Prim.Native.Nat.{ℕ, zero, suc, _*_, _≤_, min}
+use Prim.Native.Nat.{ℕ, _*_, _≤_}
 use native.Mathlib.Nat.{min-eq-left}
 use native.Mathlib.Omega.{arith}
-use mathlib.Core.Path.{_≡_, refl, sym, ap, _∙_}
-use mathlib.Core.Bool.{Bool, true, false, not, _&&_, _||_, cond}
+use mathlib.Core.Path.{_≡_, refl, ap}
+use mathlib.Core.Bool.{Bool, true, false, cond}
 use mathlib.Core.List.{List, [], _∷_}
 use lib.Dec.{eqb, ltb}
 use lib.ListN.{length, drop}
-use borrow.Author.Tests.{ltb-false, leb-true, not-false}
+use borrow.Author.Tests.{ltb-false, le-ltb, leb-true}
 use Rattle.rows.specs.Rows.{rowsOf, every, allZero, distinctNumbers}
 use Rattle.rules.specs.declared.Tables.{Tables}
 use Rattle.rules.specs.declared.Table.{Table}
 use Rattle.rules.specs.declared.Table.the-variants.{Creds, Aces}
-use Rattle.rules.specs.declared.Check.{Check}
 use Rattle.rules.specs.declared.Check.the-variants.{Pass, Refuse}
+use Rattle.rules.specs.Record.{Request}
+use Rattle.rules.specs.Reading.{reads, replyOf, tooShort}
 use Rattle.rules.specs.Tables.{stride, capacity, storable, count, bytes, rows, rowsIn, rowsSound, headSound, sound}
 use Rattle.rules.specs.Checks.{verdict, badLength}
-use Rattle.rules.proofs.Bools.{and-left, and-right, or-left, or-right}
+use Rattle.rules.proofs.Bools.{and-left, and-right, or-left}
 
 apart : {n : ℕ} → Refuse n ≡ Pass → ⊥
 apart q = let z : _≡_ {A = ℕ} 0 1 = cc in omega arith
@@ -41,6 +42,11 @@ passed ((m, false) ∷ es) p n = go (eqb m n) (passed es p n)
 pub long-enough : (r : List ℕ) → badLength r ≡ false → 4 ≤ length r
 unfolding badLength
 long-enough r e = ltb-false (length r) 4 (or-left (ltb (length r) 4) (ltb 256 (length r)) e)
+
+-- a reply of no bytes fits any buffer
+pub no-reply-fits : (t : Tables) (q : Request) → reads (q .bytes) ≡ false → tooShort t q ≡ false
+unfolding tooShort replyOf
+no-reply-fits t q e = rw e (le-ltb (q .room) 0 (omega arith))
 
 -- the parts of soundness
 pub record RowsSound (k : Table) (n : ℕ) (b : List ℕ) : Type 0 where

@@ -1,16 +1,17 @@
 -- Theorems, U4: after a DELETE each reported place holds another row number than before, 0 when unused, and no other place does.
--- No byte before the first place is another. The bytes' lengths are those that the struct's types give.
-use Prim.Native.Nat.{ℕ, zero, suc, _+_, _*_, _-_, _≤_, _<_}
-use native.Mathlib.Nat.{mul-le-mul-right, suc-mul, le-trans, add-comm}
+-- No byte before the first place is another, nor one behind the last, so that the old bytes with the places overwritten are the new ones.
+-- Over the rows that go; of a record in Wear.antt. The bytes' lengths are those that the struct's types give.
+use Prim.Native.Nat.{ℕ, _+_, _*_, _-_, _≤_, _<_}
+use native.Mathlib.Nat.{mul-le-mul-right, suc-mul, add-mul, le-trans}
 use native.Mathlib.Omega.{arith}
 use mathlib.Core.Path.{_≡_, refl, sym, ap, ap₂, _∙_}
-use mathlib.Core.Bool.{Bool, true, false, not, _&&_, cond}
-use mathlib.Core.List.{List, [], _∷_}
+use mathlib.Core.Bool.{Bool, true, false, not, cond}
+use mathlib.Core.List.{List, [], _∷_, _++_}
 use lib.Dec.{eqb}
-use lib.ListN.{length, take, drop, getD}
-use lib.Seq.{getD-take, take-take}
+use lib.ListN.{length, take, drop, getD, take-append-drop}
+use lib.Seq.{getD-take, take-take, drop-drop}
 use borrow.Author.Tests.{eq-eqb, not-true}
-use Rattle.rows.specs.Rows.{Row, rowsOf, packed, every, some, without, hasKey, numberAt, rowsBefore}
+use Rattle.rows.specs.Rows.{Row, packed, every, some, without, numberAt, rowsBefore}
 use Rattle.rows.proofs.Laws.{kept}
 use Rattle.rows.proofs.Kept.{AllLong, every-long, every-without, length-without}
 use Rattle.rows.proofs.Gap as gap
@@ -18,12 +19,11 @@ use Rattle.rules.specs.declared.Tables.{Tables}
 use Rattle.rules.specs.declared.Places.{Places}
 use Rattle.rules.specs.declared.Table.{Table}
 use Rattle.rules.specs.declared.Table.the-variants.{Creds, Aces}
-use Rattle.rules.specs.Bits.{bits}
 use Rattle.rules.specs.Bodies.{rowNumber, credStorable, aceStorable}
 use Rattle.rules.specs.Roles.{bodyOf}
 use Rattle.rules.specs.Tables.{stride, capacity, storable, count, bytes, rows, withRows, sound}
-use Rattle.rules.specs.Places.{nowhere, gapOf}
-use Rattle.rules.proofs.Bools.{contradiction, bool-cases, and-left, and-right}
+use Rattle.rules.specs.Places.{nowhere, gapOf, overwritten}
+use Rattle.rules.proofs.Bools.{contradiction, and-left, and-right}
 use Rattle.rules.proofs.BitLaws.{bits-word}
 use Rattle.rules.proofs.Answers.{table-parts, rows-are}
 use Rattle.rules.proofs.BodyLaws.{sized, two-long}
@@ -60,8 +60,24 @@ with-bytes : (k : Table) (t : Tables) (ws : List Row) → bytes k (withRows k t 
 with-bytes Creds t ws = refl
 with-bytes Aces t ws = refl
 
+pub with-count : (k : Table) (t : Tables) (ws : List Row) → count k (withRows k t ws) ≡ length ws
+with-count Creds t ws = refl
+with-count Aces t ws = refl
+
 place-room : (k : Table) (i : ℕ) → i < capacity k → i * stride k + stride k ≤ capacity k * stride k
 place-room k i h = le-trans (omega (arith, suc-mul i (stride k))) (mul-le-mul-right (stride k) h)
+
+-- where no other byte changes, the old bytes with the places overwritten are the new ones
+overwritten-is : (s : ℕ) (p : Places) (old new : List ℕ)
+    → take (p .first * s) new ≡ take (p .first * s) old
+    → drop ((p .first + p .many) * s) new ≡ drop ((p .first + p .many) * s) old
+    → overwritten s p old new ≡ new
+unfolding overwritten
+overwritten-is s p old new front rest =
+    ap₂ (λ (x y : List ℕ). x ++ (take (p .many * s) (drop (p .first * s) new) ++ y)) (sym front)
+    (sym rest ∙ ap (λ (n : ℕ). drop n new) (add-mul (p .first) (p .many) s) ∙ sym (drop-drop (p .many * s) (p .first * s) new))
+    ∙ ap (λ (x : List ℕ). take (p .first * s) new ++ x) (take-append-drop (p .many * s) (drop (p .first * s) new))
+    ∙ take-append-drop (p .first * s) new
 
 module _ (k : Table) (t : Tables) (goes : Row → Bool) (h : sound t ≡ true) (l : length (bytes k t) ≡ capacity k * stride k) where
   -- the tables without these rows
@@ -124,6 +140,13 @@ module _ (k : Table) (t : Tables) (goes : Row → Bool) (h : sound t ≡ true) (
           ∙ ap (numberAt (stride k) i) (sym stands)
       go false s m = ap (numberAt (stride k) i) (none-same s)
 
+  -- an unused place has number 0
+  pub places-unused : (i : ℕ) → count k after ≤ i → i < capacity k → numberAt (stride k) i (bytes k after) ≡ 0 ∷ 0 ∷ []
+  places-unused i m c =
+      ap (numberAt (stride k) i) (with-bytes k t (without goes (rows k t)))
+      ∙ gap.number-unused (stride k) (capacity k * stride k) i (without goes (rows k t)) long′ (two-long k)
+      (omega (arith, with-count k t (without goes (rows k t)))) (place-room k i c)
+
   -- and no byte of a row before the first is written
   pub bytes-kept : take (gapOf goes (rows k t) .first * stride k) (bytes k after) ≡ take (gapOf goes (rows k t) .first * stride k) (bytes k t)
   unfolding gapOf
@@ -135,3 +158,26 @@ module _ (k : Table) (t : Tables) (goes : Row → Bool) (h : sound t ≡ true) (
           ∙ gap.bytes-before goes (stride k) (capacity k * stride k) (rows k t) long long′ (gap.before-all goes (rows k t))
           ∙ ap (take (rowsBefore goes (rows k t) * stride k)) (sym stands)
       go false s = ap (take (0 * stride k)) (none-same s)
+
+  -- nor a byte behind the last
+  pub bytes-rest :
+      drop ((gapOf goes (rows k t) .first + gapOf goes (rows k t) .many) * stride k) (bytes k after)
+      ≡ drop ((gapOf goes (rows k t) .first + gapOf goes (rows k t) .many) * stride k) (bytes k t)
+  unfolding gapOf
+  bytes-rest = go (some goes (rows k t)) refl
+    where
+      go : (b : Bool) → some goes (rows k t) ≡ b
+          → drop ((cond b found nowhere .first + cond b found nowhere .many) * stride k) (bytes k after)
+          ≡ drop ((cond b found nowhere .first + cond b found nowhere .many) * stride k) (bytes k t)
+      go true s =
+          let n = found .first + found .many in
+          let e : length (rows k t) ≤ n = omega arith in
+          ap (drop (n * stride k)) (with-bytes k t (without goes (rows k t)))
+          ∙ gap.bytes-behind (stride k) (capacity k * stride k) n (without goes (rows k t)) long′ (omega (arith, length-without goes (rows k t)))
+          ∙ sym (gap.bytes-behind (stride k) (capacity k * stride k) n (rows k t) long e)
+          ∙ ap (drop (n * stride k)) (sym stands)
+      go false s = ap (drop (0 * stride k)) (none-same s)
+
+  -- so storing the places leaves the new bytes
+  pub bytes-stored : overwritten (stride k) (gapOf goes (rows k t)) (bytes k t) (bytes k after) ≡ bytes k after
+  bytes-stored = overwritten-is (stride k) (gapOf goes (rows k t)) (bytes k t) (bytes k after) bytes-kept bytes-rest

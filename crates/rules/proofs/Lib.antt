@@ -1,4 +1,4 @@
--- The laws of the definitions, and the theorems over them: Refusals, SoundKept, ReadBack, Gaps, LinkLaws, Isolated, Built, Examples, RoleExamples.
+-- The laws of the definitions, and the theorems over them: Refusals, SoundKept, ReadBack, Gaps, Wear, SubjectRows, LinkLaws, AnyBody, YardSet, Isolated, Built, Examples, RoleExamples.
 pub mod Bools
 pub mod BitLaws
 pub mod RecordLaws
@@ -18,7 +18,12 @@ pub mod OwnRow
 pub mod SoundKept
 pub mod ReadBack
 pub mod Gaps
+pub mod Deletes
+pub mod Wear
+pub mod SubjectRows
 pub mod LinkLaws
+pub mod AnyBody
+pub mod YardSet
 pub mod Alike
 pub mod Isolated
 pub mod Built

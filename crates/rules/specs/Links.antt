@@ -1,6 +1,6 @@
 -- The links of /yard (U9): of a RETRIEVE or an UPDATE, those whose own record would be permitted.
 -- A link's own record has the verb and the sender of the record that asks, the link's number and no body.
-use Prim.Native.Nat.{ℕ, _+_, _*_, _/_, _%_, _^_}
+use Prim.Native.Nat.{ℕ, zero, suc, _+_, _*_, _-_, _/_, _%_, _^_}
 use mathlib.Core.Bool.{Bool, _&&_, _||_, cond}
 use mathlib.Core.List.{List, [], _∷_}
 use lib.Count.{ones}
@@ -39,3 +39,14 @@ linksOf clock t r = record { set = linkSet clock t r; size = ones (linkSet clock
 
 abbrev pub noLinks : Links
 noLinks = record { set = 0; size = 0 }
+
+-- ---- for theorems: what a set holds, number by number
+
+-- the resource n, which has 6 bits, is in the set
+unfoldable pub inLinks : ℕ → ℕ → Bool
+inLinks set n = eqb (set / 2 ^ (63 - n) % 2) 1
+
+-- how many numbers below m pass
+unfoldable pub countBelow : ℕ → (ℕ → Bool) → ℕ
+countBelow zero passes = 0
+countBelow (suc m) passes = cond (passes m) 1 0 + countBelow m passes
