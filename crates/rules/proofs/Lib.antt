@@ -1,4 +1,4 @@
--- The laws of the definitions, and the theorems over them: Refusals, SoundKept, ReadBack, Gaps, LinkLaws, Isolated, Built, Examples, RoleExamples.
+-- The laws of the definitions, and the theorems over them: Refusals, SoundKept, ReadBack, RowsStored, Restored, Gaps, LinkLaws, Isolated, Built, Examples, RoleExamples, PremiseNeeded.
 pub mod Bools
 pub mod BitLaws
 pub mod RecordLaws
@@ -17,6 +17,8 @@ pub mod RowMaps
 pub mod OwnRow
 pub mod SoundKept
 pub mod ReadBack
+pub mod RowsStored
+pub mod Restored
 pub mod Gaps
 pub mod LinkLaws
 pub mod Alike
@@ -24,3 +26,4 @@ pub mod Isolated
 pub mod Built
 pub mod Examples
 pub mod RoleExamples
+pub mod PremiseNeeded
