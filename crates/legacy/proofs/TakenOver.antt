@@ -49,7 +49,7 @@ module _ (f : List ℕ) (good : badFile f ≡ false) (few : tooManyRows f ≡ fa
         ≡ bitOr (oldUnion (credentialIn (rows Creds t) (sender r)) (connectionOf (sender r)) (resource r) f) (permission clock t r)
     taken-over clock h r =
         let after = final (tablesAfter d) t qs in
-        permission-same f after (rows-loaded .access) clock h r
+        permission-same f after (rows-loaded .held) clock h r
         ∙ ap₂ (λ (ws : List Row) (p : ℕ). bitOr (oldUnion (credentialIn ws (sender r)) (connectionOf (sender r)) (resource r) f) p)
         (ap (rows Creds) (rows-loaded .others))
         (ap (λ (x : Tables). permission clock x r) (rows-loaded .others) ∙ sym (without-rows clock t r (ready .noAces)))

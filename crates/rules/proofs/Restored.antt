@@ -1,15 +1,13 @@
 -- Theorems, U1 over whole outcomes: the rows of the reply to a permitted RETRIEVE make the table again, but for asserted roles.
 -- As rows that are stored; and judged, as records one straight after the other, from tables without rows of that kind.
-use Prim.Native.Nat.{ℕ, suc}
-use native.Mathlib.Omega.{arith}
+use Prim.Native.Nat.{ℕ}
 use mathlib.Core.Path.{_≡_, refl, sym, ap, _∙_, subst}
 use mathlib.Core.Bool.{Bool, true, _||_, or-false}
 use mathlib.Core.List.{List, [], _∷_, map}
 use lib.Dec.{eqb}
-use lib.ListN.{length, length-map, drop, getD}
+use lib.ListN.{length, length-map}
 use borrow.Author.Tests.{eqb-true, not-false}
 use Rattle.rows.specs.Rows.{Row, every, storedAll}
-use Rattle.rows.proofs.Kept.{AllLong}
 use Rattle.rules.specs.declared.Tables.{Tables}
 use Rattle.rules.specs.declared.Table.{Table}
 use Rattle.rules.specs.declared.Table.the-variants.{Creds, Aces}
@@ -35,7 +33,7 @@ use Rattle.rules.proofs.Refusals.{none-permitted, permitted-is}
 use Rattle.rules.proofs.RoleLaws.{held-parts, body-long, unasserted-is}
 use Rattle.rules.proofs.SoundKept.{SoundRows}
 use Rattle.rules.proofs.ReadBack.{bodies, reply-is, owner-long, long-bodies, read-rows, rows-themselves, bare-apart, same-rows}
-use Rattle.rules.proofs.RowsStored.{all-stored, otherwise, by-others, holder-security}
+use Rattle.rules.proofs.RowsStored.{all-stored, all-may, otherwise, by-others, holder-security}
 
 -- ---- the reply
 
@@ -121,23 +119,15 @@ unfolding inClear bits bit
 clear-on Creds b = refl
 clear-on Aces b = refl
 
-module _ (k : Table) (t : Tables) (none : t .owned ≡ 0) where
-  clear-may : (q : Request) (b : List ℕ) → length b ≡ longest k → q .bytes ≡ inClear k b → MayStore k t q b
-  unfolding inClear bits bit permission
-  clear-may q b l e = record {
-    passes = rw e (clear-passes k t b l);
-    updates = rw e;
-    on = rw e (clear-on k b);
-    may = anyone-may t (q .clock) (sender (q .bytes)) (resource (q .bytes)) (ap isSecurity (rw e (clear-on k b)) ∙ holder-security k) none;
-    carries = rw e;
-  }
-
-  all-clear : (bs : List (List ℕ)) (qs : List Request)
-      → AllLong (longest k) bs → map (λ (q : Request). q .bytes) qs ≡ map (inClear k) bs → AllMayStore k t qs bs
-  all-clear [] [] l e = tt
-  all-clear [] (q ∷ qs) l e = absurd (let z : suc (length (map (λ (q : Request). q .bytes) qs)) ≡ 0 = ap length e in omega arith)
-  all-clear (b ∷ bs) [] l e = absurd (let z : 0 ≡ suc (length (map (inClear k) bs)) = ap length e in omega arith)
-  all-clear (b ∷ bs) (q ∷ qs) l e = (clear-may q b (l .0) (ap (λ (x : List (List ℕ)). getD x 0 []) e), all-clear bs qs (l .1) (ap (drop 1) e))
+clear-may : (k : Table) (t : Tables) → t .owned ≡ 0 → (q : Request) (b : List ℕ) → length b ≡ longest k → q .bytes ≡ inClear k b → MayStore k t q b
+unfolding inClear bits bit permission
+clear-may k t none q b l e = record {
+  passes = rw e (clear-passes k t b l);
+  updates = rw e;
+  on = rw e (clear-on k b);
+  may = anyone-may t (q .clock) (sender (q .bytes)) (resource (q .bytes)) (ap isSecurity (rw e (clear-on k b)) ∙ holder-security k) none;
+  carries = rw e;
+}
 
 -- sound tables without an owner are in RFOTM, which takes rows
 unowned-takes : (k : Table) (t : Tables) → sound t ≡ true → t .owned ≡ 0 → count k t ≡ 0 → TakesRows k t
@@ -157,4 +147,5 @@ pub reply-judged-clear : (d : Defaults) (k : Table) (t u : Tables) (q : Request)
     → AllStored d k u qs (bare k (rows k t))
 reply-judged-clear d k t u q qs l p h o z e =
     reply-judged d k t u q qs l p (unowned-takes k u h o z)
-    (all-clear k u o (rowsOfReply k (replyTo d t q .contents)) qs (rw (rows-told d k t q p l) (long-bodies k t (retrieved-sound d k t q p))) e)
+    (all-may k u (inClear k) (clear-may k u o) (rowsOfReply k (replyTo d t q .contents)) qs
+    (rw (rows-told d k t q p l) (long-bodies k t (retrieved-sound d k t q p))) e)

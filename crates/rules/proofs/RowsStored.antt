@@ -1,13 +1,13 @@
 -- Theorem, U1 and U10: records that may store are all permitted when they are judged one straight after the other, from tables without rows of their kind.
 -- The rows are then those of their bodies, in their order, and nothing else is changed. At any clocks and buffer lengths, for any default lists.
-use Prim.Native.Nat.{ℕ, _<_}
+use Prim.Native.Nat.{ℕ, suc, _<_}
 use native.Mathlib.Omega.{arith}
 use mathlib.Core.Path.{_≡_, refl, sym, ap, ap₂, _∙_, subst}
 use mathlib.Core.Bool.{Bool, true, false, not, _||_, true≢false}
 use mathlib.Core.List.{List, [], _∷_, _++_, map, append-assoc, append-nil}
 use lib.Bits.{bitOr}
 use lib.Dec.{leb}
-use lib.ListN.{length, length-append}
+use lib.ListN.{length, drop, getD, length-append}
 use borrow.Author.Tests.{lt-leb, le-ltb}
 use Rattle.rows.specs.Rows.{Row, rowsOf, numberedAs, some, every, stored, unionOf}
 use Rattle.rows.proofs.Laws.{length-rowsOf, every-append}
@@ -70,6 +70,17 @@ from-others clock t s n z h = ap (λ (ws : List Row). given clock t s n ws || ot
 
 pub by-others : (clock : ℕ) (t : Tables) (s : Sender) (n : ℕ) → otherwise t s n ≡ true → has (effective clock t s n) U ≡ true
 by-others clock t s n h = may-parts clock t s n ∙ or-true-right (given clock t s n (rows Aces t)) (otherwise t s n) h
+
+-- records that are each made of a body
+pub all-may : (k : Table) (t : Tables) (record-of : List ℕ → List ℕ)
+    → ((q : Request) (b : List ℕ) → length b ≡ longest k → q .bytes ≡ record-of b → MayStore k t q b)
+    → (bs : List (List ℕ)) (qs : List Request)
+    → AllLong (longest k) bs → map (λ (q : Request). q .bytes) qs ≡ map record-of bs → AllMayStore k t qs bs
+all-may k t f one [] [] l e = tt
+all-may k t f one [] (q ∷ qs) l e = absurd (let z : suc (length (map (λ (q : Request). q .bytes) qs)) ≡ 0 = ap length e in omega arith)
+all-may k t f one (b ∷ bs) [] l e = absurd (let z : 0 ≡ suc (length (map f bs)) = ap length e in omega arith)
+all-may k t f one (b ∷ bs) (q ∷ qs) l e =
+    (one q b (l .0) (ap (λ (x : List (List ℕ)). getD x 0 []) e), all-may k t f one bs qs (l .1) (ap (drop 1) e))
 
 -- ---- what rows of the table do not change
 
