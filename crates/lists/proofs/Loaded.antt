@@ -3,14 +3,14 @@
 use Prim.Native.Nat.{ℕ, _/_, _%_, _≤_, _<_}
 use native.Mathlib.Omega.{arith}
 use mathlib.Core.Path.{_≡_, refl, sym, ap, _∙_, subst}
-use mathlib.Core.Bool.{Bool, true, false, not, cond, false≢true}
+use mathlib.Core.Bool.{Bool, true, false, not, _||_, cond, false≢true}
 use mathlib.Core.List.{List, [], _∷_, map}
 use lib.Dec.{eqb}
 use lib.ListN.{length, take}
 use borrow.Author.Tests.{ne-eqb, ltb-false}
-use Rattle.rows.specs.Rows.{Row, same, hasKey, firstRow, some, every}
+use Rattle.rows.specs.Rows.{Row, firstRow, some}
 use Rattle.rows.proofs.Laws.{length-rowsOf}
-use Rattle.rows.proofs.Kept.{every-long, same-true}
+use Rattle.rows.proofs.Kept.{every-long}
 use Rattle.rules.specs.declared.Tables.{Tables}
 use Rattle.rules.specs.declared.Check.the-variants.{Pass}
 use Rattle.rules.specs.declared.Table.the-variants.{Creds, Aces}
@@ -30,6 +30,7 @@ use Rattle.rules.proofs.BitLaws.{bits-word}
 use Rattle.rules.proofs.RecordLaws.{sender-partner}
 use Rattle.rules.proofs.Answers.{table-parts}
 use Rattle.rules.proofs.BodyLaws.{sized}
+use Rattle.rules.proofs.OwnRow.{first-passes, first-every, numbered-two}
 use Rattle.rules.proofs.SoundKept.{SoundRows}
 use Rattle.rules.proofs.ReadBack.{long-bodies, rows-themselves}
 use Rattle.rules.proofs.RowsStored.{otherwise, by-others, all-may, all-stored}
@@ -66,20 +67,15 @@ storing-is n w h l = record {
 
 -- ---- the sender
 
--- the first row that passes a test, where there is one: it passes, and has what every row has
-record FirstIs (passes every : Row → Bool) (ws : List Row) : Type 0 where
-  there : some passes ws ≡ true
-  passed : passes (firstRow passes ws) ≡ true
-  has : every (firstRow passes ws) ≡ true
-
-first-is : (p q : Row → Bool) (ws : List Row) → every q ws ≡ true → isRow (firstRow p ws) ≡ true → FirstIs p q ws
-unfolding firstRow every some
-first-is p q [] a h = absurd (false≢true h)
-first-is p q (w ∷ ws) a h = go (p w) refl h (first-is p q ws (and-right (q w) _ a))
+-- where the first row that passes a test has bytes, there is one
+some-first : (p : Row → Bool) (ws : List Row) → isRow (firstRow p ws) ≡ true → some p ws ≡ true
+unfolding firstRow some
+some-first p [] h = absurd (false≢true h)
+some-first p (w ∷ ws) h = go (p w) h (some-first p ws)
   where
-    go : (b : Bool) → p w ≡ b → isRow (cond b w (firstRow p ws)) ≡ true → (isRow (firstRow p ws) ≡ true → FirstIs p q ws) → FirstIs p q (w ∷ ws)
-    go true e h ih = record { there = rw e; passed = rw (e, e); has = rw e (and-left (q w) _ a) }
-    go false e h ih = let f = ih h in record { there = rw e (f .there); passed = rw e (f .passed); has = rw e (f .has) }
+    go : (b : Bool) → isRow (cond b w (firstRow p ws)) ≡ true → (isRow (firstRow p ws) ≡ true → some p ws ≡ true) → (b || some p ws) ≡ true
+    go true h ih = refl
+    go false h ih = ih h
 
 module _ (t : Tables) (n : ℕ) (h : sound t ≡ true) (o : ownsDevice t (partner n) ≡ true) where
   abbrev own : Row
@@ -89,15 +85,15 @@ module _ (t : Tables) (n : ℕ) (h : sound t ≡ true) (o : ownsDevice t (partne
   unfolding ownsDevice
   a-row = and-left (isRow own) _ o
 
-  own-is : FirstIs (numbered n) (storable Creds) (rows Creds t)
-  own-is = first-is (numbered n) (storable Creds) (rows Creds t) (table-parts Creds t h .stores) a-row
+  there : some (numbered n) (rows Creds t) ≡ true
+  there = some-first (numbered n) (rows Creds t) a-row
 
   -- no row has number 0
   not-zero : n ≡ 0 → ⊥
-  unfolding hasKey word
+  unfolding word
   not-zero e =
-      let z : take 2 own ≡ 0 ∷ 0 ∷ [] = same-true (take 2 own) (n / 256 ∷ n % 256 ∷ []) (own-is .passed) ∙ rw e in
-      has-number Creds own (own-is .has) z
+      let z : take 2 own ≡ 0 ∷ 0 ∷ [] = numbered-two n own (first-passes (numbered n) (rows Creds t) there) ∙ rw e in
+      has-number Creds own (first-every (numbered n) (storable Creds) (rows Creds t) there (table-parts Creds t h .stores)) z
 
   -- the owner's right
   may-update : (clock : ℕ) → has (effective clock t (partner n) acl2) U ≡ true
@@ -132,7 +128,7 @@ module _ (t : Tables) (n : ℕ) (h : sound t ≡ true) (o : ownsDevice t (partne
 
     credential-good : noCredential t r ≡ false
     unfolding noCredential
-    credential-good = rw from-owner (ap not (own-is .there))
+    credential-good = rw from-owner (ap not there)
 
     owner-passes : verdict (senderChecks t r) ≡ Pass
     unfolding verdict

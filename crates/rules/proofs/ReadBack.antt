@@ -75,11 +75,11 @@ read-rows k owner ws l a =
         bytes = omega (arith, l)
 
 -- a row that the table may hold, sent as its body, is the row that is stored, without what is asserted
-pub cred-itself : (w : Row) → storable Creds w ≡ true → rowOf Creds (bodyOf w) ≡ withoutRoles w
+cred-itself : (w : Row) → storable Creds w ≡ true → rowOf Creds (bodyOf w) ≡ withoutRoles w
 unfolding credRowOf withoutRoles
 cred-itself w h = rw (body-long w (sized Creds w h), sized Creds w h)
 
-pub ace-itself : (w : Row) → storable Aces w ≡ true → rowOf Aces w ≡ w
+ace-itself : (w : Row) → storable Aces w ≡ true → rowOf Aces w ≡ w
 unfolding aceRowOf
 ace-itself w h = rw (sized Aces w h)
 

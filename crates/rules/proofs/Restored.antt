@@ -1,5 +1,6 @@
 -- Theorems, U1 over whole outcomes: the rows of the reply to a permitted RETRIEVE make the table again, but for asserted roles.
 -- As rows that are stored; and judged, as records one straight after the other, from tables without rows of that kind.
+-- The length of the row owners' field is what the struct's type gives.
 use Prim.Native.Nat.{ℕ}
 use mathlib.Core.Path.{_≡_, refl, sym, ap, _∙_, subst}
 use mathlib.Core.Bool.{Bool, true, _||_, or-false}

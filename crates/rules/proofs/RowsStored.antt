@@ -275,7 +275,7 @@ module _ (d : Defaults) (k : Table) (t : Tables) (none : rows k t ≡ []) (takes
       (subst (AllStored d k (tablesAfter d v q) qs) a
       (store (tablesAfter d v q) (held ++ (w ∷ [])) bs qs (holding-more d k t v held b q none takes at new (m .0)) (l .1) (rw a x) (m .1)))
 
-none-held : (k : Table) (t : Tables) → count k t ≡ 0 → rows k t ≡ []
+pub none-held : (k : Table) (t : Tables) → count k t ≡ 0 → rows k t ≡ []
 unfolding rowsIn rowsOf
 none-held Creds t z = rw z
 none-held Aces t z = rw z
