@@ -5,15 +5,16 @@ use mathlib.Core.Path.{_≡_, sym, ap, ap₂, _∙_}
 use mathlib.Core.Bool.{Bool, false, cond}
 use mathlib.Core.List.{List, []}
 use lib.Bits.{bitOr}
-use Rattle.rows.specs.Rows.{Row, rowsOf, some, joined, unionOf}
+use Rattle.rows.specs.Rows.{Row, some, joined, unionOf}
 use Rattle.rules.specs.declared.Tables.{Tables}
 use Rattle.rules.specs.declared.Table.the-variants.{Creds, Aces}
 use Rattle.rules.specs.Record.{Request, sender, resource}
-use Rattle.rules.specs.Tables.{rows, rowsIn, withRows}
+use Rattle.rules.specs.Tables.{rows, withRows}
 use Rattle.rules.specs.Defaults.{Defaults}
 use Rattle.rules.specs.Permission.{credentialIn, connectionOf, gives, effective, permission}
 use Rattle.rules.specs.Outcome.{tablesAfter}
 use Rattle.rules.specs.Run.{final}
+use Rattle.rules.proofs.RowsStored.{none-held}
 use Rattle.lists.specs.Loading.{Stores, Ready, Loaded}
 use Rattle.lists.proofs.Loaded.{accepted-loaded}
 use Rattle.legacy.specs.OldList.{oldRows, oldUnion, opensSecurity, badFile}
@@ -23,17 +24,13 @@ use Rattle.legacy.proofs.Held.{effective-parts, permission-same}
 use Rattle.legacy.proofs.Tested.{rows-tested}
 
 -- tables without access rows
-none-held : (t : Tables) → t .naces ≡ 0 → rows Aces t ≡ []
-unfolding rowsIn rowsOf
-none-held t z = rw z
-
 without-rows : (clock : ℕ) (t : Tables) (r : List ℕ) → t .naces ≡ 0 → permission clock t r ≡ permission clock (withRows Aces t []) r
 unfolding permission unionOf
 without-rows clock t r z =
     let w = credentialIn (rows Creds t) (sender r) in
     let c = connectionOf (sender r) in
     effective-parts clock t (sender r) (resource r)
-    ∙ ap (λ (ws : List Row). bitOr (unionOf (gives clock w c (resource r)) ws) (effective clock (withRows Aces t []) (sender r) (resource r))) (none-held t z)
+    ∙ ap (λ (ws : List Row). bitOr (unionOf (gives clock w c (resource r)) ws) (effective clock (withRows Aces t []) (sender r) (resource r))) (none-held Aces t z)
 
 module _ (f : List ℕ) (good : badFile f ≡ false) (few : tooManyRows f ≡ false) (closed : some opensSecurity (oldRows f) ≡ false) where
   module _ (d : Defaults) (t : Tables) (n : ℕ) (qs : List Request) (ready : Ready n t) (stores : Stores n qs (rowsMade f)) where
@@ -49,7 +46,7 @@ module _ (f : List ℕ) (good : badFile f ≡ false) (few : tooManyRows f ≡ fa
         ≡ bitOr (oldUnion (credentialIn (rows Creds t) (sender r)) (connectionOf (sender r)) (resource r) f) (permission clock t r)
     taken-over clock h r =
         let after = final (tablesAfter d) t qs in
-        permission-same f after (rows-loaded .access) clock h r
+        permission-same f after (rows-loaded .held) clock h r
         ∙ ap₂ (λ (ws : List Row) (p : ℕ). bitOr (oldUnion (credentialIn ws (sender r)) (connectionOf (sender r)) (resource r) f) p)
         (ap (rows Creds) (rows-loaded .others))
         (ap (λ (x : Tables). permission clock x r) (rows-loaded .others) ∙ sym (without-rows clock t r (ready .noAces)))

@@ -3,17 +3,16 @@
 use Prim.Native.Nat.{ℕ, _<_}
 use mathlib.Core.Path.{_≡_}
 use mathlib.Core.Bool.{Bool, true, _&&_}
-use mathlib.Core.List.{List, [], _∷_, _++_, map}
+use mathlib.Core.List.{List, _∷_, _++_, map}
 use Rattle.rows.specs.Rows.{Row}
 use Rattle.rules.specs.declared.Tables.{Tables}
 use Rattle.rules.specs.declared.Table.the-variants.{Aces}
 use Rattle.rules.specs.Bits.{word}
 use Rattle.rules.specs.Record.{Request, Sender, partner}
-use Rattle.rules.specs.Tables.{rows, withRows, sound}
+use Rattle.rules.specs.Tables.{sound}
 use Rattle.rules.specs.Defaults.{Defaults}
 use Rattle.rules.specs.Permission.{ownRow, isRow, names}
-use Rattle.rules.specs.Outcome.{Reply, replyTo, tablesAfter}
-use Rattle.rules.specs.Run.{replies, final}
+use Rattle.rules.specs.Storing.{AllStored}
 
 -- the sender has a credential row, and it names the device owner
 unfoldable pub ownsDevice : Tables → Sender → Bool
@@ -36,7 +35,5 @@ pub record Ready (n : ℕ) (t : Tables) : Type 0 where
   pub owner : ownsDevice t (partner n) ≡ true
 
 -- each record is permitted; the access rows are then these, in their order, and nothing else is changed
-pub record Loaded (d : Defaults) (t : Tables) (qs : List Request) (ws : List Row) : Type 0 where
-  pub permitted : map (λ (p : Reply). p .answer) (replies (replyTo d) (tablesAfter d) t qs) ≡ map (λ (q : Request). 0) qs
-  pub access : rows Aces (final (tablesAfter d) t qs) ≡ ws
-  pub others : withRows Aces (final (tablesAfter d) t qs) [] ≡ withRows Aces t []
+abbrev pub Loaded : Defaults → Tables → List Request → List Row → Type 0
+Loaded d t qs ws = AllStored d Aces t qs ws

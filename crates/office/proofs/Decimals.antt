@@ -34,7 +34,7 @@ value-decimal (suc k) n h =
 digit : (n : ℕ) → all isDigit (lastDigit n ∷ []) ≡ true
 digit n = and-both _ true (and-both _ _ (le-leb 48 (lastDigit n) (omega arith)) (le-leb (lastDigit n) 57 (omega arith))) refl
 
-digits : (k n : ℕ) → all isDigit (decimalIn k n) ≡ true
+pub digits : (k n : ℕ) → all isDigit (decimalIn k n) ≡ true
 unfolding decimalIn
 digits zero n = digit n
 digits (suc k) n =

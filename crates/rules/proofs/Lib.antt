@@ -1,4 +1,4 @@
--- The laws of the definitions, and the theorems over them: Refusals, SoundKept, ReadBack, Gaps, Wear, SubjectRows, LinkLaws, AnyBody, YardSet, Isolated, Built, Examples, RoleExamples.
+-- The laws of the definitions, and the theorems over them: Refusals, SoundKept, ReadBack, RowsStored, Restored, Gaps, Wear, SubjectRows, LinkLaws, AnyBody, YardSet, Isolated, PremiseNeeded, Built, Examples, RoleExamples.
 pub mod Bools
 pub mod BitLaws
 pub mod RecordLaws
@@ -17,6 +17,8 @@ pub mod RowMaps
 pub mod OwnRow
 pub mod SoundKept
 pub mod ReadBack
+pub mod RowsStored
+pub mod Restored
 pub mod Gaps
 pub mod Deletes
 pub mod Wear
@@ -29,3 +31,4 @@ pub mod Isolated
 pub mod Built
 pub mod Examples
 pub mod RoleExamples
+pub mod PremiseNeeded

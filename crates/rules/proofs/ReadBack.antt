@@ -16,13 +16,13 @@ use Rattle.rows.proofs.Restore.{restored}
 use Rattle.rules.specs.declared.Tables.{Tables}
 use Rattle.rules.specs.declared.Table.{Table}
 use Rattle.rules.specs.declared.Table.the-variants.{Creds, Aces}
-use Rattle.rules.specs.Directory.{cred, acl2, roles}
+use Rattle.rules.specs.Directory.{roles}
 use Rattle.rules.specs.Record.{Sender, asked, resource, sender}
-use Rattle.rules.specs.Tables.{stride, longest, capacity, storable, rowOf, rows, rowOwner, sound}
+use Rattle.rules.specs.Tables.{stride, longest, storable, rowOf, rows, rowOwner, sound}
 use Rattle.rules.specs.Bodies.{credRowOf, aceRowOf}
 use Rattle.rules.specs.Roles.{bodyOf, withoutRoles, rolesInForce}
 use Rattle.rules.specs.Permission.{ownRow}
-use Rattle.rules.specs.Reading.{ownBody, rowBytes, contents, reads, replyOf, tooShort, rowsOfReply}
+use Rattle.rules.specs.Reading.{ownBody, rowBytes, contents, reads, replyOf, tooShort, holder, bare, rowsOfReply}
 use Rattle.rules.proofs.Bools.{and-left, and-right}
 use Rattle.rules.proofs.Answers.{table-parts}
 use Rattle.rules.proofs.BodyLaws.{sized}
@@ -30,19 +30,10 @@ use Rattle.rules.proofs.TableLaws.{few-rows}
 use Rattle.rules.proofs.RoleLaws.{body-long, in-force-short}
 use Rattle.rules.proofs.RowMaps.{without-roles-body, distinct-map}
 
--- the resource that holds a table's rows
-abbrev pub holder : Table → ℕ
-holder Creds = cred
-holder Aces = acl2
-
--- each row's body, and the rows without what is asserted
+-- each row's body
 abbrev pub bodies : Table → List Row → List (List ℕ)
 bodies Creds ws = map bodyOf ws
 bodies Aces ws = ws
-
-abbrev pub bare : Table → List Row → List Row
-bare Creds ws = map withoutRoles ws
-bare Aces ws = ws
 
 pub reply-is : (clock : ℕ) (k : Table) (t : Tables) (s : Sender) → contents clock t s (holder k) ≡ rowOwner t (holder k) ++ joined (bodies k (rows k t))
 unfolding contents ownBody rowBytes
@@ -61,7 +52,7 @@ pub bodies-long : (ws : List Row) → AllLong 39 ws → AllLong 23 (map bodyOf w
 bodies-long [] a = tt
 bodies-long (w ∷ ws) a = (body-long w (a .0), bodies-long ws (a .1))
 
-long-bodies : (k : Table) (t : Tables) → sound t ≡ true → AllLong (longest k) (bodies k (rows k t))
+pub long-bodies : (k : Table) (t : Tables) → sound t ≡ true → AllLong (longest k) (bodies k (rows k t))
 long-bodies Creds t h = bodies-long (rows Creds t) (long-rows Creds t h)
 long-bodies Aces t h = long-rows Aces t h
 
@@ -84,15 +75,15 @@ read-rows k owner ws l a =
         bytes = omega (arith, l)
 
 -- a row that the table may hold, sent as its body, is the row that is stored, without what is asserted
-pub cred-itself : (w : Row) → storable Creds w ≡ true → rowOf Creds (bodyOf w) ≡ withoutRoles w
+cred-itself : (w : Row) → storable Creds w ≡ true → rowOf Creds (bodyOf w) ≡ withoutRoles w
 unfolding credRowOf withoutRoles
 cred-itself w h = rw (body-long w (sized Creds w h), sized Creds w h)
 
-pub ace-itself : (w : Row) → storable Aces w ≡ true → rowOf Aces w ≡ w
+ace-itself : (w : Row) → storable Aces w ≡ true → rowOf Aces w ≡ w
 unfolding aceRowOf
 ace-itself w h = rw (sized Aces w h)
 
-rows-themselves : (k : Table) (ws : List Row) → every (storable k) ws ≡ true → map (rowOf k) (bodies k ws) ≡ bare k ws
+pub rows-themselves : (k : Table) (ws : List Row) → every (storable k) ws ≡ true → map (rowOf k) (bodies k ws) ≡ bare k ws
 unfolding every
 rows-themselves Creds [] h = refl
 rows-themselves Creds (w ∷ ws) h =
@@ -101,7 +92,7 @@ rows-themselves Aces [] h = refl
 rows-themselves Aces (w ∷ ws) h =
     ap₂ (λ (v : Row) (vs : List Row). v ∷ vs) (ace-itself w (and-left _ _ h)) (rows-themselves Aces ws (and-right (storable Aces w) _ h))
 
-bare-apart : (k : Table) (ws : List Row) → distinctNumbers ws ≡ true → distinctNumbers (bare k ws) ≡ true
+pub bare-apart : (k : Table) (ws : List Row) → distinctNumbers ws ≡ true → distinctNumbers (bare k ws) ≡ true
 bare-apart Creds ws h = distinct-map withoutRoles without-roles-body ws ∙ h
 bare-apart Aces ws h = h
 

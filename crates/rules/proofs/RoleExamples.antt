@@ -11,15 +11,17 @@ use Rattle.rules.specs.declared.Table.the-variants.{Creds, Aces}
 use Rattle.rules.specs.Directory.{someSecurity}
 use Rattle.rules.specs.Record.{Request, asked, unauthenticated, partner}
 use Rattle.rules.specs.Bodies.{nil}
-use Rattle.rules.specs.Roles.{unasserted, rolesInForce, credHeld}
+use Rattle.rules.specs.Roles.{unasserted, withoutRoles, rolesInForce, credHeld}
 use Rattle.rules.specs.Tables.{rows, withRows}
 use Rattle.rules.specs.Defaults.{noDefaults, fresh}
 use Rattle.rules.specs.Permission.{ownRow, effective}
 use Rattle.rules.specs.Links.{ownRecord, permits, setOf}
 use Rattle.rules.specs.Outcome.{withState, replyTo, tablesAfter}
 use Rattle.rules.specs.Run.{replies, final, Along, kept, keptOf}
+use Rattle.rules.specs.Storing.{inClear, AllStored}
 use Rattle.rules.specs.Isolation.{Premise, isOthers, namesOwner, rowAlters, mayFit, mayAlter, compared}
 use Rattle.rules.proofs.Examples.{definitions, uuid, credRow, withCreds, owned5, serving, aceBody, aceRow, weight, connected, haulierRow, foreman, haulier, yard, chosen7, calm, calm-harmless}
+use Rattle.rules.proofs.Restored.{reply-judged-clear}
 use Rattle.rules.proofs.Isolated.{isolation}
 
 -- state 3, the owner in row 5, a haulier in row 7; role 7 of authority 1 may read /tare and read and update /yard
@@ -148,6 +150,17 @@ pub read-today :
     ≡ (0 ∷ (role 1 7 100 ++ role 0 3 90)) ∷ (0 ∷ role 1 7 100) ∷ (0 ∷ []) ∷ (0 ∷ []) ∷ (15 ∷ []) ∷ (0 ∷ []) ∷ (0 ∷ []) ∷ (0 ∷ (nil ++ credRow 5 ++ haulierRow 7)) ∷ []
 unfolding the-day two-roles read-as
 read-today = refl
+
+-- U1: the rows of that reply, sent over connection 0 to a fresh terminal, are stored, without the roles
+pub read-back :
+    AllStored noDefaults Creds (fresh noDefaults)
+    (map (λ b. asked 0 (inClear Creds b) 0) (credRow 5 ∷ haulierRow 7 ∷ []))
+    (unasserted (credRow 5) ∷ unasserted (haulierRow 7) ∷ [])
+unfolding the-day two-roles withoutRoles
+read-back =
+    reply-judged-clear noDefaults Creds two-roles (fresh noDefaults) (asked 90 (0x30 ∷ 0x80 ∷ 0x00 ∷ 0x05 ∷ []) 62)
+    (map (λ b. asked 0 (inClear Creds b) 0) (credRow 5 ∷ haulierRow 7 ∷ []))
+    refl (record { retrieves = refl; on = refl; permitted = refl }) refl refl refl refl
 
 -- ---- replacing or deleting the credential row drops them, and RESET
 

@@ -12,7 +12,7 @@ use Rattle.rules.specs.declared.Table.the-variants.{Creds, Aces}
 use Rattle.rules.specs.Lookup.{lookup}
 use Rattle.rules.specs.Directory.{isSecurity, doxm, pstat, cred, acl2, roles}
 use Rattle.rules.specs.Record.{Request, Sender, verb, resource, sender}
-use Rattle.rules.specs.Roles.{bodyOf, rolesInForce}
+use Rattle.rules.specs.Roles.{bodyOf, withoutRoles, rolesInForce}
 use Rattle.rules.specs.Tables.{longest, rows, rowOwner}
 use Rattle.rules.specs.Permission.{ownRow}
 
@@ -43,6 +43,16 @@ unfoldable pub filled : List ℕ → List ℕ → List ℕ
 filled buffer reply = reply ++ drop (length reply) buffer
 
 -- ---- for theorems: a reply of cred or acl2, read again
+
+-- the resource that holds a table's rows
+abbrev pub holder : Table → ℕ
+holder Creds = cred
+holder Aces = acl2
+
+-- the rows without what is asserted
+abbrev pub bare : Table → List Row → List Row
+bare Creds ws = map withoutRoles ws
+bare Aces ws = ws
 
 abbrev pub ownerOfReply : List ℕ → List ℕ
 ownerOfReply reply = take 16 reply

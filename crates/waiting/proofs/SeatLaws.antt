@@ -7,9 +7,9 @@ use mathlib.Core.List.{List, [], _∷_, _++_}
 use lib.Dec.{leb}
 use lib.ListN.{length, take, drop}
 use borrow.Author.Tests.{not-true, leb-true, leb-false}
-use Rattle.rows.specs.Rows.{Row, same, some, firstRow, rowsBefore}
-use Rattle.rows.proofs.Kept.{same-true, same-refl, same-sym}
-use Rattle.rules.proofs.Bools.{cond-cases, bool-cases, contradiction, and-left, and-right, and-both, or-neither, or-left, or-right, or-not-left, or-true-right}
+use Rattle.rows.specs.Rows.{same, some, firstRow, rowsBefore}
+use Rattle.rows.proofs.Kept.{same-true, same-refl}
+use Rattle.rules.proofs.Bools.{cond-cases, bool-cases, contradiction, and-left, and-right, or-neither, or-left, or-right, or-not-left, or-true-right}
 use Rattle.waiting.specs.Slots.{Seat, Round, anew, after}
 use Rattle.waiting.specs.Round.{held, start, inTurn}
 
@@ -176,10 +176,6 @@ unfolding start held
 start-bound anew ps = omega arith
 start-bound (after l) ps = cond-cases (λ (s : ℕ). s ≤ length ps) (some (same l) ps) (λ e. omega (arith, index-bound l ps e)) (λ _. omega arith)
 
-start-in : (p : Seat) (ps : List Seat) → some (same p) ps ≡ true → start (after p) ps ≡ suc (rowsBefore (same p) ps)
-unfolding start held
-start-in p ps h = rw h
-
 some-taken : (n : Seat) (s : ℕ) (xs : List Seat) → some (same n) xs ≡ true → some (same n) (drop s xs) ≡ false → some (same n) (take s xs) ≡ true
 unfolding some
 some-taken n zero xs h e = contradiction h e
@@ -213,9 +209,10 @@ turn-bound n l ps d h = index-rotated n (start l ps) ps d h (start-bound l ps) .
 
 -- once p was taken, a seat behind it is nearer
 pub turn-nearer : (n p : Seat) (l : Round) (ps : List Seat) → apart ps ≡ true → some (same n) ps ≡ true → some (same p) ps ≡ true → rowsBefore (same p) (inTurn l ps) < rowsBefore (same n) (inTurn l ps) → rowsBefore (same n) (inTurn (after p) ps) < rowsBefore (same n) (inTurn l ps)
-unfolding inTurn
+unfolding inTurn start held
 turn-nearer n p l ps d h hp e =
     let a = index-rotated n (start l ps) ps d h (start-bound l ps) in
     let b = index-rotated p (start l ps) ps d hp (start-bound l ps) in
     let c = index-rotated n (start (after p) ps) ps d h (start-bound (after p) ps) in
-    nearer (length ps) (start l ps) (rowsBefore (same n) ps) _ (rowsBefore (same p) ps) _ _ (a .0) (b .0) (c .0) (start-bound l ps) (index-bound n ps h) (index-bound p ps hp) (a .2) (c .2) (a .1) (b .1) (rw (← start-in p ps hp) (c .1)) e
+    let behind : start (after p) ps ≡ suc (rowsBefore (same p) ps) = rw hp in
+    nearer (length ps) (start l ps) (rowsBefore (same n) ps) _ (rowsBefore (same p) ps) _ _ (a .0) (b .0) (c .0) (start-bound l ps) (index-bound n ps h) (index-bound p ps hp) (a .2) (c .2) (a .1) (b .1) (omega (arith, c .1)) e

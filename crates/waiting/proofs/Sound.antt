@@ -1,13 +1,13 @@
 -- Theorems: hand-ins, takes and records that are judged at once leave a sound terminal sound; so 1 is met only where a run began with it.
 use Prim.Native.Nat.{ℕ, zero, suc, _+_, _≤_, _<_}
 use native.Mathlib.Omega.{arith}
-use mathlib.Core.Path.{_≡_, refl, sym, ap, ap₂, _∙_}
-use mathlib.Core.Bool.{Bool, true, false, not, _&&_, _||_, cond}
-use mathlib.Core.List.{List, [], _∷_, _++_}
+use mathlib.Core.Path.{_≡_, refl, sym, ap, _∙_}
+use mathlib.Core.Bool.{Bool, true, false, not, _||_}
+use mathlib.Core.List.{List, [], _∷_}
 use lib.Dec.{eqb}
-use lib.ListN.{length, take, replicate}
-use borrow.Author.Tests.{eqb-true, eq-eqb, not-true, not-false}
-use Rattle.rows.specs.Rows.{Row, same, hasKey, numberedAs, some, firstRow, every, without, stored, packed, joined, distinctNumbers}
+use lib.ListN.{length, take}
+use borrow.Author.Tests.{not-false}
+use Rattle.rows.specs.Rows.{Row, same, hasKey, numberedAs, some, every, without, stored, packed, joined, distinctNumbers}
 use Rattle.rows.proofs.Laws.{numbered-key}
 use Rattle.rows.proofs.Kept.{same-refl, every-stored, every-without, distinct-stored, distinct-without, length-stored}
 use Rattle.rules.specs.declared.Tables.{Tables}
@@ -19,16 +19,16 @@ use Rattle.rules.specs.Defaults.{Defaults, fresh}
 use Rattle.rules.specs.Checks.{senderChecks, verdict}
 use Rattle.rules.specs.Outcome.{Outcome, replyTo, tablesAfter}
 use Rattle.rules.specs.Run.{final}
-use Rattle.rules.proofs.Bools.{cond-cases, bool-cases, contradiction, and-left, and-right, and-both, not-of-false}
+use Rattle.rules.proofs.Bools.{cond-cases, contradiction, and-left, and-right, and-both}
 use Rattle.rules.proofs.Answers.{passed}
 use Rattle.rules.proofs.Refusals.{refusal-is}
 use Rattle.rules.proofs.SoundKept.{sound-kept, fresh-sound}
-use Rattle.waiting.specs.Slots.{Seat, Round, anew, after, slotOf, roundOf, waiting, memoryOf, freshMemory}
+use Rattle.waiting.specs.Slots.{Round, anew, after, slotOf, roundOf, waiting, memoryOf, freshMemory}
 use Rattle.waiting.specs.Round.{seats, held, occupied, inTurn, firstInTurn, gone, heldRound}
-use Rattle.waiting.specs.Terminal.{Terminal, terminal, slotSound, memorySound, soundTerminal, freshTerminal, handInChecks, withRecord, handInOf, handedIn, clears, asMany, memoryAfter, terminalAfter, takeChecks, turn, due, takeOf, taken, directChecks, directOf, judged}
+use Rattle.waiting.specs.Terminal.{Terminal, terminal, slotSound, memorySound, soundTerminal, freshTerminal, handInChecks, withRecord, handInOf, handedIn, clears, asMany, memoryAfter, takeChecks, turn, due, takeOf, taken, directChecks, directOf, judged}
 use Rattle.waiting.specs.Inputs.{Input, handIn, takeAt, direct, next}
 use Rattle.waiting.proofs.SeatLaws.{first-passes, first-in, first-least, turn-in, turn-of}
-use Rattle.waiting.proofs.SlotLaws.{TwoLong, SoundMemory, memory-parts, memory-sound, round-two, slot-length, slot-made, slot-seat, slot-two}
+use Rattle.waiting.proofs.SlotLaws.{TwoLong, memory-parts, memory-sound, round-two, slot-length, slot-made, slot-seat, slot-two}
 use Rattle.waiting.proofs.Held.{slot-held, slot-in, seat-long, few-slots}
 use Rattle.waiting.proofs.RowsMoved.{seats-same}
 
@@ -116,11 +116,12 @@ unfolding memoryAfter
 sound-after d t q k ws s two h a =
     let t′ = tablesAfter d t q in
     let s′ = sound-kept d t q s in
+    let still = held-two t k two in
     cond-cases (λ (m : List ℕ). memorySound t′ m ≡ true) (clears d t q)
     (λ _. fresh-memory t′ s′)
     (λ c. cond-cases (λ (m : List ℕ). memorySound t′ m ≡ true) (asMany t t′)
-    (λ e. made t′ k ws s′ two (every-same t t′ ws (seats-same d t q s c e) h) a)
-    (λ _. made t′ (heldRound (seats t′) (heldRound (seats t) k)) (without (gone (seats t′)) ws) s′ (held-two t′ (heldRound (seats t) k) (held-two t k two)) (every-staying t t′ ws h) (distinct-without (gone (seats t′)) ws a)))
+    (λ e. made t′ _ _ s′ (search) (every-same t t′ ws (seats-same d t q s c e) h) a)
+    (λ _. made t′ _ _ s′ (held-two t′ (heldRound (seats t) k) still) (every-staying t t′ ws h) (distinct-without _ ws a)))
 
 -- ---- take
 
@@ -170,9 +171,9 @@ sound-taken d x clock room h = go (verdict (takeChecks x)) refl
     go : (c : Check) → verdict (takeChecks x) ≡ c → soundTerminal (takeOf d x q c .terminal) ≡ true
     go Pass e =
         terminal-whole (takeOf d x q Pass .terminal) (sound-kept d (x .tables) q (s .tables))
-        (sound-after d (x .tables) q (after (turn x)) (without (hasKey 0 (turn x)) (waiting (x .memory))) (s .tables) (turn-is x h (take-passed x e .1) .two)
-        (every-without (slotSound (x .tables)) (hasKey 0 (turn x)) (waiting (x .memory)) (s .keeps))
-        (distinct-without (hasKey 0 (turn x)) (waiting (x .memory)) (s .apart)))
+        (sound-after d (x .tables) q _ _ (s .tables) (turn-is x h (take-passed x e .1) .two)
+        (every-without (slotSound (x .tables)) _ (waiting (x .memory)) (s .keeps))
+        (distinct-without _ (waiting (x .memory)) (s .apart)))
     go (Refuse n) e = h
 
 -- ---- a record that does not wait

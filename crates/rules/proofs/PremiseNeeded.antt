@@ -1,0 +1,124 @@
+-- Theorems: each part of the premise of 'The others alone' is needed. One run, and for each part tables in which it alone fails:
+-- what is compared of the tables at the end is then not the same.
+use Prim.Native.Nat.{ℕ}
+use native.Mathlib.Omega.{arith}
+use mathlib.Core.Path.{_≡_, refl, ap}
+use mathlib.Core.Bool.{Bool, true, false, not, false≢true}
+use mathlib.Core.List.{List, [], _∷_, map}
+use lib.Dec.{eqb}
+use lib.ListN.{replicate}
+use borrow.Author.Tests.{eqb-true, not-true}
+use Rattle.rules.specs.declared.Tables.{Tables}
+use Rattle.rules.specs.Directory.{someSecurity}
+use Rattle.rules.specs.Record.{Request, asked, Sender, unauthenticated, partner}
+use Rattle.rules.specs.Tables.{sound}
+use Rattle.rules.specs.Defaults.{noDefaults, fresh}
+use Rattle.rules.specs.Outcome.{withRowOwner, replyTo, tablesAfter}
+use Rattle.rules.specs.Run.{replies, final, Along, kept}
+use Rattle.rules.specs.Isolation.{Harmless, isOthers, namesOwner, rowAlters, mayFit, mayAlter, compared}
+use Rattle.rules.proofs.Examples.{definitions, uuid, credRow, withCreds, owned5, serving, aceBody, aceRow, haulierRow, haulier}
+
+-- ---- the premise, where partner 7 alone is chosen
+
+unfoldable pub only7 : Sender → Bool
+only7 unauthenticated = false
+only7 (partner n) = eqb n 7
+
+-- its parts as tests: there is an owner; the credential row of 7 names none; no access row that may fit 7 gives create, update or delete
+unfoldable pub parts : Tables → List Bool
+parts t = not (eqb (t .owned) 0) ∷ not (namesOwner t (partner 7)) ∷ not (mayAlter t (partner 7)) ∷ []
+
+-- they are the premise
+pub harmless-parts : (t : Tables) → Harmless only7 t → parts t ≡ true ∷ true ∷ true ∷ []
+unfolding only7 parts
+harmless-parts t h = rw (h .hasOwner (partner 7) refl, h .notOwner (partner 7) refl, h .notGranted (partner 7) refl)
+
+pub parts-harmless : (t : Tables) → parts t ≡ true ∷ true ∷ true ∷ [] → Harmless only7 t
+unfolding only7 parts
+parts-harmless t e = record { hasOwner = owned; notOwner = owner; notGranted = granted }
+  where
+    owned : (s : Sender) → only7 s ≡ true → eqb (t .owned) 0 ≡ false
+    owned s c = not-true _ cc
+
+    owner : (s : Sender) → only7 s ≡ true → namesOwner t s ≡ false
+    owner unauthenticated c = absurd (false≢true c)
+    owner (partner n) c = rw (eqb-true n 7 c) (not-true _ cc)
+
+    granted : (s : Sender) → only7 s ≡ true → mayAlter t s ≡ false
+    granted unauthenticated c = absurd (false≢true c)
+    granted (partner n) c = rw (eqb-true n 7 c) (not-true _ cc)
+
+-- ---- the run: the owner, partner 5, reads pstat; partner 7 resets the terminal; partner 5 reads again
+
+pub resetRun : List Request
+resetRun =
+    map (λ r. asked 0 r 17)
+    ((0x30 ∷ 0x40 ∷ 0x00 ∷ 0x05 ∷ [])
+    ∷ (0x50 ∷ 0x40 ∷ 0x00 ∷ 0x07 ∷ 0x00 ∷ [])
+    ∷ (0x30 ∷ 0x40 ∷ 0x00 ∷ 0x05 ∷ [])
+    ∷ [])
+
+-- along the others' run the tables are sound, and these parts of the premise hold; and yet the tables at the end differ
+pub record Needed (holds : List Bool) (t : Tables) : Type 0 where
+  pub premise : Along (tablesAfter noDefaults) (λ (x : Tables). (sound x ∷ parts x) ≡ true ∷ holds) t (kept (isOthers only7) resetRun)
+  pub differ :
+      compared only7 (final (tablesAfter noDefaults) t resetRun)
+      ≡ compared only7 (final (tablesAfter noDefaults) t (kept (isOthers only7) resetRun))
+      → ⊥
+
+rows-gone : (a b : Tables) → a .ncreds ≡ 0 → b .ncreds ≡ 2 → a ≡ b → ⊥
+rows-gone a b none two e = let z = ap (λ (x : Tables). x .ncreds) e in omega arith
+
+-- everybody's answers
+pub answers : Tables → List ℕ
+answers t = replies (λ x q. replyTo noDefaults x q .answer) (tablesAfter noDefaults) t resetRun
+
+-- `unfolding the-reset` opens all that these examples say
+the-reset : Unit {0}
+unfolding definitions namesOwner rowAlters mayFit mayAlter someSecurity compared only7 parts resetRun answers haulierRow haulier owned5 serving aceBody aceRow uuid credRow withCreds
+the-reset = tt
+
+-- ---- no owner: RFOTM, a credential row for each
+
+pub unowned : Tables
+unowned = withCreds (fresh noDefaults) (credRow 5 ∷ haulierRow 7 ∷ [])
+
+pub owner-needed : Needed (false ∷ true ∷ true ∷ []) unowned
+unfolding the-reset unowned
+owner-needed = record { premise = (refl, (refl, refl)); differ = rows-gone _ _ refl refl }
+
+-- ---- a chosen partner's credential row names an owner, in RFNOP: the device owner; the row owner of pstat
+
+pub deputy : Tables
+deputy = withCreds (serving []) (credRow 5 ∷ credRow 7 ∷ [])
+
+pub device-owner-needed : Needed (true ∷ false ∷ true ∷ []) deputy
+unfolding the-reset deputy
+device-owner-needed = record { premise = (refl, (refl, refl)); differ = rows-gone _ _ refl refl }
+
+pub caretaker : Tables
+caretaker = withRowOwner (withCreds (serving []) (credRow 5 ∷ haulierRow 7 ∷ [])) 1 haulier
+
+pub row-owner-needed : Needed (true ∷ false ∷ true ∷ []) caretaker
+unfolding the-reset caretaker
+row-owner-needed = record { premise = (refl, (refl, refl)); differ = rows-gone _ _ refl refl }
+
+-- ---- an access row gives a chosen partner update on pstat, in RFNOP
+
+pub granted : Tables
+granted = withCreds (serving (aceRow 1 0 4 0 (0x40 ∷ replicate 7 0) haulier ∷ [])) (credRow 5 ∷ haulierRow 7 ∷ [])
+
+pub grant-needed : Needed (true ∷ true ∷ false ∷ []) granted
+unfolding the-reset granted
+grant-needed = record { premise = (refl, (refl, refl)); differ = rows-gone _ _ refl refl }
+
+-- ---- in each the reset is permitted, and the owner is then unknown; where no part fails it is refused
+
+pub calm : Tables
+calm = withCreds (serving []) (credRow 5 ∷ haulierRow 7 ∷ [])
+
+pub reset-answers :
+    map answers (unowned ∷ deputy ∷ caretaker ∷ granted ∷ calm ∷ [])
+    ≡ (0 ∷ 0 ∷ 7 ∷ []) ∷ (0 ∷ 0 ∷ 7 ∷ []) ∷ (0 ∷ 0 ∷ 7 ∷ []) ∷ (0 ∷ 0 ∷ 7 ∷ []) ∷ (0 ∷ 8 ∷ 0 ∷ []) ∷ []
+unfolding the-reset unowned deputy caretaker granted calm
+reset-answers = refl
