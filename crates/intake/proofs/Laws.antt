@@ -13,14 +13,17 @@ use Rattle.rows.proofs.Laws.{some-place, isAt, take-rest}
 use Rattle.rules.specs.declared.Tables.{Tables}
 use Rattle.rules.specs.declared.Check.{Check}
 use Rattle.rules.specs.declared.Check.the-variants.{Pass, Refuse}
+use Rattle.rules.specs.declared.Head.{Head}
 use Rattle.rules.specs.declared.Judgement.{Judgement}
 use Rattle.rules.specs.Checks.{senderChecks, verdict, numberOf}
-use Rattle.rules.specs.Outcome.{refusal}
+use Rattle.rules.specs.Tables.{tablesOf}
+use Rattle.rules.specs.Outcome.{refusal, saidOf}
 use Rattle.rules.proofs.Answers.{passed, long-enough}
 use Rattle.rules.proofs.RecordLaws.{key-is}
 use Rattle.waiting.specs.Slots.{seatOf, waiting}
 use Rattle.waiting.specs.Round.{occupied}
-use Rattle.waiting.specs.Terminal.{Terminal, terminal, soundTerminal, handInChecks, withRecord, handInOf, handedIn, said}
+use Rattle.waiting.specs.Terminal.{Terminal, terminal, soundTerminal, handInChecks, handInOf, handedIn, said}
+use Rattle.waiting.specs.Calls.{HandsIn}
 use Rattle.waiting.proofs.SlotLaws.{short-record}
 use Rattle.waiting.proofs.Sound.{hand-passed, hand-room}
 use Rattle.queue.specs.Queue.{IsQueue}
@@ -45,17 +48,15 @@ module _ (t : Tables) (m r : List ℕ) (e : verdict (handInChecks (terminal t m)
 
 -- ---- the answer, and the memory
 
-module _ (t : Tables) (m r : List ℕ) (c : Check) (told : c ≡ verdict (handInChecks (terminal t m) r)) where
-  pub refused-is : (n : ℕ) → c ≡ Refuse n → (j : Judgement) → j ≡ refusal t (numberOf c) → (j ≡ said (handedIn (terminal t m) r)) × (m ≡ handedIn (terminal t m) r .terminal .memory)
-  unfolding handedIn
-  refused-is n e j f = (
-    f ∙ ap (λ (k : Check). refusal t (numberOf k)) e ∙ ap (λ (k : Check). said (handInOf (terminal t m) r k)) (sym e ∙ told),
-    ap (λ (k : Check). handInOf (terminal t m) r k .terminal .memory) (sym e ∙ told),
-  )
-
-  pub kept-is : c ≡ Pass → (j : Judgement) (m′ : List ℕ) → j ≡ refusal t (numberOf c) → m′ ≡ withRecord r m → (j ≡ said (handedIn (terminal t m) r)) × (m′ ≡ handedIn (terminal t m) r .terminal .memory)
-  unfolding handedIn
-  kept-is e j m′ f g = (
-    f ∙ ap (λ (k : Check). refusal t (numberOf k)) e ∙ ap (λ (k : Check). said (handInOf (terminal t m) r k)) (sym e ∙ told),
-    g ∙ ap (λ (k : Check). handInOf (terminal t m) r k .terminal .memory) (sym e ∙ told),
-  )
+-- the answer alone is said, of a refusal and of a record that is kept
+pub answered : (f : Head) (cs es m r : List ℕ) (c v : Check) → c ≡ verdict (handInChecks (terminal (tablesOf f cs es) m) r) → c ≡ v
+    → (j : Judgement) (m′ : List ℕ) → j ≡ refusal f (numberOf c) → m′ ≡ handInOf (terminal (tablesOf f cs es) m) r v .terminal .memory
+    → saidOf (refusal f (numberOf v)) cs es ≡ said (handInOf (terminal (tablesOf f cs es) m) r v)
+    → HandsIn (terminal (tablesOf f cs es) m) r (saidOf j cs es) m′
+unfolding handedIn
+answered f cs es m r c v told e j m′ i g s =
+    let x = terminal (tablesOf f cs es) m in
+    record {
+      says = ap (λ (k : Judgement). saidOf k cs es) (i ∙ ap (λ (k : Check). refusal f (numberOf k)) e) ∙ s ∙ ap (λ (k : Check). said (handInOf x r k)) (sym e ∙ told);
+      keeps = g ∙ ap (λ (k : Check). handInOf x r k .terminal .memory) (sym e ∙ told);
+    }

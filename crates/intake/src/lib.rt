@@ -7,7 +7,6 @@ use rules::CRED_ROWS;
 use rules::Check;
 use rules::Head;
 use rules::Judgement;
-use rules::Tables;
 use slots::check_terminal;
 ghost use mathlib.Core.Path.{_≡_};
 ghost use Prim.Native.Nat.{ℕ, _≤_};
@@ -16,7 +15,9 @@ ghost use Rattle.rules.specs.Tables.{tablesOf};
 ghost use Rattle.rules.specs.Checks.{refuseIf, verdict};
 ghost use Rattle.waiting.specs.Slots.{seatOf, waiting};
 ghost use Rattle.waiting.specs.Round.{occupied};
-ghost use Rattle.waiting.specs.Terminal.{terminal, handInChecks, handedIn, said};
+ghost use Rattle.rules.specs.Outcome.{saidOf};
+ghost use Rattle.waiting.specs.Terminal.{terminal, handInChecks};
+ghost use Rattle.waiting.specs.Calls.{HandsIn};
 
 // Check 26: the sender's seat is occupied.
 fn check_free(memory: &[u8], record: &[u8]) -> Check
@@ -51,26 +52,21 @@ fn check_hand_in<'a>(
     check_free(memory, record)
 }
 
-// Hands a record in: the answer, with permission 0 and all else empty. The tables come back as they are.
+// Hands a record in: the answer, with permission 0 and all else empty. The tables stay as they are.
 // Rules out: a record kept beside another of its sender; one that lost a byte; a byte of the memory changed on a refusal; an answer 0 that permits.
-pub fn hand_in(t: Tables, memory: &mut [u8; 6504], record: &[u8]) -> Judgement
-    ensures said { λ r. ⌜ r ≡ said (handedIn (terminal t (now (memory .entry))) (now («record» .entry))) ⌝ }
-    ensures memory { λ _. ⌜ now (memory .exit) ≡ handedIn (terminal t (now (memory .entry))) (now («record» .entry)) .terminal .memory ⌝ }
+pub fn hand_in<'a>(
+    h: Head,
+    creds: &'a [u8; CRED_ROWS],
+    aces: &'a [u8; 1152],
+    memory: &mut [u8; 6504],
+    record: &[u8],
+) -> Judgement
+    ensures { λ r. ⌜ HandsIn (terminal (tablesOf h (now (creds .entry)) (now (aces .entry))) (now (memory .entry))) (now («record» .entry)) (saidOf r (now (creds .entry)) (now (aces .entry))) (now (memory .exit)) ⌝ }
 {
-    let devowner = t.devowner;
-    let rowners = t.rowners;
-    let h = Head {
-        state: t.state,
-        owned: t.owned,
-        ncreds: t.ncreds,
-        naces: t.naces,
-        devowner: devowner,
-        rowners: rowners,
-    };
-    let c = check_hand_in(h, &t.creds, &t.aces, memory, record);
+    let c = check_hand_in(h, creds, aces, memory, record);
     let Check::Pass = c else {
-        return refused(t, c);
+        return refused(h, c);
     };
     queue::keep(memory, record);
-    refused(t, c)
+    refused(h, c)
 }

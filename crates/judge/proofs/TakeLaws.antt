@@ -12,16 +12,17 @@ use Rattle.rows.proofs.Kept.{every-without, distinct-without}
 use Rattle.rules.specs.declared.Tables.{Tables}
 use Rattle.rules.specs.declared.Check.{Check}
 use Rattle.rules.specs.declared.Check.the-variants.{Pass, Refuse}
+use Rattle.rules.specs.declared.Head.{Head}
 use Rattle.rules.specs.declared.Judgement.{Judgement}
 use Rattle.rules.specs.Record.{Request, asked}
-use Rattle.rules.specs.Tables.{sound}
+use Rattle.rules.specs.Tables.{tablesOf}
 use Rattle.rules.specs.Defaults.{Defaults}
 use Rattle.rules.specs.Reading.{filled}
 use Rattle.rules.specs.Checks.{verdict, numberOf}
-use Rattle.rules.specs.Outcome.{outcome, replyTo, judgementOf, refusal}
-use Rattle.waiting.specs.declared.Taken.{Taken}
+use Rattle.rules.specs.Outcome.{Said, outcome, replyTo, judgementOf, refusal}
 use Rattle.waiting.specs.Slots.{Seat, Round, after, padded, roundOf, waiting, memoryOf}
-use Rattle.waiting.specs.Terminal.{Terminal, terminal, Answered, slotSound, memorySound, soundTerminal, memoryAfter, takeChecks, turn, due, takeOf, taken, said, handedOut}
+use Rattle.waiting.specs.Terminal.{Terminal, terminal, Answered, slotSound, memorySound, soundTerminal, memoryAfter, takeChecks, turn, due, takeOf, taken, handedOut, takenOf}
+use Rattle.waiting.specs.Calls.{Takes}
 use Rattle.waiting.proofs.SlotLaws.{memory-sound, waiting-back, round-back, slots-long}
 use Rattle.waiting.proofs.Held.{few-slots}
 use Rattle.waiting.proofs.Sound.{Sound, terminal-parts, turn-is, take-passed}
@@ -89,23 +90,8 @@ module _ (t : Tables) (m : List ℕ) (h : soundTerminal (terminal t m) ≡ true)
 -- ---- the take
 
 module _ (d : Defaults) (t : Tables) (m : List ℕ) (clock room : ℕ) (c : Check) (told : c ≡ verdict (takeChecks (terminal t m))) where
-  -- what is handed out, the memory and the buffer
-  abbrev pub Ends : Taken → List ℕ → List ℕ → List ℕ → Type 0
-  Ends r m′ b b′ =
-      (r ≡ handedOut (taken d (terminal t m) clock room))
-      × ((m′ ≡ taken d (terminal t m) clock room .terminal .memory) × (b′ ≡ filled b (taken d (terminal t m) clock room .reply .contents)))
-
   pub ready : c ≡ Pass → (soundTerminal (terminal t m) ≡ true) × (eqb (length (waiting m)) 0 ≡ false)
   ready e = take-passed (terminal t m) (sym told ∙ e)
-
-  pub nothing-taken : (n : ℕ) → c ≡ Refuse n → (j : Judgement) → j ≡ refusal t (numberOf c) → (z : List ℕ) → z ≡ replicate 256 0 → (b : List ℕ) → Ends (record { judgement = j; size = 0; bytes = z }) m b b
-  unfolding taken padded filled
-  nothing-taken n e j f z i b =
-      let v : Refuse n ≡ verdict (takeChecks (terminal t m)) = sym e ∙ told in
-      let q = asked clock (due (terminal t m)) room in (
-        ap₂ (λ (k : Judgement) (l : List ℕ). record { judgement = k; size = 0; bytes = l }) (f ∙ ap (λ (k : Check). refusal t (numberOf k)) e) i ∙ ap (λ (k : Check). handedOut (takeOf d (terminal t m) q k)) v,
-        (ap (λ (k : Check). takeOf d (terminal t m) q k .terminal .memory) v, ap (λ (k : Check). filled b (takeOf d (terminal t m) q k .reply .contents)) v),
-      )
 
   module _ (e : c ≡ Pass) (q : Due) (is : q ≡ dueOf (terminal t m)) where
     abbrev pub handed : Request
@@ -115,16 +101,33 @@ module _ (d : Defaults) (t : Tables) (m : List ℕ) (clock room : ℕ) (c : Chec
     handed-is = ap (λ (r : List ℕ). asked clock r room) (prefix-is (terminal t m) q is)
 
     -- by the memory that is left
-    pub one-taken : (j : Judgement) (m′ b b′ : List ℕ) → j ≡ judgementOf (outcome d t handed) → b′ ≡ filled b (replyTo d t handed .contents)
+    pub one-taken : (s : Said) (m′ b b′ : List ℕ) → s ≡ judgementOf (outcome d t handed) → b′ ≡ filled b (replyTo d t handed .contents)
         → m′ ≡ memoryAfter d t handed (after (turn (terminal t m))) (without (hasKey 0 (turn (terminal t m))) (waiting m))
-        → Ends (record { judgement = j; size = q .size; bytes = q .bytes }) m′ b b′
+        → Takes d (terminal t m) clock room (record { judgement = s; size = q .size; bytes = q .bytes }) b m′ b′
     unfolding taken
-    one-taken j m′ b b′ f g h =
+    one-taken s m′ b b′ f g h =
         let v : Pass ≡ verdict (takeChecks (terminal t m)) = sym e ∙ told in
-        let r = asked clock (due (terminal t m)) room in (
-          ap₂ (λ (k : Judgement) (z : Due). record { judgement = k; size = z .size; bytes = z .bytes }) (f ∙ ap (λ (i : Request). judgementOf (outcome d t i)) handed-is) is ∙ ap (λ (k : Check). handedOut (takeOf d (terminal t m) r k)) v,
-          (
-            h ∙ ap (λ (i : Request). memoryAfter d t i (after (turn (terminal t m))) (without (hasKey 0 (turn (terminal t m))) (waiting m))) handed-is ∙ ap (λ (k : Check). takeOf d (terminal t m) r k .terminal .memory) v,
-            g ∙ ap (λ (i : Request). filled b (replyTo d t i .contents)) handed-is ∙ ap (λ (k : Check). filled b (takeOf d (terminal t m) r k .reply .contents)) v,
-          ),
-        )
+        let r = asked clock (due (terminal t m)) room in
+        record {
+          hands = ap₂ (λ (k : Said) (z : Due). record { judgement = k; size = z .size; bytes = z .bytes }) (f ∙ ap (λ (i : Request). judgementOf (outcome d t i)) handed-is) is ∙ ap (λ (k : Check). handedOut (takeOf d (terminal t m) r k)) v;
+          leaves = record {
+            keeps = h ∙ ap (λ (i : Request). memoryAfter d t i (after (turn (terminal t m))) (without (hasKey 0 (turn (terminal t m))) (waiting m))) handed-is ∙ ap (λ (k : Check). takeOf d (terminal t m) r k .terminal .memory) v;
+            fills = g ∙ ap (λ (i : Request). filled b (replyTo d t i .contents)) handed-is ∙ ap (λ (k : Check). filled b (takeOf d (terminal t m) r k .reply .contents)) v;
+          };
+        }
+
+pub nothing-taken : (d : Defaults) (f : Head) (cs es m : List ℕ) (clock room : ℕ) (c : Check) → c ≡ verdict (takeChecks (terminal (tablesOf f cs es) m)) → (n : ℕ) → c ≡ Refuse n
+    → (j : Judgement) → j ≡ refusal f (numberOf c) → (z : List ℕ) → z ≡ replicate 256 0 → (b : List ℕ)
+    → Takes d (terminal (tablesOf f cs es) m) clock room (takenOf (record { judgement = j; size = 0; bytes = z }) cs es) b m b
+unfolding taken padded filled
+nothing-taken d f cs es m clock room c told n e j i z l b =
+    let x = terminal (tablesOf f cs es) m in
+    let v : Refuse n ≡ verdict (takeChecks x) = sym e ∙ told in
+    let q = asked clock (due x) room in
+    record {
+      hands = ap₂ (λ (k : Judgement) (y : List ℕ). takenOf (record { judgement = k; size = 0; bytes = y }) cs es) (i ∙ ap (λ (k : Check). refusal f (numberOf k)) e) l ∙ ap (λ (k : Check). handedOut (takeOf d x q k)) v;
+      leaves = record {
+        keeps = ap (λ (k : Check). takeOf d x q k .terminal .memory) v;
+        fills = ap (λ (k : Check). filled b (takeOf d x q k .reply .contents)) v;
+      };
+    }

@@ -18,10 +18,10 @@ use Rattle.rules.specs.Outcome.{payloadAt}
 use Rattle.rules.specs.Run.{replies, final}
 use Rattle.rules.proofs.Bools.{cond-cases}
 use Rattle.rules.proofs.Refusals.{payload-is}
-use Rattle.waiting.specs.declared.Taken.{Taken}
-use Rattle.waiting.specs.Terminal.{Terminal, terminal, Answered, soundTerminal, handInChecks, handInOf, handedIn, takeChecks, due, takeOf, taken, directChecks, directOf, judged, said}
+use Rattle.waiting.specs.Terminal.{Terminal, terminal, Answered, soundTerminal, handInChecks, handInOf, handedIn, takeChecks, due, takeOf, taken, directChecks, directOf, judged, said, HandedOut}
+use Rattle.waiting.specs.Calls.{Leaves}
 use Rattle.waiting.specs.Inputs.{Input, handIn, takeAt, direct, answered, next}
-use Rattle.waiting.proofs.Built.{Call, told, recordGiven, Lent, Meets, left, Built, handedBack, record-back, told-is, call-left}
+use Rattle.waiting.proofs.Built.{Call, told, recordGiven, Lends, Meets, left, Built, handedBack, record-back, told-is, call-left}
 use Rattle.order.specs.Order.{InStep, SameAnswer, InPairs}
 use Rattle.order.proofs.AnyOrder.{any-order}
 
@@ -53,9 +53,9 @@ refused-1 false n r e = absurd (let z : _≡_ {A = ℕ} 0 1 = cc in omega arith)
 
 -- a call with a buffer and a payload shows the answer a
 lent-shown : (a : Answered) (room : ℕ) (r given : List ℕ) (c : Call)
-    → c .judgement ≡ said a → c .memory ≡ a .terminal .memory → Lent a room r c → payloadAt (a .reply .answer) r ≡ a .reply .payload → given ≡ a .bytes
+    → c .judgement ≡ said a → Leaves a (c .lent) (c .memory) (c .buffer) → Lends room r c → payloadAt (a .reply .answer) r ≡ a .reply .payload → given ≡ a .bytes
     → record { bytes = given; reply = told c; terminal = left c } ≡ a
-lent-shown a room r given c j m l p e = rw (e, told-is a room r c j l p, j, m)
+lent-shown a room r given c j f l p e = rw (e, told-is a room r c j f l p, j, f .keeps)
 
 module _ (d : Defaults) (x : Terminal) where
   hand-shown : (r : List ℕ) (c : Call) (v : Check) → c .judgement ≡ said (handInOf x r v) → c .memory ≡ handInOf x r v .terminal .memory → shown (handIn r) c ≡ handInOf x r v
@@ -78,14 +78,14 @@ module _ (d : Defaults) (x : Terminal) where
   -- a call shows what is answered
   pub shown-is : (i : Input) (c : Call) → Meets d x i c → shown i c ≡ answered d x i
   unfolding handedIn taken judged
-  shown-is (handIn r) c m = hand-shown r c (verdict (handInChecks x r)) (m .0) (m .1)
+  shown-is (handIn r) c m = hand-shown r c (verdict (handInChecks x r)) (m .says) (m .keeps)
   shown-is (takeAt clock room) c m =
       let a = taken d x clock room in
-      let r : recordGiven c ≡ a .bytes = ap (λ (t : Taken). take (t .size) (t .bytes)) (m .0) ∙ record-back (a .bytes) in
-      lent-shown a room (recordGiven c) (recordGiven c) c (ap (λ (t : Taken). t .judgement) (m .0)) (m .1) (m .2)
+      let r : recordGiven c ≡ a .bytes = ap (λ (t : HandedOut). take (t .size) (t .bytes)) (m .0 .hands) ∙ record-back (a .bytes) in
+      lent-shown a room (recordGiven c) (recordGiven c) c (ap (λ (t : HandedOut). t .judgement) (m .0 .hands)) (m .0 .leaves) (m .1)
       (ap (payloadAt (a .reply .answer)) r ∙ take-payload (asked clock (due x) room) (verdict (takeChecks x))) r
   shown-is (direct q) c m =
-      lent-shown (judged d x q) (q .room) (q .bytes) [] c (m .0) (m .1) (m .2) (direct-payload q (verdict (directChecks x)) refl) (direct-bytes q (verdict (directChecks x)))
+      lent-shown (judged d x q) (q .room) (q .bytes) [] c (m .0 .says) (m .0 .leaves) (m .1) (direct-payload q (verdict (directChecks x)) refl) (direct-bytes q (verdict (directChecks x)))
 
 -- ---- the run
 

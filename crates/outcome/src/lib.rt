@@ -4,10 +4,10 @@ use directory::resource_row;
 use fields::after;
 use fields::record::resource_of;
 use rules::Check;
+use rules::Head;
 use rules::Judgement;
 use rules::Links;
 use rules::Places;
-use rules::Tables;
 ghost use mathlib.Core.Path.{_≡_};
 ghost use lib.Dec.{ltb};
 ghost use Rattle.rules.specs.Places.{nowhere};
@@ -31,10 +31,10 @@ pub fn no_links() -> Links
     Links { set: 0, size: 0 }
 }
 
-// A refusal hands the tables back as they are, with permission 0, no reply, no places and no links.
-// Rules out: tables that are changed on a refusal; a refusal that says 0.
-pub fn refused(t: Tables, c: Check) -> Judgement
-    ensures { λ r. ⌜ r ≡ refusal t (numberOf c) ⌝ }
+// A refusal hands the head of the tables back as it is, with permission 0, no reply, no places and no links.
+// Rules out: a head that is changed on a refusal; a refusal that says 0.
+pub fn refused(h: Head, c: Check) -> Judgement
+    ensures { λ r. ⌜ r ≡ refusal h (numberOf c) ⌝ }
 {
     match c {
         Check::Pass => Judgement {
@@ -43,7 +43,7 @@ pub fn refused(t: Tables, c: Check) -> Judgement
             length: 0,
             places: no_places(),
             links: no_links(),
-            tables: t,
+            head: h,
         },
         Check::Refuse(n) => Judgement {
             answer: n,
@@ -51,7 +51,7 @@ pub fn refused(t: Tables, c: Check) -> Judgement
             length: 0,
             places: no_places(),
             links: no_links(),
-            tables: t,
+            head: h,
         },
     }
 }

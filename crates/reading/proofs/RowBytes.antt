@@ -1,11 +1,10 @@
 -- The bytes of the rows that a table holds: of access rows the first bytes of the table, of credential rows their bodies.
 use Prim.Native.Nat.{ℕ, suc, _*_, _-_, _≤_, _<_, min}
-use native.Mathlib.Nat.{mul-le-mul-right, min-le-right}
 use native.Mathlib.Omega.{arith}
 use mathlib.Core.Path.{_≡_, sym, ap, _∙_}
 use mathlib.Core.List.{List, [], _++_, map}
 use lib.ListN.{length, take, drop, length-map}
-use lib.Seq.{length-take-le, take-take}
+use lib.Seq.{take-take}
 use Rattle.rows.specs.Rows.{rowsOf, joined}
 use Rattle.rows.proofs.Laws.{joined-rowsOf, length-rowsOf, take-rest}
 use Rattle.rows.proofs.Kept.{long-rowsOf, length-joined}
@@ -23,11 +22,6 @@ row-bytes n b = joined-rowsOf 36 (min n 32) b
 -- a part that code took
 pub row-part : (n m : ℕ) (b p : List ℕ) → m ≡ min n 32 → p ≡ take (m * 36) b → p ≡ joined (rowsIn Aces n b)
 row-part n m b p e f = f ∙ ap (λ (i : ℕ). take (i * 36) b) e ∙ sym (row-bytes n b)
-
-pub row-length : (n m : ℕ) (b : List ℕ) → m ≡ min n 32 → length b ≡ 1152 → m * 36 ≡ length (joined (rowsIn Aces n b))
-row-length n m b e l =
-    ap (λ (i : ℕ). i * 36) e
-    ∙ sym (ap length (row-bytes n b) ∙ length-take-le (min n 32 * 36) b (rw l (mul-le-mul-right 36 (min-le-right n 32))))
 
 -- ---- the bodies of so many credential rows
 

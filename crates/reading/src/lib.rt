@@ -9,7 +9,8 @@ use roles::roles_length;
 use rows::part;
 use rules::CRED_BODY;
 use rules::CRED_ROW;
-use rules::Tables;
+use rules::CRED_ROWS;
+use rules::Head;
 use sender::own_row;
 use text::put;
 use text::put_byte;
@@ -21,6 +22,7 @@ ghost use Rattle.text.specs.Buffer.{Puts};
 ghost use Rattle.rows.specs.Rows.{rowsOf, joined};
 ghost use Rattle.rules.specs.Record.{sender};
 ghost use Rattle.rules.specs.Roles.{bodyOf};
+ghost use Rattle.rules.specs.Tables.{tablesOf};
 ghost use Rattle.rules.specs.Reading.{ownBody, rowBytes, contents, reads, replyOf};
 
 // Whether the record asks for a reply.
@@ -32,8 +34,8 @@ fn is_read(record: &[u8]) -> bool
 }
 
 // The length of a resource's own body.
-fn own_length(t: Tables, resource: u16) -> usize
-    ensures { λ r. ⌜ (r ≡ length (ownBody t resource)) × (r ≤ 17) ⌝ }
+fn own_length<'a>(h: Head, creds: &'a [u8; CRED_ROWS], aces: &'a [u8; 1152], resource: u16) -> usize
+    ensures { λ r. ⌜ (r ≡ length (ownBody (tablesOf h (now (creds .entry)) (now (aces .entry))) resource)) × (r ≤ 17) ⌝ }
 {
     match resource {
         0 => 17,
@@ -42,50 +44,93 @@ fn own_length(t: Tables, resource: u16) -> usize
     }
 }
 
+// The length of the bodies of the first `count` credential rows.
+fn bodies_length(creds: &[u8], count: usize) -> usize
+    requires { ⌜ count * 39 ≤ length (now creds) ⌝ }
+    ensures { λ r. ⌜ (r ≡ length (joined (map bodyOf (rowsOf 39 count (now (creds .entry)))))) × (r ≤ length (now (creds .entry))) ⌝ }
+{
+    count * CRED_BODY
+}
+
 // The length of a resource's rows, and of the sender's roles in force.
-fn rows_length(clock: u32, t: Tables, record: &[u8], resource: u16) -> usize
-    ensures { λ r. ⌜ (r ≡ length (rowBytes clock t (sender (now («record» .entry))) resource)) × (r ≤ 1152) ⌝ }
+fn rows_length<'a>(
+    clock: u32,
+    h: Head,
+    creds: &'a [u8; CRED_ROWS],
+    aces: &'a [u8; 1152],
+    record: &[u8],
+    resource: u16,
+) -> usize
+    ensures { λ r. ⌜ (r ≡ length (rowBytes clock (tablesOf h (now (creds .entry)) (now (aces .entry))) (sender (now («record» .entry))) resource)) × (r ≤ 1152) ⌝ }
 {
     match resource {
-        2 => held(t.ncreds, 24) * CRED_BODY,
-        3 => held(t.naces, 32) * 36,
-        4 => roles_length(clock, own_row(t.ncreds, &t.creds, record)),
+        2 => bodies_length(creds, held(h.ncreds, 24)),
+        3 => part(aces, 0, held(h.naces, 32) * 36).len(),
+        4 => roles_length(clock, own_row(h.ncreds, creds, record)),
         _ => 0,
     }
 }
 
-fn contents_length(clock: u32, t: Tables, record: &[u8], resource: u16) -> usize
-    ensures { λ r. ⌜ r ≡ length (contents clock t (sender (now («record» .entry))) resource) ⌝ }
+fn contents_length<'a>(
+    clock: u32,
+    h: Head,
+    creds: &'a [u8; CRED_ROWS],
+    aces: &'a [u8; 1152],
+    record: &[u8],
+    resource: u16,
+) -> usize
+    ensures { λ r. ⌜ r ≡ length (contents clock (tablesOf h (now (creds .entry)) (now (aces .entry))) (sender (now («record» .entry))) resource) ⌝ }
 {
     let at = resource as usize * 16;
-    let owner = part(&t.rowners, at, 16).len();
-    own_length(t, resource) + owner + rows_length(clock, t, record, resource)
+    let owner = part(&h.rowners, at, 16).len();
+    own_length(h, creds, aces, resource)
+        + owner
+        + rows_length(clock, h, creds, aces, record, resource)
 }
 
 // The length of the record's reply.
 // Rules out: a length without the row owner; a length for OBSERVE.
-pub fn reply_length(clock: u32, t: Tables, record: &[u8]) -> usize
-    ensures { λ r. ⌜ r ≡ length (replyOf clock t (now («record» .entry))) ⌝ }
+pub fn reply_length<'a>(
+    clock: u32,
+    h: Head,
+    creds: &'a [u8; CRED_ROWS],
+    aces: &'a [u8; 1152],
+    record: &[u8],
+) -> usize
+    ensures { λ r. ⌜ r ≡ length (replyOf clock (tablesOf h (now (creds .entry)) (now (aces .entry))) (now («record» .entry))) ⌝ }
 {
     if is_read(record) {
-        return contents_length(clock, t, record, resource_of(record));
+        return contents_length(clock, h, creds, aces, record, resource_of(record));
     }
     0
 }
 
-fn put_owner(out: &mut [u8], at: usize, t: Tables) -> usize
-    ensures { λ r. ⌜ Puts (now (out .entry)) at (ownBody t 0) (now (out .exit)) r ⌝ }
+fn put_owner<'a>(
+    out: &mut [u8],
+    at: usize,
+    h: Head,
+    creds: &'a [u8; CRED_ROWS],
+    aces: &'a [u8; 1152],
+) -> usize
+    ensures { λ r. ⌜ Puts (now (out .entry)) at (ownBody (tablesOf h (now (creds .entry)) (now (aces .entry))) 0) (now (out .exit)) r ⌝ }
 {
-    let p = put_byte(out, at, t.owned % 2 * 128);
-    put(out, p, &t.devowner)
+    let p = put_byte(out, at, h.owned % 2 * 128);
+    put(out, p, &h.devowner)
 }
 
-fn put_own(out: &mut [u8], at: usize, t: Tables, resource: u16) -> usize
-    ensures { λ r. ⌜ Puts (now (out .entry)) at (ownBody t resource) (now (out .exit)) r ⌝ }
+fn put_own<'a>(
+    out: &mut [u8],
+    at: usize,
+    h: Head,
+    creds: &'a [u8; CRED_ROWS],
+    aces: &'a [u8; 1152],
+    resource: u16,
+) -> usize
+    ensures { λ r. ⌜ Puts (now (out .entry)) at (ownBody (tablesOf h (now (creds .entry)) (now (aces .entry))) resource) (now (out .exit)) r ⌝ }
 {
     match resource {
-        0 => put_owner(out, at, t),
-        1 => put_byte(out, at, t.state % 8 * 32),
+        0 => put_owner(out, at, h, creds, aces),
+        1 => put_byte(out, at, h.state % 8 * 32),
         _ => put(out, at, b""),
     }
 }
@@ -106,39 +151,63 @@ fn put_bodies(out: &mut [u8], at: usize, creds: &[u8], count: usize) -> usize
     p
 }
 
-fn put_rows(out: &mut [u8], at: usize, clock: u32, t: Tables, record: &[u8], resource: u16) -> usize
-    ensures { λ r. ⌜ Puts (now (out .entry)) at (rowBytes clock t (sender (now («record» .entry))) resource) (now (out .exit)) r ⌝ }
+fn put_rows<'a>(
+    out: &mut [u8],
+    at: usize,
+    clock: u32,
+    h: Head,
+    creds: &'a [u8; CRED_ROWS],
+    aces: &'a [u8; 1152],
+    record: &[u8],
+    resource: u16,
+) -> usize
+    ensures { λ r. ⌜ Puts (now (out .entry)) at (rowBytes clock (tablesOf h (now (creds .entry)) (now (aces .entry))) (sender (now («record» .entry))) resource) (now (out .exit)) r ⌝ }
 {
     match resource {
         2 => {
-            let n = held(t.ncreds, 24);
-            put_bodies(out, at, &t.creds, n)
+            let n = held(h.ncreds, 24);
+            put_bodies(out, at, creds, n)
         }
         3 => {
-            let n = held(t.naces, 32) * 36;
-            put(out, at, part(&t.aces, 0, n))
+            let n = held(h.naces, 32) * 36;
+            put(out, at, part(aces, 0, n))
         }
-        4 => put_roles(out, at, clock, own_row(t.ncreds, &t.creds, record)),
+        4 => put_roles(out, at, clock, own_row(h.ncreds, creds, record)),
         _ => put(out, at, b""),
     }
 }
 
-fn put_contents(out: &mut [u8], clock: u32, t: Tables, record: &[u8], resource: u16) -> usize
-    ensures { λ r. ⌜ Puts (now (out .entry)) 0 (contents clock t (sender (now («record» .entry))) resource) (now (out .exit)) r ⌝ }
+fn put_contents<'a>(
+    out: &mut [u8],
+    clock: u32,
+    h: Head,
+    creds: &'a [u8; CRED_ROWS],
+    aces: &'a [u8; 1152],
+    record: &[u8],
+    resource: u16,
+) -> usize
+    ensures { λ r. ⌜ Puts (now (out .entry)) 0 (contents clock (tablesOf h (now (creds .entry)) (now (aces .entry))) (sender (now («record» .entry))) resource) (now (out .exit)) r ⌝ }
 {
-    let p = put_own(out, 0, t, resource);
+    let p = put_own(out, 0, h, creds, aces, resource);
     let at = resource as usize * 16;
-    let p = put(out, p, part(&t.rowners, at, 16));
-    put_rows(out, p, clock, t, record, resource)
+    let p = put(out, p, part(&h.rowners, at, 16));
+    put_rows(out, p, clock, h, creds, aces, record, resource)
 }
 
 // Writes the record's reply to the start of the buffer, as far as the buffer goes.
 // Rules out: rows in another order; a role in the reply of cred; another sender's roles; a byte written for a record that has no reply.
-pub fn put_reply(out: &mut [u8], clock: u32, t: Tables, record: &[u8]) -> usize
-    ensures { λ r. ⌜ Puts (now (out .entry)) 0 (replyOf clock t (now («record» .entry))) (now (out .exit)) r ⌝ }
+pub fn put_reply<'a>(
+    out: &mut [u8],
+    clock: u32,
+    h: Head,
+    creds: &'a [u8; CRED_ROWS],
+    aces: &'a [u8; 1152],
+    record: &[u8],
+) -> usize
+    ensures { λ r. ⌜ Puts (now (out .entry)) 0 (replyOf clock (tablesOf h (now (creds .entry)) (now (aces .entry))) (now («record» .entry))) (now (out .exit)) r ⌝ }
 {
     if is_read(record) {
-        return put_contents(out, clock, t, record, resource_of(record));
+        return put_contents(out, clock, h, creds, aces, record, resource_of(record));
     }
     put(out, 0, b"")
 }

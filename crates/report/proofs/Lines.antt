@@ -9,8 +9,9 @@ use lib.ListN.{length, length-append, length-drop}
 use borrow.Author.Tests.{lt-ltb, le-ltb, eq-eqb, ne-eqb}
 use Rattle.rules.specs.declared.Tables.{Tables}
 use Rattle.rules.specs.Defaults.{noDefaults, fresh}
-use Rattle.rules.specs.declared.Judgement.{Judgement}
-use Rattle.rules.specs.Outcome.{outcome, tablesAfter, judgementOf}
+use Rattle.rules.specs.Outcome.{tablesAfter}
+use Rattle.report.specs.declared.Judged.{Judged}
+use Rattle.report.specs.Judged.{judgedAs}
 use Rattle.text.specs.Text.{ascii, decimal}
 use Rattle.text.specs.Buffer.{written, largest, Puts}
 use Rattle.text.proofs.Decimals.{decimal-length}
@@ -88,8 +89,8 @@ module _ {s o : List ℕ} {at : ℕ} {out : List ℕ} {p : ℕ} {t : Tables} {re
       (writing-end (writing-step cut [] (i .writing) e q) refl, λ k. omega (arith, i .short k, ap length e ∙ length-append cut [], cut-length))
 
   -- a record, and what the judge says of it
-  pub run-turn : {out′ : List ℕ} {r : ℕ} {rest′ : List ℕ} {j : Judgement} → 0 < length rest → 6 + lengthOf rest ≤ length rest
-      → j ≡ judgementOf (outcome noDefaults t (firstOf rest)) → rest′ ≡ restOf rest
+  pub run-turn : {out′ : List ℕ} {r : ℕ} {rest′ : List ℕ} {j : Judged} → 0 < length rest → 6 + lengthOf rest ≤ length rest
+      → j ≡ judgedAs t (firstOf rest) → rest′ ≡ restOf rest
       → Puts out p (line place (j .answer) (j .permission) (j .tables .state)) out′ r
       → LineFits place (j .answer) (j .permission) (j .tables .state)
       → Running s o at out′ r (j .tables) rest′ (place + 1)

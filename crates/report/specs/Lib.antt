@@ -1,4 +1,5 @@
 -- What the contracts of the crate `report` speak of.
--- Run: the text of a run. Room: how many bytes it takes at most.
+-- Run: the text of a run. Judged: a record of one. Room: how many bytes the text takes at most.
 pub mod Run
+pub mod Judged
 pub mod Room

@@ -3,8 +3,8 @@
 use fields::after;
 use fields::double_word;
 use fields::word;
-use rules::Judgement;
 use rules::Tables;
+use terminal::tillerclover_judge;
 use text::put;
 use text::put_byte;
 use text::put_decimal;
@@ -15,8 +15,8 @@ ghost use lib.ListN.{length};
 ghost use Rattle.text.specs.Text.{decimal};
 ghost use Rattle.text.specs.Buffer.{written, Puts, Counts};
 ghost use Rattle.rules.specs.Defaults.{noDefaults, fresh};
-ghost use Rattle.rules.specs.Outcome.{outcome, judgementOf};
 ghost use Rattle.report.specs.Run.{lent, line, cut, lines, runText};
+ghost use Rattle.report.specs.Judged.{judgedAs};
 ghost use Rattle.report.specs.Room.{LineFits, LinesFit, Whole};
 
 // A number in decimal, and the byte after it.
@@ -50,13 +50,26 @@ fn start_tables() -> Tables
     tables::defaults::fresh(b"", b"")
 }
 
+// What a line tells of a record, and the tables for the next one.
+struct Judged {
+    answer: u8,
+    permission: u8,
+    tables: Tables,
+}
+
 // Judges a record with a buffer that fits any reply. Nothing waits in a run, so that the memory is fresh beside each record.
-fn judge_one(t: Tables, clock: u32, record: &[u8]) -> Judgement
-    ensures { λ r. ⌜ r ≡ judgementOf (outcome noDefaults t (lent clock (now («record» .entry)))) ⌝ }
+fn judge_one(t: Tables, clock: u32, record: &[u8]) -> Judged
+    ensures { λ r. ⌜ r ≡ judgedAs t (lent clock (now («record» .entry))) ⌝ }
 {
     let mut memory = [0u8; 6504];
     let mut reply = [0u8; 1168];
-    judge::judge(t, &mut memory, b"", b"", clock, record, &mut reply)
+    let o = tillerclover_judge(t, &mut memory, b"", b"", clock, record, &mut reply);
+    let next = o.tables;
+    Judged {
+        answer: o.answer,
+        permission: o.permission,
+        tables: next,
+    }
 }
 
 // The lines of a run, from fresh tables.

@@ -1,20 +1,24 @@
-// The sender of a record: its own credential row, and its connection.
-// Every function is total: a record too short to have a sender is an unauthenticated one's.
+// The sender of a record: its own credential row, its connection, and check 7.
+// A record too short to have a sender is an unauthenticated one's; check 7 is handed the row that was found.
 use fields::held;
 use fields::record::connection_of;
 use rows::part;
 use rules::CRED_ROW;
 use rules::CRED_ROWS;
+use rules::Check;
+use rules::Head;
 ghost use mathlib.Core.Path.{_≡_};
 ghost use Rattle.rules.specs.declared.Table.the-variants.{Creds};
 ghost use Rattle.rules.specs.Record.{sender};
-ghost use Rattle.rules.specs.Tables.{rowsIn};
-ghost use Rattle.rules.specs.Permission.{credentialIn, connectionOf};
+ghost use Rattle.rules.specs.Tables.{tablesOf, rowsIn, rows};
+ghost use Rattle.rules.specs.Permission.{connectionOf};
+ghost use Rattle.rules.specs.Checks.{refuseIf, noCredential};
+ghost use Rattle.sender.specs.Own.{Own};
 
 // The sender's own row among the credential rows, or no bytes.
 // Rules out: the row of another number; a row for connection 0.
 pub fn own_row<'a>(count: u8, creds: &'a [u8; CRED_ROWS], record: &[u8]) -> &'a [u8]
-    ensures { λ r. ⌜ now r ≡ credentialIn (rowsIn Creds count (now (creds .entry))) (sender (now («record» .entry))) ⌝ }
+    ensures { λ r. ⌜ Own (rowsIn Creds count (now (creds .entry))) (sender (now («record» .entry))) (now r) ⌝ }
 {
     if record.len() < 4 {
         return part(creds, 0, 0);
@@ -35,4 +39,22 @@ pub fn sender_connection(record: &[u8]) -> u16
         return 0;
     }
     connection_of(record)
+}
+
+// Check 7: a partner has no row of its own among the credential rows, where `cred` is that row or no bytes.
+// Rules out: an unknown credential that passes; a refusal over connection 0.
+pub fn check_credential<'a>(
+    h: Head,
+    creds: &'a [u8; CRED_ROWS],
+    aces: &'a [u8; 1152],
+    cred: &[u8],
+    record: &[u8],
+) -> Check
+    requires { ⌜ Own (rows Creds (tablesOf h (now creds) (now aces))) (sender (now «record»)) (now cred) ⌝ }
+    ensures { λ c. ⌜ c ≡ refuseIf 7 (noCredential (tablesOf h (now (creds .entry)) (now (aces .entry))) (now («record» .entry))) ⌝ }
+{
+    if sender_connection(record) != 1 {
+        return Check::Pass;
+    }
+    Check::refuse_if(7, cred.len() == 0)
 }

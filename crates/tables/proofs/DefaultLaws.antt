@@ -1,12 +1,11 @@
 -- The rows of a build's default list: each is its body and what stands behind a body, and over a table of zeros they are the table.
 -- Over the table, so that both have one law.
-use Prim.Native.Nat.{ℕ, suc, _+_, _*_, _-_, _/_, _%_, _≤_, _<_}
-use native.Mathlib.Nat.{div-add-mod', mul-le-mul-right}
+use Prim.Native.Nat.{ℕ, suc, _+_, _*_, _-_, _/_, _≤_, _<_}
+use native.Mathlib.Nat.{div-add-mod', mul-le-mul-right, sub-zero}
 use native.Mathlib.Omega.{arith}
 use mathlib.Core.Path.{_≡_, refl, sym, ap, _∙_}
-use mathlib.Core.Bool.{true, _&&_}
+use mathlib.Core.Bool.{true, false}
 use mathlib.Core.List.{List, [], _∷_, _++_, map, append-nil}
-use lib.Dec.{leb}
 use lib.ListN.{length, take, drop, replicate, length-append, length-replicate, length-map}
 use borrow.Author.Tests.{leb-true}
 use Rattle.text.specs.Buffer.{written}
@@ -17,7 +16,7 @@ use Rattle.rows.proofs.Kept.{AllLong, long-rowsOf, length-joined, rowsOf-packed
 use Rattle.rules.specs.declared.Table.{Table}
 use Rattle.rules.specs.declared.Table.the-variants.{Creds, Aces}
 use Rattle.rules.specs.Tables.{stride, longest, capacity, rowFrom}
-use Rattle.rules.specs.Defaults.{listed, goodList}
+use Rattle.rules.specs.Defaults.{listed, goodList, defaultRows}
 use Rattle.rules.proofs.Bools.{and-left}
 
 pub positive : (k : Table) → 0 < longest k
@@ -113,3 +112,22 @@ module _ (k : Table) (b x : List ℕ) (few : length b / longest k ≤ 2) (over :
 
   pub listed-length : length x ≡ capacity k * stride k
   listed-length = rw (over, written-length, length-replicate)
+
+-- ---- the default rows of a list, and their table
+
+pub good-table : (k : Table) (b x : List ℕ) → goodList k b ≡ true → x ≡ written (replicate (capacity k * stride k) 0) 0 (joined (listed k b)) → x ≡ packed (capacity k * stride k) (defaultRows k b)
+unfolding defaultRows
+good-table k b x good over = rw good (listed-packed k b x (good-few k b good) over)
+
+pub good-count : (k : Table) (b : List ℕ) → goodList k b ≡ true → length b / longest k ≡ length (defaultRows k b)
+unfolding defaultRows
+good-count k b good = rw good (sym (listed-count k b))
+
+-- of a list that is not good
+pub bad-none : (k : Table) (b : List ℕ) → goodList k b ≡ false → defaultRows k b ≡ []
+unfolding defaultRows
+bad-none k b bad = rw bad
+
+pub bad-table : (k : Table) (b x : List ℕ) → goodList k b ≡ false → x ≡ replicate (capacity k * stride k) 0 → x ≡ packed (capacity k * stride k) (defaultRows k b)
+unfolding packed joined
+bad-table k b x bad zeros = rw (bad-none k b bad, sub-zero) zeros

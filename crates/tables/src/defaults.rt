@@ -4,19 +4,19 @@ use format::stride_of;
 use rows::part;
 use rules::CRED_BODY;
 use rules::CRED_ROWS;
+use rules::Head;
 use rules::Table;
 use rules::Tables;
+use rules::Uuid;
 use soundness::rows_storable;
 use text::put;
 ghost use mathlib.Core.Path.{_≡_};
-ghost use Prim.Native.Nat.{_*_};
-ghost use lib.ListN.{replicate};
+ghost use Prim.Native.Nat.{_*_, _≤_};
+ghost use lib.ListN.{length, replicate};
 ghost use Rattle.text.specs.Buffer.{written, Puts};
-ghost use Rattle.rows.specs.Rows.{joined};
-ghost use Rattle.rules.specs.declared.Table.the-variants.{Creds, Aces};
-ghost use Rattle.rules.specs.Tables.{stride, longest, capacity, rowFrom, withRows};
+ghost use Rattle.rows.specs.Rows.{joined, packed};
+ghost use Rattle.rules.specs.Tables.{tablesOf, stride, longest, capacity, rowFrom};
 ghost use Rattle.rules.specs.Defaults.{defaults, listed, goodList, defaultRows, fresh, cleared};
-ghost use Rattle.rules.specs.Outcome.{entered};
 
 // Bytes of the longest body that stores a row, in which a list has its rows.
 fn longest_of(table: Table) -> usize
@@ -71,45 +71,63 @@ fn good_list(table: Table, list: &[u8], rows: &[u8]) -> bool
         & numbers::distinct(rows, stride_of(table), n)
 }
 
-fn with_creds(t: Tables, list: &[u8]) -> Tables
-    ensures { λ r. ⌜ r ≡ withRows Creds t (defaultRows Creds (now (list .entry))) ⌝ }
+// Makes the table with the default rows of a list, and says how many they are.
+fn put_defaults(table: Table, out: &mut [u8], list: &[u8]) -> usize
+    requires { ⌜ length (now out) ≡ capacity table * stride table ⌝ }
+    ensures { λ r. ⌜ (r ≡ length (defaultRows table (now (list .entry)))) × (r ≤ 2) ⌝ }
+    ensures { λ _. ⌜ now (out .exit) ≡ packed (capacity table * stride table) (defaultRows table (now (list .entry))) ⌝ }
 {
-    let mut next = t;
-    let mut creds = [0u8; CRED_ROWS];
-    put_listed(Table::Creds, &mut creds, list);
-    if good_list(Table::Creds, list, &creds) {
-        next.creds = creds;
-        next.ncreds = (list.len() / CRED_BODY) as u8;
-        return next;
+    changes::clear(out);
+    put_listed(table, out, list);
+    if good_list(table, list, out) {
+        return list.len() / longest_of(table);
     }
-    next.creds = [0u8; CRED_ROWS];
-    next.ncreds = 0;
-    next
+    changes::clear(out);
+    0
 }
 
-fn with_aces(t: Tables, list: &[u8]) -> Tables
-    ensures { λ r. ⌜ r ≡ withRows Aces t (defaultRows Aces (now (list .entry))) ⌝ }
+// The tables of a new terminal, made in the rows that are lent: whatever stood there is gone.
+// Rules out: a third row taken; a list with a bad row taken by half; a byte of the old rows left.
+pub fn fresh_in(
+    creds: &mut [u8; CRED_ROWS],
+    aces: &mut [u8; 1152],
+    default_creds: &[u8],
+    default_aces: &[u8],
+) -> Head
+    ensures { λ r. ⌜ tablesOf r (now (creds .exit)) (now (aces .exit)) ≡ fresh (defaults (now («default_creds» .entry)) (now («default_aces» .entry))) ⌝ }
 {
-    let mut next = t;
-    let mut aces = [0u8; 1152];
-    put_listed(Table::Aces, &mut aces, list);
-    if good_list(Table::Aces, list, &aces) {
-        next.aces = aces;
-        next.naces = (list.len() / 36) as u8;
-        return next;
+    let ncreds = put_defaults(Table::Creds, creds, default_creds);
+    let naces = put_defaults(Table::Aces, aces, default_aces);
+    Head {
+        state: 1,
+        owned: 0,
+        ncreds: ncreds as u8,
+        naces: naces as u8,
+        devowner: Uuid::NIL,
+        rowners: [0; 64],
     }
-    next.aces = [0u8; 1152];
-    next.naces = 0;
-    next
 }
 
 // The tables of a new terminal of a build with these lists of default rows.
-// Rules out: a third row taken; a list with a bad row taken by half.
+// Rules out: the rows of one list in the other's table.
 pub fn fresh(creds: &[u8], aces: &[u8]) -> Tables
     ensures { λ r. ⌜ r ≡ fresh (defaults (now (creds .entry)) (now (aces .entry))) ⌝ }
 {
-    let t = with_creds(Tables::empty(), creds);
-    with_aces(t, aces)
+    let mut cred_rows = [0; CRED_ROWS];
+    let mut ace_rows = [0; 1152];
+    let h = fresh_in(&mut cred_rows, &mut ace_rows, creds, aces);
+    let devowner = h.devowner;
+    let rowners = h.rowners;
+    Tables {
+        state: h.state,
+        owned: h.owned,
+        ncreds: h.ncreds,
+        naces: h.naces,
+        devowner: devowner,
+        rowners: rowners,
+        creds: cred_rows,
+        aces: ace_rows,
+    }
 }
 
 // The clear button: any tables become the fresh ones, with the build's default rows.
@@ -118,17 +136,4 @@ pub fn clear(t: Tables, creds: &[u8], aces: &[u8]) -> Tables
     ensures { λ r. ⌜ r ≡ cleared (defaults (now (creds .entry)) (now (aces .entry))) t ⌝ }
 {
     fresh(creds, aces)
-}
-
-// The tables in the state that was asked for: RESET gives the fresh ones at once.
-// Rules out: RESET as a state that is kept; fresh tables without the default rows.
-pub fn enter(t: Tables, state: u8, creds: &[u8], aces: &[u8]) -> Tables
-    ensures { λ r. ⌜ r ≡ entered (defaults (now (creds .entry)) (now (aces .entry))) t state ⌝ }
-{
-    if state == 0 {
-        return fresh(creds, aces);
-    }
-    let mut next = t;
-    next.state = state;
-    next
 }

@@ -1,2 +1,3 @@
--- What follows from the C interface's contracts.
+-- What follows from the C interface's contracts, and the tables that C hands in.
 pub mod Payload
+mod Whole

@@ -4,7 +4,7 @@ use Prim.Native.Nat.{ℕ}
 use mathlib.Core.Bool.{cond}
 use lib.Dec.{eqb}
 use lib.ListN.{length}
-use Rattle.rules.specs.declared.Judgement.{Judgement}
+use Rattle.rules.specs.Outcome.{Said}
 use Rattle.waiting.specs.Slots.{padded}
 use Rattle.waiting.specs.Terminal.{Answered, said}
 use Rattle.terminal.specs.declared.Outcome.{Outcome}
@@ -13,8 +13,8 @@ use Rattle.terminal.specs.declared.Turn.{Turn}
 unfoldable pub startOf : ℕ → ℕ
 startOf n = cond (eqb n 0) 0 4
 
--- of a judgement, with a payload of n bytes
-abbrev pub outcomeIn : Judgement → ℕ → Outcome
+-- of what is said, with a payload of n bytes
+abbrev pub outcomeIn : Said → ℕ → Outcome
 outcomeIn j n = record {
   answer = j .answer;
   permission = j .permission;

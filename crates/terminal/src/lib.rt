@@ -4,6 +4,7 @@
 use conversion::Converted;
 use listing::Listed;
 use lists::Tested;
+use rules::CRED_ROWS;
 use rules::Judgement;
 use rules::Tables;
 ghost use mathlib.Core.Path.{_≡_};
@@ -12,7 +13,9 @@ ghost use lib.ListN.{length};
 ghost use Rattle.rules.specs.Record.{asked};
 ghost use Rattle.rules.specs.Reading.{filled};
 ghost use Rattle.rules.specs.Checks.{numberOf};
+ghost use Rattle.rules.specs.Outcome.{saidOf};
 ghost use Rattle.waiting.specs.Terminal.{terminal, freshTerminal, clearedTerminal, handedIn, taken, judged};
+ghost use Rattle.waiting.specs.Calls.{Leaves};
 ghost use Rattle.office.specs.Office.{officeVerdict, officeReply};
 ghost use Rattle.lists.specs.Lists.{listTested};
 ghost use Rattle.legacy.specs.Conversion.{conversionVerdict, conversionReply};
@@ -77,13 +80,15 @@ fn start_of(length: usize) -> usize
     if length == 0 { 0 } else { 4 }
 }
 
-// What C gets of a judgement whose payload has this length.
-fn export(j: Judgement, length: usize) -> Outcome
-    ensures { λ r. ⌜ r ≡ outcomeIn j length ⌝ }
+// What C gets of a judgement with these rows beside it, whose payload has this length.
+fn export(j: Judgement, creds: [u8; CRED_ROWS], aces: [u8; 1152], length: usize) -> Outcome
+    ensures { λ r. ⌜ r ≡ outcomeIn (saidOf j creds aces) length ⌝ }
 {
-    let next = j.tables;
     let places = j.places;
     let links = j.links;
+    let h = j.head;
+    let devowner = h.devowner;
+    let rowners = h.rowners;
     Outcome {
         answer: j.answer,
         permission: j.permission,
@@ -94,7 +99,16 @@ fn export(j: Judgement, length: usize) -> Outcome
         many: places.many,
         set: links.set,
         size: links.size as usize,
-        tables: next,
+        tables: Tables {
+            state: h.state,
+            owned: h.owned,
+            ncreds: h.ncreds,
+            naces: h.naces,
+            devowner: devowner,
+            rowners: rowners,
+            creds: creds,
+            aces: aces,
+        },
     }
 }
 
@@ -111,12 +125,23 @@ pub extern "C" fn tillerclover_judge(
     reply: &mut [u8],
 ) -> Outcome
     ensures said { λ r. ⌜ r ≡ exported (judged (defaults (now (creds .entry)) (now (aces .entry))) (terminal t (now (memory .entry))) (asked clock (now («record» .entry)) (length (now (reply .entry))))) ⌝ }
-    ensures memory { λ _. ⌜ now (memory .exit) ≡ judged (defaults (now (creds .entry)) (now (aces .entry))) (terminal t (now (memory .entry))) (asked clock (now («record» .entry)) (length (now (reply .entry)))) .terminal .memory ⌝ }
-    ensures buffer { λ _. ⌜ now (reply .exit) ≡ filled (now (reply .entry)) (judged (defaults (now (creds .entry)) (now (aces .entry))) (terminal t (now (memory .entry))) (asked clock (now («record» .entry)) (length (now (reply .entry)))) .reply .contents) ⌝ }
+    ensures left { λ _. ⌜ Leaves (judged (defaults (now (creds .entry)) (now (aces .entry))) (terminal t (now (memory .entry))) (asked clock (now («record» .entry)) (length (now (reply .entry))))) (now (reply .entry)) (now (memory .exit)) (now (reply .exit)) ⌝ }
 {
-    let j = judge::judge(t, memory, creds, aces, clock, record, reply);
+    let mut cred_rows = t.creds;
+    let mut ace_rows = t.aces;
+    let j = judge::judge(
+        t.head(),
+        &mut cred_rows,
+        &mut ace_rows,
+        memory,
+        creds,
+        aces,
+        clock,
+        record,
+        reply,
+    );
     let length = outcome::payload(record, j.answer).len();
-    export(j, length)
+    export(j, cred_rows, ace_rows, length)
 }
 
 // Hands a record in.
@@ -126,8 +151,8 @@ pub extern "C" fn tillerclover_hand_in(t: Tables, memory: &mut [u8; 6504], recor
     ensures said { λ r. ⌜ r ≡ exported (handedIn (terminal t (now (memory .entry))) (now («record» .entry))) ⌝ }
     ensures memory { λ _. ⌜ now (memory .exit) ≡ handedIn (terminal t (now (memory .entry))) (now («record» .entry)) .terminal .memory ⌝ }
 {
-    let j = intake::hand_in(t, memory, record);
-    export(j, 0)
+    let j = intake::hand_in(t.head(), &t.creds, &t.aces, memory, record);
+    export(j, t.creds, t.aces, 0)
 }
 
 // Takes the record whose turn it is, and judges it.
@@ -142,16 +167,26 @@ pub extern "C" fn tillerclover_take(
     reply: &mut [u8],
 ) -> Turn
     ensures said { λ r. ⌜ r ≡ turnOf (taken (defaults (now (creds .entry)) (now (aces .entry))) (terminal t (now (memory .entry))) clock (length (now (reply .entry)))) ⌝ }
-    ensures memory { λ _. ⌜ now (memory .exit) ≡ taken (defaults (now (creds .entry)) (now (aces .entry))) (terminal t (now (memory .entry))) clock (length (now (reply .entry))) .terminal .memory ⌝ }
-    ensures buffer { λ _. ⌜ now (reply .exit) ≡ filled (now (reply .entry)) (taken (defaults (now (creds .entry)) (now (aces .entry))) (terminal t (now (memory .entry))) clock (length (now (reply .entry))) .reply .contents) ⌝ }
+    ensures left { λ _. ⌜ Leaves (taken (defaults (now (creds .entry)) (now (aces .entry))) (terminal t (now (memory .entry))) clock (length (now (reply .entry)))) (now (reply .entry)) (now (memory .exit)) (now (reply .exit)) ⌝ }
 {
-    let u = judge::take(t, memory, creds, aces, clock, reply);
+    let mut cred_rows = t.creds;
+    let mut ace_rows = t.aces;
+    let u = judge::take(
+        t.head(),
+        &mut cred_rows,
+        &mut ace_rows,
+        memory,
+        creds,
+        aces,
+        clock,
+        reply,
+    );
     let j = u.judgement;
     let size = u.size;
     let bytes = u.bytes;
     let length = outcome::payload(&bytes[..size], j.answer).len();
     Turn {
-        outcome: export(j, length),
+        outcome: export(j, cred_rows, ace_rows, length),
         size: size,
         bytes: bytes,
     }

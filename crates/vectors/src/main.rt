@@ -6,11 +6,12 @@ use fields::double_word;
 use fields::word;
 use rows::part;
 use rules::CRED_ROWS;
-use rules::Judgement;
-use rules::Links;
-use rules::Places;
 use rules::Tables;
-use waiting::Taken;
+use terminal::Outcome;
+use terminal::Turn;
+use terminal::tillerclover_hand_in;
+use terminal::tillerclover_judge;
+use terminal::tillerclover_take;
 ghost use Prim.Native.Nat.{_≤_};
 
 // What is held from entry to entry.
@@ -324,7 +325,7 @@ fn handed_in(p: Progress, s: &[u8]) -> Progress {
     let length = word(s) as usize;
     let mut memory = p.memory;
     let t = p.tables;
-    let j = intake::hand_in(t, &mut memory, part(s, 2, length));
+    let j = tillerclover_hand_in(t, &mut memory, part(s, 2, length));
     let answer = j.answer;
     let expected = after(after(s, 2), length);
     let mut next = p;
@@ -333,8 +334,9 @@ fn handed_in(p: Progress, s: &[u8]) -> Progress {
     if (answer == byte_at(expected, 0))
         & (j.permission == 0)
         & (j.length == 0)
-        & same_places(j.places, b"")
-        & same_links(j.links, b"")
+        & (j.reply == 0)
+        & same_places(j, b"")
+        & same_links(j, b"")
         & same_tables(j.tables, p.tables)
     {
         next
@@ -358,20 +360,16 @@ fn taken_turn(p: Progress, s: &[u8], lists: &[u8]) -> Progress {
         &mut buffer,
         word(after(s, 4)) as usize,
     );
-    let j = u.judgement;
-    let answer = j.answer;
-    let bytes = u.bytes;
-    let record = part(&bytes, 0, u.size);
-    let payload = outcome::payload(record, answer);
+    let j = u.outcome;
     let t = j.tables;
     let mut next = p;
     next.tables = t;
     next.memory = memory;
     next.takes = more(p.takes);
-    if same_outcome(answer, j.permission, payload, record, expected)
-        & same_reply(j.length, &buffer, after(expected, 6))
-        & same_places(j.places, after(expected, 8))
-        & same_links(j.links, after(expected, 10))
+    if same_outcome(j, expected)
+        & same_reply(j.reply, &buffer, after(expected, 6))
+        & same_places(j, after(expected, 8))
+        & same_links(j, after(expected, 10))
         & same_record(
             u,
             after(after(expected, 19), word(after(expected, 6)) as usize),
@@ -392,13 +390,13 @@ fn take_within(
     clock: u32,
     buffer: &mut [u8],
     room: usize,
-) -> Taken {
+) -> Turn {
     let n = smaller(room, buffer.len());
-    judge::take(t, memory, creds, aces, clock, &mut buffer[..n])
+    tillerclover_take(t, memory, creds, aces, clock, &mut buffer[..n])
 }
 
 // Whether the record taken is the one behind its length, with zeros behind it.
-fn same_record(u: Taken, expected: &[u8]) -> bool {
+fn same_record(u: Turn, expected: &[u8]) -> bool {
     let record = part(expected, 2, word(expected) as usize);
     let mut filled = [0u8; 256];
     fill(&mut filled, record);
@@ -424,17 +422,15 @@ fn judged(p: Progress, s: &[u8], lists: &[u8]) -> Progress {
         &mut buffer,
         word(behind) as usize,
     );
-    let answer = j.answer;
-    let payload = outcome::payload(record, answer);
     let t = j.tables;
     let mut next = p;
     next.tables = t;
     next.memory = memory;
     next.records = more(p.records);
-    if same_outcome(answer, j.permission, payload, record, expected)
-        & same_reply(j.length, &buffer, after(expected, 6))
-        & same_places(j.places, after(expected, 8))
-        & same_links(j.links, after(expected, 10))
+    if same_outcome(j, expected)
+        & same_reply(j.reply, &buffer, after(expected, 6))
+        & same_places(j, after(expected, 8))
+        & same_links(j, after(expected, 10))
     {
         next
     } else {
@@ -452,9 +448,9 @@ fn judge_within(
     record: &[u8],
     buffer: &mut [u8],
     room: usize,
-) -> Judgement {
+) -> Outcome {
     let n = smaller(room, buffer.len());
-    judge::judge(t, memory, creds, aces, clock, record, &mut buffer[..n])
+    tillerclover_judge(t, memory, creds, aces, clock, record, &mut buffer[..n])
 }
 
 fn smaller(a: usize, b: usize) -> usize
@@ -479,33 +475,25 @@ fn same_filled(length: usize, buffer: &[u8], result: &[u8]) -> bool {
 }
 
 // Whether the first place to store and how many are those of these bytes.
-fn same_places(p: Places, expected: &[u8]) -> bool {
-    (p.first == byte_at(expected, 0) as usize) & (p.many == byte_at(expected, 1) as usize)
+fn same_places(o: Outcome, expected: &[u8]) -> bool {
+    (o.first == byte_at(expected, 0) as usize) & (o.many == byte_at(expected, 1) as usize)
 }
 
 // Whether the set of links and its size are those of these bytes.
-fn same_links(l: Links, expected: &[u8]) -> bool {
+fn same_links(o: Outcome, expected: &[u8]) -> bool {
     let high = double_word(expected) as u64;
     let low = double_word(after(expected, 4)) as u64;
-    (l.set / 4294967296 == high)
-        & (l.set % 4294967296 == low)
-        & (l.size == byte_at(expected, 8) as u32)
+    (o.set / 4294967296 == high)
+        & (o.set % 4294967296 == low)
+        & (o.size == byte_at(expected, 8) as usize)
 }
 
 // Whether an outcome is the one of these bytes: answer, permission, payload start and payload length.
-fn same_outcome(
-    answer: u8,
-    permission: u8,
-    payload: &[u8],
-    record: &[u8],
-    expected: &[u8],
-) -> bool {
-    let start = word(after(expected, 2)) as usize;
-    let length = word(after(expected, 4)) as usize;
-    (answer == byte_at(expected, 0))
-        & (permission == byte_at(expected, 1))
-        & (payload.len() == length)
-        & rows::same_bytes(payload, part(record, start, length))
+fn same_outcome(o: Outcome, expected: &[u8]) -> bool {
+    (o.answer == byte_at(expected, 0))
+        & (o.permission == byte_at(expected, 1))
+        & (o.start == word(after(expected, 2)) as usize)
+        & (o.length == word(after(expected, 4)) as usize)
 }
 
 // The rows of both kinds stand there without the zeros behind them.

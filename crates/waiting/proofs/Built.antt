@@ -1,5 +1,6 @@
 -- Theorem, demand 3 whole: the built code on one side, the book of the rules on the other.
--- The built code is any calls that meet the contracts of `hand_in`, `take` and `judge`, and of `payload` beside the last two, each on the tables and the memory handed back last.
+-- The built code is any calls that meet the contracts of `hand_in`, `take` and `judge` (HandsIn, Takes and Judges, which these contracts cite), and of `payload` beside the last two,
+-- each on the tables and the memory handed back last.
 use Prim.Native.Nat.{ℕ, _-_}
 use native.Mathlib.Omega.{arith}
 use mathlib.Core.Path.{_≡_, refl, sym, ap, ap₂, _∙_}
@@ -10,7 +11,6 @@ use lib.ListN.{length, take, drop, replicate}
 use lib.Seq.{take-at}
 use borrow.Author.Tests.{eqb-true, eq-eqb, not-false}
 use Rattle.rules.specs.declared.Tables.{Tables}
-use Rattle.rules.specs.declared.Judgement.{Judgement}
 use Rattle.rules.specs.declared.Check.{Check}
 use Rattle.rules.specs.declared.Check.the-variants.{Pass, Refuse}
 use Rattle.rules.specs.Record.{Request, asked, Sender}
@@ -18,15 +18,15 @@ use Rattle.rules.specs.Tables.{sound}
 use Rattle.rules.specs.Defaults.{Defaults}
 use Rattle.rules.specs.Reading.{filled}
 use Rattle.rules.specs.Checks.{verdict}
-use Rattle.rules.specs.Outcome.{Reply, payloadAt, replyTo, tablesAfter}
+use Rattle.rules.specs.Outcome.{Reply, Said, payloadAt, replyTo, tablesAfter}
 use Rattle.rules.specs.Run.{replies, final, Along, kept, keptOf}
 use Rattle.rules.specs.Isolation.{Premise, isOthers, compared}
 use Rattle.rules.proofs.Bools.{cond-cases, bool-cases, contradiction, or-neither, or-left, or-not-left, or-true-right}
 use Rattle.rules.proofs.Answers.{passed}
 use Rattle.rules.proofs.Refusals.{payload-is}
-use Rattle.waiting.specs.declared.Taken.{Taken}
 use Rattle.waiting.specs.Slots.{padded}
-use Rattle.waiting.specs.Terminal.{Terminal, terminal, Answered, handedIn, soundTerminal, takeChecks, due, takeOf, taken, directChecks, directOf, judged, said, handedOut}
+use Rattle.waiting.specs.Terminal.{Terminal, terminal, Answered, handedIn, soundTerminal, takeChecks, due, takeOf, taken, directChecks, directOf, judged, said, HandedOut, handedOut}
+use Rattle.waiting.specs.Calls.{Leaves, HandsIn, Takes, Judges}
 use Rattle.waiting.specs.Inputs.{Input, handIn, takeAt, direct, answered, next, Turn, turnIf, judgedAt, allJudged, othersTurn}
 use Rattle.waiting.proofs.Sound.{terminal-parts, take-passed}
 use Rattle.waiting.proofs.Refused.{among, refused-among, no-such}
@@ -38,7 +38,7 @@ use Rattle.waiting.proofs.Direct.{Whole, directReplies, directEnd, dire
 -- a call's judgement and the memory that it left; of a take and of a record judged at once also the buffer as it was lent and as it was left,
 -- and the payload; of a take also the record
 pub record Call : Type 0 where
-  pub judgement : Judgement
+  pub judgement : Said
   pub memory : List ℕ
   pub lent : List ℕ
   pub buffer : List ℕ
@@ -60,20 +60,16 @@ told c = record {
 abbrev pub recordGiven : Call → List ℕ
 recordGiven c = take (c .size) (c .bytes)
 
--- the buffer and the payload of a call that answers a for the record r
-pub record Lent (a : Answered) (room : ℕ) (r : List ℕ) (c : Call) : Type 0 where
+-- a buffer of the length that was lent, and the payload of the record r by the call's answer
+pub record Lends (room : ℕ) (r : List ℕ) (c : Call) : Type 0 where
   pub sized : length (c .lent) ≡ room
-  pub fills : c .buffer ≡ filled (c .lent) (a .reply .contents)
   pub passes : c .payload ≡ payloadAt (c .judgement .answer) r
 
 -- what a call meets, on the terminal x, for the input
 abbrev pub Meets : Defaults → Terminal → Input → Call → Type 0
-Meets d x (handIn r) c = (c .judgement ≡ said (handedIn x r)) × (c .memory ≡ handedIn x r .terminal .memory)
-Meets d x (takeAt clock room) c =
-    (record { judgement = c .judgement; size = c .size; bytes = c .bytes } ≡ handedOut (taken d x clock room))
-    × (c .memory ≡ taken d x clock room .terminal .memory)
-    × Lent (taken d x clock room) room (recordGiven c) c
-Meets d x (direct q) c = (c .judgement ≡ said (judged d x q)) × (c .memory ≡ judged d x q .terminal .memory) × Lent (judged d x q) (q .room) (q .bytes) c
+Meets d x (handIn r) c = HandsIn x r (c .judgement) (c .memory)
+Meets d x (takeAt clock room) c = Takes d x clock room (record { judgement = c .judgement; size = c .size; bytes = c .bytes }) (c .lent) (c .memory) (c .buffer) × Lends room (recordGiven c) c
+Meets d x (direct q) c = Judges d x q (c .judgement) (c .lent) (c .memory) (c .buffer) × Lends (q .room) (q .bytes) c
 
 -- the terminal that a call hands back
 abbrev pub left : Call → Terminal
@@ -114,8 +110,8 @@ unfolding padded
 record-back r = take-at r (replicate (256 - length r) 0) (length r) refl
 
 -- a call tells what the answer says, where its payload is the record's
-pub told-is : (a : Answered) (room : ℕ) (r : List ℕ) (c : Call) → c .judgement ≡ said a → Lent a room r c → payloadAt (a .reply .answer) r ≡ a .reply .payload → told c ≡ a .reply
-told-is a room r c j l p = rw (l .passes, l .fills, j, p, filled-start (c .lent) (a .reply .contents))
+pub told-is : (a : Answered) (room : ℕ) (r : List ℕ) (c : Call) → c .judgement ≡ said a → Leaves a (c .lent) (c .memory) (c .buffer) → Lends room r c → payloadAt (a .reply .answer) r ≡ a .reply .payload → told c ≡ a .reply
+told-is a room r c j f l p = rw (l .passes, f .fills, j, p, filled-start (c .lent) (a .reply .contents))
 
 -- the number of a take's refusal, and of no record that is judged
 refused-number : (x : Terminal) (n : ℕ) → verdict (takeChecks x) ≡ Refuse n → (eqb n 1 || eqb n 27) ≡ true
@@ -149,36 +145,38 @@ module _ (d : Defaults) (x : Terminal) where
   take-turn : (clock room : ℕ) (c : Call) (v : Check) → verdict (takeChecks x) ≡ v
       → let q = asked clock (due x) room in
       record { judgement = c .judgement; size = c .size; bytes = c .bytes } ≡ handedOut (takeOf d x q v)
-      → Lent (takeOf d x q v) room (recordGiven c) c
+      → Leaves (takeOf d x q v) (c .lent) (c .memory) (c .buffer)
+      → Lends room (recordGiven c) c
       → turnOf (takeAt clock room) c ≡ turnIf d x q v
-  take-turn clock room c Pass e o l =
+  take-turn clock room c Pass e o f l =
       let q = asked clock (due x) room in
-      let j = ap (λ (t : Taken). t .judgement) o in
-      let r : recordGiven c ≡ due x = ap (λ (t : Taken). take (t .size) (t .bytes)) o ∙ record-back (due x) in
-      rw (ap (λ (y : Judgement). eqb (y .answer) 1 || eqb (y .answer) 27) j, judged-number q (take-passed x e .0))
+      let j = ap (λ (t : HandedOut). t .judgement) o in
+      let r : recordGiven c ≡ due x = ap (λ (t : HandedOut). take (t .size) (t .bytes)) o ∙ record-back (due x) in
+      rw (ap (λ (y : Said). eqb (y .answer) 1 || eqb (y .answer) 27) j, judged-number q (take-passed x e .0))
       (ap₂ (λ (b : List ℕ) (y : Reply). record { request = asked clock b room; reply = y } ∷ []) r
-      (told-is (takeOf d x q Pass) room (recordGiven c) c j l (ap (payloadAt (replyTo d (x .tables) q .answer)) r ∙ payload-is d (x .tables) q)))
-  take-turn clock room c (Refuse n) e o l = rw (ap (λ (t : Taken). eqb (t .judgement .answer) 1 || eqb (t .judgement .answer) 27) o ∙ refused-number x n e)
+      (told-is (takeOf d x q Pass) room (recordGiven c) c j f l (ap (payloadAt (replyTo d (x .tables) q .answer)) r ∙ payload-is d (x .tables) q)))
+  take-turn clock room c (Refuse n) e o f l = rw (ap (λ (t : HandedOut). eqb (t .judgement .answer) 1 || eqb (t .judgement .answer) 27) o ∙ refused-number x n e)
 
   direct-turn : (q : Request) (c : Call) (v : Check) → verdict (directChecks x) ≡ v
       → c .judgement ≡ said (directOf d x q v)
-      → Lent (directOf d x q v) (q .room) (q .bytes) c
+      → Leaves (directOf d x q v) (c .lent) (c .memory) (c .buffer)
+      → Lends (q .room) (q .bytes) c
       → turnOf (direct q) c ≡ turnIf d x q v
-  direct-turn q c Pass e j l =
-      rw (ap (λ (y : Judgement). eqb (y .answer) 1) j ∙ or-left _ _ (judged-number q (not-false _ (passed (directChecks x) e 1))))
-      (ap (λ (y : Reply). record { request = q; reply = y } ∷ []) (told-is (directOf d x q Pass) (q .room) (q .bytes) c j l (payload-is d (x .tables) q)))
-  direct-turn q c (Refuse n) e j l = rw (ap (λ (y : Judgement). eqb (y .answer) 1) j ∙ direct-number x n e)
+  direct-turn q c Pass e j f l =
+      rw (ap (λ (y : Said). eqb (y .answer) 1) j ∙ or-left _ _ (judged-number q (not-false _ (passed (directChecks x) e 1))))
+      (ap (λ (y : Reply). record { request = q; reply = y } ∷ []) (told-is (directOf d x q Pass) (q .room) (q .bytes) c j f l (payload-is d (x .tables) q)))
+  direct-turn q c (Refuse n) e j f l = rw (ap (λ (y : Said). eqb (y .answer) 1) j ∙ direct-number x n e)
 
   call-turn : (i : Input) (c : Call) → Meets d x i c → turnOf i c ≡ judgedAt d x i
   unfolding taken judged
   call-turn (handIn r) c m = refl
-  call-turn (takeAt clock room) c m = take-turn clock room c (verdict (takeChecks x)) refl (m .0) (m .2)
-  call-turn (direct q) c m = direct-turn q c (verdict (directChecks x)) refl (m .0) (m .2)
+  call-turn (takeAt clock room) c m = take-turn clock room c (verdict (takeChecks x)) refl (m .0 .hands) (m .0 .leaves) (m .1)
+  call-turn (direct q) c m = direct-turn q c (verdict (directChecks x)) refl (m .0 .says) (m .0 .leaves) (m .1)
 
   pub call-left : (i : Input) (c : Call) → Meets d x i c → left c ≡ next d x i
-  call-left (handIn r) c m = ap₂ (λ (j : Judgement) (b : List ℕ). terminal (j .tables) b) (m .0) (m .1)
-  call-left (takeAt clock room) c m = ap₂ (λ (t : Taken) (b : List ℕ). terminal (t .judgement .tables) b) (m .0) (m .1)
-  call-left (direct q) c m = ap₂ (λ (j : Judgement) (b : List ℕ). terminal (j .tables) b) (m .0) (m .1)
+  call-left (handIn r) c m = ap₂ (λ (j : Said) (b : List ℕ). terminal (j .tables) b) (m .says) (m .keeps)
+  call-left (takeAt clock room) c m = ap₂ (λ (t : HandedOut) (b : List ℕ). terminal (t .judgement .tables) b) (m .0 .hands) (m .0 .leaves .keeps)
+  call-left (direct q) c m = ap₂ (λ (j : Said) (b : List ℕ). terminal (j .tables) b) (m .0 .says) (m .0 .leaves .keeps)
 
 -- ---- the run
 
@@ -207,11 +205,11 @@ built-isolation d chosen x is cs built =
 
 direct-told : (d : Defaults) (x : Terminal) (q : Request) (c : Call) → Meets d x (direct q) c → told c ≡ judged d x q .reply
 unfolding judged
-direct-told d x q c m = go (verdict (directChecks x)) refl (m .0) (m .2)
+direct-told d x q c m = go (verdict (directChecks x)) refl (m .0 .says) (m .0 .leaves) (m .1)
   where
-    go : (v : Check) → verdict (directChecks x) ≡ v → c .judgement ≡ said (directOf d x q v) → Lent (directOf d x q v) (q .room) (q .bytes) c → told c ≡ directOf d x q v .reply
-    go Pass e j l = told-is (directOf d x q Pass) (q .room) (q .bytes) c j l (payload-is d (x .tables) q)
-    go (Refuse n) e j l = told-is (directOf d x q (Refuse n)) (q .room) (q .bytes) c j l (rw (eqb-true n 1 (direct-number x n e)) (no-payload (q .bytes)))
+    go : (v : Check) → verdict (directChecks x) ≡ v → c .judgement ≡ said (directOf d x q v) → Leaves (directOf d x q v) (c .lent) (c .memory) (c .buffer) → Lends (q .room) (q .bytes) c → told c ≡ directOf d x q v .reply
+    go Pass e j f l = told-is (directOf d x q Pass) (q .room) (q .bytes) c j f l (payload-is d (x .tables) q)
+    go (Refuse n) e j f l = told-is (directOf d x q (Refuse n)) (q .room) (q .bytes) c j f l (rw (eqb-true n 1 (direct-number x n e)) (no-payload (q .bytes)))
 
 directs-built : (d : Defaults) (x : Terminal) (qs : List Request) (cs : List Call) → Built d x (map direct qs) cs → (map told cs ≡ directReplies d x qs) × (handedBack x cs ≡ directEnd d x qs)
 directs-built d x [] [] b = (refl, refl)

@@ -18,8 +18,7 @@ use Rattle.rules.specs.Action.{action}
 use Rattle.rules.specs.Places.{nowhere}
 use Rattle.rules.specs.Links.{noLinks}
 use Rattle.rules.specs.Checks.{senderChecks, verdict, isPass}
-use Rattle.rules.specs.declared.Judgement.{Judgement}
-use Rattle.rules.specs.Outcome.{Reply, replyTo, tablesAfter, judgementOf}
+use Rattle.rules.specs.Outcome.{Reply, Said, replyTo, tablesAfter, judgementOf, saidOf}
 use Rattle.waiting.specs.declared.Taken.{Taken}
 use Rattle.waiting.specs.Slots.{Seat, Round, after, slotLong, slotsMost, memoryLong, seatOf, padded, slotOf, recordOf, roundBytes, roundOf, waiting, memoryOf, freshMemory}
 use Rattle.waiting.specs.Round.{seats, occupied, firstInTurn, gone, heldRound}
@@ -157,8 +156,18 @@ judged d x q = directOf d x q (verdict (directChecks x))
 
 -- ---- for contracts: what code hands back. The reply's bytes stand in the lent buffer, and the payload is a part of the record
 
-abbrev pub said : Answered → Judgement
+abbrev pub said : Answered → Said
 said a = judgementOf (record { reply = a .reply; tables = a .terminal .tables })
 
-abbrev pub handedOut : Answered → Taken
+-- of a take: with it the record, and zeros behind it
+pub record HandedOut : Type 0 where
+  pub judgement : Said
+  pub size : ℕ
+  pub bytes : List ℕ
+
+abbrev pub handedOut : Answered → HandedOut
 handedOut a = record { judgement = said a; size = length (a .bytes); bytes = padded (a .bytes) }
+
+-- what code takes, and the bytes of the rows beside it
+abbrev pub takenOf : Taken → List ℕ → List ℕ → HandedOut
+takenOf u creds aces = record { judgement = saidOf (u .judgement) creds aces; size = u .size; bytes = u .bytes }

@@ -23,7 +23,7 @@ returns-2 : tie.Need-returns-2
 returns-2 c =
     let taken = c .before in
     let row = taken .before .before in
-    rw (row .before .enum-told .given .1) (rw (taken .both-taken .ensures, taken .before .body-of .ensures, row .own-row .ensures) at (c .refuse-if .ensures))
+    rw (row .before .enum-told .given .1) (rw (taken .both-taken .ensures, taken .before .body-of .ensures, row .own-row .ensures .row) at (c .refuse-if .ensures))
 
 pub check-roles-spec : {M : Type 1} → statement M
 check-roles-spec = tie.close (tie.spec (λ c. search needs) returns (λ c κs. search needs) (λ c κs. search needs) (λ c κs. search needs) (λ c κs. search needs) returns-2)

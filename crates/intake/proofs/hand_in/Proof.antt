@@ -1,13 +1,18 @@
 -- `hand_in`: refused, or kept.
-use mathlib.Core.Path.{_≡_, sym, _∙_}
+use mathlib.Core.Path.{_≡_, refl, sym, _∙_}
 use denote.Ref.{now}
-use Rattle.intake.proofs.Laws.{can-keep, refused-is, kept-is}
+use Rattle.rules.specs.declared.Tables.{Tables}
+use Rattle.rules.specs.Tables.{tablesOf}
+use Rattle.intake.proofs.Laws.{can-keep, answered}
 use borrow.Author.Needs.{needs}
 use Rattle.intake.proofs.hand_in.Statement.{statement}
 use Rattle.intake.proofs.hand_in.Tie as tie
 
 abbrev start : tie.After-check-hand-in → tie.Start
-start c = c .before .before .before .before .before .before .before .before
+start c = c .before .before .before
+
+abbrev tables : tie.Start → Tables
+tables s = tablesOf (s .args .h) (now (s .args .creds)) (now (s .args .aces))
 
 check-hand-in-requires : tie.Need-check-hand-in-requires
 check-hand-in-requires c κs = search needs
@@ -26,14 +31,14 @@ returns c =
     let told = c .before in
     let call = told .before .before in
     let s = start call in
-    refused-is (s .args .t1) (now (s .args .memory)) (now (s .args .«record»)) _ (call .check-hand-in .ensures) _ (told .enum-told2 .given .1) _ (c .refused .ensures)
+    answered (s .args .h) (now (s .args .creds)) (now (s .args .aces)) (now (s .args .memory)) (now (s .args .«record»)) _ _ (call .check-hand-in .ensures) (told .enum-told2 .given .1) _ _ (c .refused .ensures) refl refl
 
 keep-requires : tie.Need-keep-requires
 keep-requires c κs =
     let told = c .before in
     let call = told .before .before in
     let s = start call in
-    can-keep (s .args .t1) (now (s .args .memory)) (now (s .args .«record»)) (sym (call .check-hand-in .ensures) ∙ told .enum-told .given .1)
+    can-keep (tables s) (now (s .args .memory)) (now (s .args .«record»)) (sym (call .check-hand-in .ensures) ∙ told .enum-told .given .1)
 
 refused-requires-2 : tie.Need-refused-requires-2
 refused-requires-2 c κs = search needs
@@ -44,7 +49,7 @@ returns-2 c =
     let told = keep .before .before in
     let call = told .before .before in
     let s = start call in
-    kept-is (s .args .t1) (now (s .args .memory)) (now (s .args .«record»)) _ (call .check-hand-in .ensures) (told .enum-told .given .1) _ _ (c .refused2 .ensures) (keep .keep .ensures)
+    answered (s .args .h) (now (s .args .creds)) (now (s .args .aces)) (now (s .args .memory)) (now (s .args .«record»)) _ _ (call .check-hand-in .ensures) (told .enum-told .given .1) _ _ (c .refused2 .ensures) (keep .keep .ensures) refl
 
 pub hand-in-spec : {M : Type 1} → statement M
 hand-in-spec =

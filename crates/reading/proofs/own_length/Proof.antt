@@ -10,7 +10,7 @@ use Rattle.reading.proofs.own_length.Tie as tie
 
 returns : tie.Need-returns
 unfolding ownBody
-returns c = let l : length (c .before .args .t .devowner) ≡ 16 = search needs in rw (c .match .keys1) (omega (arith, l), omega arith)
+returns c = let l : length (c .before .args .h .devowner) ≡ 16 = search needs in rw (c .match .keys1) (omega (arith, l), omega arith)
 
 returns-2 : tie.Need-returns-2
 unfolding ownBody

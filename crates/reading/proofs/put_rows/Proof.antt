@@ -2,6 +2,7 @@
 use Prim.Native.Nat.{_≤_}
 use mathlib.Core.Path.{_≡_}
 use native.Mathlib.Omega.{arith}
+use denote.Ref.{now}
 use lib.ListN.{length}
 use borrow.Author.Tests.{ne-eqb}
 use Rattle.reading.proofs.RowBytes.{row-part, bodies-held}
@@ -12,22 +13,22 @@ use Rattle.reading.proofs.put_rows.Tie as tie
 
 put-bodies-requires : tie.Need-put-bodies-requires
 put-bodies-requires c κs =
-    let held = c .before .before .before .before in
-    let l : length (held .before .before .before .before .args .t4 .creds) ≡ 936 = search needs in
+    let held = c .before .before in
+    let l : length (now (held .before .before .before .before .args .creds)) ≡ 936 = search needs in
     omega (arith, held .held .ensures)
 
 returns : tie.Need-returns
 unfolding rowBytes
 returns c =
     let bodies = c .before .before in
-    let held = bodies .before .before .before .before .before in
+    let held = bodies .before .before .before in
     rw (held .before .match .keys1, ← bodies-held _ _ _ (held .held .ensures)) (bodies .put-bodies .ensures)
 
 returns-2 : tie.Need-returns-2
 unfolding rowBytes
 returns-2 c =
     let put = c .before .before in
-    let held = put .before .before .before .before .before .before in
+    let held = put .before .before .before .before in
     rw (held .before .match .keys2, ← row-part _ _ _ _ (held .held2 .ensures) (put .before .part .ensures)) (put .put .ensures)
 
 returns-3 : tie.Need-returns-3
@@ -35,7 +36,7 @@ unfolding rowBytes
 returns-3 c =
     let roles = c .before .before in
     let row = roles .before in
-    rw (row .before .before .before .before .match .keys3, ← row .own-row .ensures) (roles .put-roles .ensures)
+    rw (row .before .before .match .keys3, ← row .own-row .ensures .row) (roles .put-roles .ensures)
 
 returns-4 : tie.Need-returns-4
 unfolding rowBytes

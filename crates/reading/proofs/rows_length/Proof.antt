@@ -1,12 +1,11 @@
--- `rows_length`: the rows that there is room for, each as long as a row or its body, or the roles in force.
-use Prim.Native.Nat.{_*_, _≤_}
-use mathlib.Core.Path.{_≡_, sym, ap, _∙_}
+-- `rows_length`: of the rows that there is room for the bodies, or the first bytes of the table, or the roles in force.
+use Prim.Native.Nat.{_≤_}
+use mathlib.Core.Path.{_≡_, ap, _∙_}
 use native.Mathlib.Omega.{arith}
-use lib.ListN.{length}
+use denote.Ref.{now}
+use lib.ListN.{length, length-take}
 use borrow.Author.Tests.{ne-eqb}
-use Rattle.rows.specs.Rows.{joined}
-use Rattle.rules.specs.Roles.{rolesInForce}
-use Rattle.reading.proofs.RowBytes.{row-length, bodies, bodies-held, bodies-length}
+use Rattle.reading.proofs.RowBytes.{row-part, bodies-held}
 use Rattle.rules.specs.Reading.{rowBytes}
 use borrow.Author.Needs.{needs}
 use Rattle.reading.proofs.rows_length.Statement.{statement}
@@ -15,21 +14,27 @@ use Rattle.reading.proofs.rows_length.Tie as tie
 returns : tie.Need-returns
 unfolding rowBytes
 returns c =
-    let s = c .before .before .before in
-    let l : length (s .args .t2 .creds) ≡ 936 = search needs in
-    let few : c .held .result * 39 ≤ length (s .args .t2 .creds) = omega (arith, c .held .ensures) in
-    rw (c .before .match .keys1) (sym (ap length (sym (bodies-held _ _ _ (c .held .ensures))) ∙ bodies-length (c .held .result) (s .args .t2 .creds) few), omega (arith, c .held .ensures))
+    let held = c .before in
+    let match = held .before .before in
+    let l : length (now (match .before .before .args .creds)) ≡ 936 = search needs in
+    rw (match .match .keys1) (c .bodies-length .ensures .0 ∙ ap length (bodies-held _ _ _ (held .held .ensures)), omega (arith, l, c .bodies-length .ensures .1))
+
+-- the first bytes of the table, of as many rows as there is room for
+part-short : (c : tie.After-part) → length (now (c .part .result)) ≤ 1152
+part-short c = rw (c .part .ensures, length-take) (omega (arith, c .before .held2 .ensures))
 
 returns-2 : tie.Need-returns-2
 unfolding rowBytes
-returns-2 c = let l : length (c .before .before .before .args .t2 .aces) ≡ 1152 = search needs in rw (c .before .match .keys2) (row-length _ _ _ (c .held2 .ensures) l, omega (arith, c .held2 .ensures))
+returns-2 c =
+    let held = c .before in
+    rw (held .before .before .match .keys2) (ap length (row-part _ _ _ _ (held .held2 .ensures) (c .part .ensures)), part-short c)
 
 returns-3 : tie.Need-returns-3
 unfolding rowBytes
 returns-3 c =
     let row = c .before in
-    let roles = rw (row .own-row .ensures) at (c .roles-length .ensures) in
-    rw (row .before .before .before .match .keys3) (roles .0, omega (arith, roles .1))
+    let roles = rw (row .own-row .ensures .row) at (c .roles-length .ensures) in
+    rw (row .before .match .keys3) (roles .0, omega (arith, roles .1))
 
 returns-4 : tie.Need-returns-4
 unfolding rowBytes
@@ -39,7 +44,7 @@ pub rows-length-spec : {M : Type 1} → statement M
 rows-length-spec =
     tie.close
     (tie.spec
-    (λ c κs. search needs) (λ c. search needs) (λ c κs. search needs) (λ c. search needs) (λ c κs. search needs) (λ c κs. search needs) returns
+    (λ c κs. search needs) (λ c κs. search needs) (λ c κs. search needs) (λ c. search needs) (λ c κs. search needs) (λ c κs. search needs) (λ c κs. search needs) returns
     returns-2
     returns-3
     returns-4)

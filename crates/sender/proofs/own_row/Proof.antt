@@ -1,30 +1,57 @@
 -- `own_row`: a record without a sender has no row, and the row of a partner's number is the one with the record's two bytes.
-use mathlib.Core.Path.{_≡_, sym, ap, _∙_}
-use mathlib.Core.List.{List}
+use mathlib.Core.Path.{_≡_, refl, sym, ap, _∙_}
+use mathlib.Core.Bool.{Bool, true, false, not, _||_, cond}
+use mathlib.Core.List.{List, [], _∷_}
 use Prim.Native.Nat.{ℕ, _<_, _≤_}
+use lib.Dec.{eqb}
 use lib.ListN.{length, take, drop, getD}
 use native.Mathlib.Omega.{arith}
 use denote.Ref.{now}
 use borrow.Author.Needs.{needs}
-use Rattle.rows.specs.Rows.{Row, hasKey, firstRow}
-use Rattle.rules.specs.Record.{sender, connection}
+use borrow.Author.Tests.{ne-eqb}
+use Rattle.rows.specs.Rows.{Row, rowsOf, hasKey, firstRow, some}
+use Rattle.rows.proofs.Kept.{AllLong, long-rowsOf}
+use Rattle.rules.specs.Record.{Sender, unauthenticated, partner, credential, sender, connection}
 use Rattle.rules.specs.Tables.{rowsIn}
-use Rattle.rules.specs.Permission.{credentialIn}
+use Rattle.rules.specs.Permission.{numbered, credentialIn, isRow}
 use Rattle.rules.proofs.RecordLaws.{key-is, sender-short, sender-none, sender-partner}
+use Rattle.sender.specs.Own.{Own}
 use Rattle.sender.proofs.own_row.Statement.{statement}
 use Rattle.sender.proofs.own_row.Tie as tie
 
-partner-row : (ws : List Row) (r row : List ℕ) → 4 ≤ length r → connection r ≡ 1 → getD r 2 0 < 256 → getD r 3 0 < 256
-    → row ≡ firstRow (hasKey 0 (take 2 (drop 2 r))) ws → row ≡ credentialIn ws (sender r)
-partner-row ws r row h e a b is = is ∙ rw (sender-partner r h e, ← key-is r 2 h a b)
+-- ---- a sender without a row of its own
+
+nobody : (ws : List Row) (s : Sender) (w : Row) → s ≡ unauthenticated → w ≡ [] → Own ws s w
+nobody ws s w e f = record { row = rw (e, f); found = λ n p. absurd (apart n (sym e ∙ p)) }
+  where
+    apart : (n : ℕ) → unauthenticated ≡ partner n → ⊥
+    apart n q = let z : _≡_ {A = ℕ} 0 1 = cc in omega arith
+
+-- ---- a partner's row
+
+-- the first row that passes has bytes where there is one
+first-found : (passes : Row → Bool) (ws : List Row) → AllLong 39 ws → some passes ws ≡ isRow (firstRow passes ws)
+unfolding firstRow some
+first-found passes [] a = refl
+first-found passes (w ∷ ws) a = go (passes w) (first-found passes ws (a .1))
+  where
+    go : (b : Bool) → some passes ws ≡ isRow (firstRow passes ws) → (b || some passes ws) ≡ isRow (cond b w (firstRow passes ws))
+    go true e = sym (ap not (ne-eqb (length w) 0 (λ z. absurd (omega (arith, a .0)))))
+    go false e = e
+
+partner-row : (ws : List Row) (r row : List ℕ) → AllLong 39 ws → 4 ≤ length r → connection r ≡ 1 → getD r 2 0 < 256 → getD r 3 0 < 256
+    → row ≡ firstRow (hasKey 0 (take 2 (drop 2 r))) ws → Own ws (sender r) row
+partner-row ws r row l h e a b is =
+    let own : row ≡ credentialIn ws (sender r) = is ∙ rw (sender-partner r h e, ← key-is r 2 h a b) in
+    record { row = own; found = λ n p. first-found (numbered n) ws l ∙ sym (ap isRow (own ∙ ap (credentialIn ws) p)) }
 
 returns : tie.Need-returns
-returns c = c .part .ensures ∙ sym (ap (credentialIn _) (sender-short _ (c .before .before .if1 .taken)))
+returns c = nobody _ _ _ (sender-short _ (c .before .before .if1 .taken)) (c .part .ensures)
 
 returns-2 : tie.Need-returns-2
 returns-2 c =
     let test = c .before .before in
-    c .part2 .ensures ∙ sym (ap (credentialIn _) (sender-none _ (λ e. test .if2 .taken (test .before .connection-of .ensures ∙ e))))
+    nobody _ _ _ (sender-none _ (λ e. test .if2 .taken (test .before .connection-of .ensures ∙ e))) (c .part2 .ensures)
 
 row-with-requires : tie.Need-row-with-requires
 row-with-requires c κs =
@@ -38,8 +65,11 @@ returns-3 c =
     let held = c .before .before .before in
     let test = held .before in
     let call = test .before in
+    let creds = now (call .before .before .before .args .creds) in
     let bytes = call .before .before .shared-slice-known .given in
-    partner-row _ _ _ (call .before .if1 .left) (sym (call .connection-of .ensures) ∙ test .if2 .left) (bytes 2 .fits) (bytes 3 .fits) (rw (held .held .ensures) at (c .row-with .ensures))
+    let l : length creds ≡ 936 = search needs in
+    let fits : AllLong 39 (rowsOf 39 (held .held .result) creds) = long-rowsOf 39 (held .held .result) creds (omega (arith, held .held .ensures)) in
+    partner-row _ _ _ (rw (held .held .ensures) at fits) (call .before .if1 .left) (sym (call .connection-of .ensures) ∙ test .if2 .left) (bytes 2 .fits) (bytes 3 .fits) (rw (held .held .ensures) at (c .row-with .ensures))
 
 pub own-row-spec : {M : Type 1} → statement M
 own-row-spec =

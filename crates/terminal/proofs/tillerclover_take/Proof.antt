@@ -8,75 +8,73 @@ use lib.Seq.{take-at}
 use denote.Ref.{now}
 use Rattle.rules.specs.Defaults.{Defaults, defaults}
 use Rattle.rules.specs.Outcome.{payloadAt}
-use Rattle.waiting.specs.declared.Taken.{Taken}
 use Rattle.waiting.specs.Slots.{padded}
-use Rattle.waiting.specs.Terminal.{Terminal, terminal, Answered, taken, handedOut}
+use Rattle.waiting.specs.Terminal.{Terminal, terminal, Answered, taken, HandedOut, handedOut, takenOf}
+use Rattle.waiting.specs.Calls.{Takes}
 use Rattle.terminal.specs.declared.Outcome.{Outcome}
 use Rattle.terminal.specs.Interface.{outcomeIn, exported, turnOf}
 use Rattle.terminal.proofs.Payload.{taken-payload}
+use Rattle.terminal.proofs.Whole.{takes-whole}
 use borrow.Author.Needs.{needs}
 use Rattle.terminal.proofs.tillerclover_take.Statement.{statement}
 use Rattle.terminal.proofs.tillerclover_take.Tie as tie
 
+abbrev headed : tie.After-take → tie.After-head
+headed c = c .before .before .before .before .before
+
+abbrev start : tie.After-take → tie.Start
+start c = headed c .before .before .before .before .before .before
+
 -- what the take answers
 abbrev answer : tie.After-take → Answered
 answer c =
-    let s = c .before .before .before .before .before .before in
+    let s = start c in
     taken (defaults (now (s .args .creds)) (now (s .args .aces))) (terminal (s .args .t) (now (s .args .memory))) (s .args .clock) (length (now (s .args .reply)))
 
 -- the record in the bytes handed out
-module _ (a : Answered) (u : Taken) (is : u ≡ handedOut a) where
+module _ (a : Answered) (u : HandedOut) (is : u ≡ handedOut a) where
   prefix-fits : u .size ≤ length (u .bytes)
   unfolding padded
   prefix-fits = rw is (omega (arith, length-append (a .bytes) (replicate (256 - length (a .bytes)) 0)))
 
   prefix-is : take (u .size) (u .bytes) ≡ a .bytes
   unfolding padded
-  prefix-is = ap (λ (v : Taken). take (v .size) (v .bytes)) is ∙ take-at (a .bytes) (replicate (256 - length (a .bytes)) 0) (length (a .bytes)) refl
+  prefix-is = ap (λ (v : HandedOut). take (v .size) (v .bytes)) is ∙ take-at (a .bytes) (replicate (256 - length (a .bytes)) 0) (length (a .bytes)) refl
 
   prefix-long : u .size ≡ length (take (u .size) (u .bytes))
-  prefix-long = ap (λ (v : Taken). v .size) is ∙ sym (ap length prefix-is)
+  prefix-long = ap (λ (v : HandedOut). v .size) is ∙ sym (ap length prefix-is)
 
-told : (d : Defaults) (x : Terminal) (clock room : ℕ) (u : Taken) (p : List ℕ) (o : Outcome) → u ≡ handedOut (taken d x clock room) → p ≡ payloadAt (u .judgement .answer) (take (u .size) (u .bytes)) → o ≡ outcomeIn (u .judgement) (length p)
+told : (d : Defaults) (x : Terminal) (clock room : ℕ) (u : HandedOut) (p : List ℕ) (o : Outcome) → u ≡ handedOut (taken d x clock room) → p ≡ payloadAt (u .judgement .answer) (take (u .size) (u .bytes)) → o ≡ outcomeIn (u .judgement) (length p)
     → record { outcome = o; size = u .size; bytes = u .bytes } ≡ turnOf (taken d x clock room)
 told d x clock room u p o e f g =
     let a = taken d x clock room in
-    let payload : p ≡ a .reply .payload = f ∙ ap₂ (λ (v : Taken) (r : List ℕ). payloadAt (v .judgement .answer) r) e (prefix-is a u e) ∙ taken-payload d x clock room in
-    let out : o ≡ exported a = g ∙ ap₂ (λ (v : Taken) (r : List ℕ). outcomeIn (v .judgement) (length r)) e payload in
-    ap₂ (λ (v : Taken) (z : Outcome). record { outcome = z; size = v .size; bytes = v .bytes }) e out
+    let payload : p ≡ a .reply .payload = f ∙ ap₂ (λ (v : HandedOut) (r : List ℕ). payloadAt (v .judgement .answer) r) e (prefix-is a u e) ∙ taken-payload d x clock room in
+    let out : o ≡ exported a = g ∙ ap₂ (λ (v : HandedOut) (r : List ℕ). outcomeIn (v .judgement) (length r)) e payload in
+    ap₂ (λ (v : HandedOut) (z : Outcome). record { outcome = z; size = v .size; bytes = v .bytes }) e out
 
-take-requires : tie.Need-take-requires
-take-requires c κs = search needs
+-- what the call gives beside the tables
+abbrev out-of : tie.After-take → HandedOut
+out-of c = takenOf (c .take .result) (c .take .last .1 .0) (c .take .last .1 .1 .0)
+
+gives : (c : tie.After-take) → let s = start c in
+    Takes (defaults (now (s .args .creds)) (now (s .args .aces))) (terminal (s .args .t) (now (s .args .memory))) (s .args .clock) (length (now (s .args .reply))) (out-of c) (now (s .args .reply)) (c .take .last .1 .1 .1 .0) (c .take .last .1 .1 .1 .1 .1 .1 .1 .0)
+gives c = let s = start c in takes-whole (s .args .t) (now (s .args .memory)) _ (headed c .head .ensures) _ _ _ _ _ _ _ (c .take .ensures)
 
 array-share-prefix-bytes : tie.Need-array-share-prefix-bytes
-array-share-prefix-bytes c = let call = c .before .before .before .before in prefix-fits (answer call) _ (call .take .ensures .0)
+array-share-prefix-bytes c = let call = c .before .before .before .before in prefix-fits (answer call) (out-of call) (gives call .hands)
 
 slice-aggregate-payload : tie.Need-slice-aggregate-payload
-slice-aggregate-payload c = let call = c .before .before .before .before .before in prefix-long (answer call) _ (call .take .ensures .0)
-
-payload-requires : tie.Need-payload-requires
-payload-requires c κs = search needs
-
-export-requires : tie.Need-export-requires
-export-requires c κs = search needs
-
-same-length : tie.Need-same-length
-same-length c = search needs
+slice-aggregate-payload c = let call = c .before .before .before .before .before in prefix-long (answer call) (out-of call) (gives call .hands)
 
 returns : tie.Need-returns
 returns c =
     let payload = c .before in
     let call = payload .before .before .before .before .before .before in
-    (told _ _ _ _ _ _ _ (call .take .ensures .0) (payload .payload .ensures) (c .export .ensures), call .take .ensures .1)
+    (told _ _ _ _ (out-of call) _ _ (gives call .hands) (payload .payload .ensures) (c .export .ensures), gives call .leaves)
 
 pub tillerclover-take-spec : {M : Type 1} → statement M
 tillerclover-take-spec =
     tie.close
     (tie.spec
-    take-requires
-    array-share-prefix-bytes
-    slice-aggregate-payload
-    payload-requires
-    export-requires
-    same-length
-    returns)
+    (λ c κs. search needs) (λ c κs. search needs) array-share-prefix-bytes slice-aggregate-payload
+    (λ c κs. search needs) (λ c κs. search needs) (λ c. search needs) returns)

@@ -5,12 +5,12 @@ use lib.Seq.{length-take-le}
 use Rattle.vectors.proofs.take_within.Statement.{statement}
 use Rattle.vectors.proofs.take_within.Tie as tie
 
-slice-aggregate-take : tie.Need-slice-aggregate-take
-slice-aggregate-take c = let n = c .before .before in sym (length-take-le (n .smaller .result) _ (n .smaller .ensures))
+slice-aggregate-tillerclover-take : tie.Need-slice-aggregate-tillerclover-take
+slice-aggregate-tillerclover-take c = let n = c .before .before in sym (length-take-le (n .smaller .result) _ (n .smaller .ensures))
 
 pub take-within-spec : {M : Type 1} → statement M
 take-within-spec =
     tie.close
     (tie.spec
-    (λ c κs. search needs) (λ c. search needs) slice-aggregate-take
+    (λ c κs. search needs) (λ c. search needs) slice-aggregate-tillerclover-take
     (λ c κs. search needs) (λ c. search needs) (λ c. search needs))

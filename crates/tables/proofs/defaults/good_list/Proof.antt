@@ -1,5 +1,4 @@
 -- `defaults::good_list`: the rows over the table of zeros are those of the list.
-use mathlib.Core.Path.{_≡_, sym, ap, _∙_}
 use denote.Ref.{now}
 use borrow.Author.Tests.{lt-leb, le-leb}
 use Rattle.rules.specs.Defaults.{goodList}

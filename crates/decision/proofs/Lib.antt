@@ -1,0 +1,2 @@
+-- Laws of a decision.
+pub mod Laws

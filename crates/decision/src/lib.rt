@@ -1,0 +1,90 @@
+// The decision on a record beside sound tables: the checks after 1 in their order and, where none applies, what is permitted.
+// The sender's own row is found once, for check 7 and for the permission. Check 1 is the caller's, since it covers the memory of waiting records too.
+use action::action_of;
+use asked::check_asked;
+use header::check_header;
+use outcome::check_room;
+use permission::effective;
+use reading::reply_length;
+use rules::Action;
+use rules::CRED_ROWS;
+use rules::Check;
+use rules::Decision;
+use rules::Head;
+use sender::check_credential;
+use sender::own_row;
+ghost use mathlib.Core.Path.{_≡_};
+ghost use Rattle.rules.specs.declared.Table.the-variants.{Creds};
+ghost use Rattle.rules.specs.Record.{asked, sender};
+ghost use Rattle.rules.specs.Tables.{tablesOf, rows};
+ghost use Rattle.rules.specs.Decision.{nothingGranted, granted, decided};
+ghost use Rattle.sender.specs.Own.{Own};
+
+// A record that is turned away is permitted nothing.
+fn turned_away(c: Check) -> Decision
+    ensures { λ r. ⌜ r ≡ nothingGranted c ⌝ }
+{
+    Decision {
+        check: c,
+        permission: 0,
+        action: Action::Malformed,
+        length: 0,
+    }
+}
+
+// The decision on a record that passes 2 to 7, where `cred` is the sender's own row or no bytes and the buffer has this room.
+// Rules out: the body judged before the permission; another clock for the rows; a reply that does not fit permitted.
+pub fn grant<'a>(
+    clock: u32,
+    h: Head,
+    creds: &'a [u8; CRED_ROWS],
+    aces: &'a [u8; 1152],
+    cred: &[u8],
+    record: &[u8],
+    room: usize,
+) -> Decision
+    requires { ⌜ Own (rows Creds (tablesOf h (now creds) (now aces))) (sender (now «record»)) (now cred) ⌝ }
+    ensures { λ r. ⌜ r ≡ granted (tablesOf h (now (creds .entry)) (now (aces .entry))) (asked clock (now («record» .entry)) room) ⌝ }
+{
+    let permission = effective(clock, h, creds, aces, cred, record);
+    let a = action_of(record);
+    let c = check_asked(clock, h, creds, aces, permission, record, a);
+    let Check::Pass = c else {
+        return turned_away(c);
+    };
+    let length = reply_length(clock, h, creds, aces, record);
+    let c = check_room(room, length);
+    let Check::Pass = c else {
+        return turned_away(c);
+    };
+    Decision {
+        check: c,
+        permission: permission,
+        action: a,
+        length: length,
+    }
+}
+
+// The decision on a record.
+// Rules out: one that refuses every record with 8; the sender looked up before the header; a permission beside a refusal.
+pub fn decide<'a>(
+    clock: u32,
+    h: Head,
+    creds: &'a [u8; CRED_ROWS],
+    aces: &'a [u8; 1152],
+    record: &[u8],
+    room: usize,
+) -> Decision
+    ensures { λ r. ⌜ r ≡ decided (tablesOf h (now (creds .entry)) (now (aces .entry))) (asked clock (now («record» .entry)) room) ⌝ }
+{
+    let c = check_header(record);
+    let Check::Pass = c else {
+        return turned_away(c);
+    };
+    let cred = own_row(h.ncreds, creds, record);
+    let c = check_credential(h, creds, aces, cred, record);
+    let Check::Pass = c else {
+        return turned_away(c);
+    };
+    grant(clock, h, creds, aces, cred, record, room)
+}

@@ -1,0 +1,148 @@
+-- What a decision that passes says of the record: it passed every check, so the outcome is its effect; and the memory that it leaves.
+use Prim.Native.Nat.{ℕ, _≤_}
+use mathlib.Core.Path.{_≡_, refl, sym, ap, _∙_}
+use mathlib.Core.Bool.{Bool, true, false, not, _&&_}
+use mathlib.Core.Logic.{⊎-elim}
+use mathlib.Core.List.{List, [], _∷_, _++_}
+use native.Mathlib.Omega.{arith}
+use lib.Dec.{eqb}
+use lib.ListN.{length}
+use borrow.Author.Tests.{eq-eqb, ne-eqb, eqb-false, not-true, ltb-false}
+use types.Run.{OneOf}
+use denote.Enum.Declared.{tagOf}
+use Rattle.rows.specs.Rows.{Row, without}
+use Rattle.text.specs.Buffer.{Puts}
+use Rattle.text.proofs.Buffers.{written-start}
+use Rattle.rules.specs.declared.Tables.{Tables}
+use Rattle.rules.specs.declared.Check.{Check}
+use Rattle.rules.specs.declared.Check.the-variants.{Pass, Refuse}
+use Rattle.rules.specs.declared.Action.{Action}
+use Rattle.rules.specs.declared.Action.the-variants.{Serve, Read, SetRowOwner, SetOwner, SetState, Store, Remove, Assert, Malformed}
+use Rattle.rules.specs.declared.Decision.{Decision}
+use Rattle.rules.specs.declared.Places.{Places}
+use Rattle.rules.specs.declared.Links.{Links}
+use Rattle.rules.specs.Record.{Request, body}
+use Rattle.rules.specs.Tables.{sound}
+use Rattle.rules.specs.Defaults.{Defaults}
+use Rattle.rules.specs.Permission.{permission}
+use Rattle.rules.specs.Action.{action}
+use Rattle.rules.specs.Places.{placesOf}
+use Rattle.rules.specs.Links.{linksOf}
+use Rattle.rules.specs.Reading.{replyOf, tooShort, filled}
+use Rattle.rules.specs.Checks.{verdict, senderChecks, formChecks, requestChecks, stateChecks, rowChecks, askedChecks, roomChecks, checks}
+use Rattle.rules.specs.Decision.{grantChecks, decisionChecks, decisionBy, decided}
+use Rattle.rules.specs.Outcome.{Outcome, outcomeOf, outcomeAt, outcome, replyTo, tablesAfter, judgementOf, effect}
+use Rattle.rules.proofs.Action.{the-type}
+use Rattle.rules.proofs.Bools.{and-left, and-right}
+use Rattle.rules.proofs.CheckLaws.{skip-at, rest-passes}
+use Rattle.rules.proofs.Answers.{passed}
+use Rattle.rules.proofs.Others.{lacks}
+use Rattle.waiting.specs.Slots.{Round, memoryOf, freshMemory}
+use Rattle.waiting.specs.Round.{seats, gone, heldRound}
+use Rattle.waiting.specs.Terminal.{isReset, clears, asMany, memoryAfter}
+use Rattle.decision.proofs.Laws.{check-decided}
+
+-- ---- an action that is no move to a state
+
+missed : (ks : List ℕ) (x : ℕ) → lacks ks x ≡ true → OneOf ks x → ⊥
+missed [] x h e = e
+missed (k ∷ []) x h e = eqb-false x k (not-true _ (and-left (not (eqb x k)) true h)) e
+missed (k ∷ k′ ∷ ks) x h e =
+    ⊎-elim (λ q. eqb-false x k (not-true _ (and-left (not (eqb x k)) (lacks (k′ ∷ ks) x) h)) q) (λ q. missed (k′ ∷ ks) x (and-right (not (eqb x k)) _ h) q) e
+
+pub not-reset : (ks : List ℕ) (a : Action) → lacks ks 4 ≡ true → OneOf ks (tagOf the-type a) → isReset a ≡ false
+not-reset ks Serve h k = refl
+not-reset ks Read h k = refl
+not-reset ks (SetRowOwner n) h k = refl
+not-reset ks (SetOwner o) h k = refl
+not-reset ks (SetState s) h k = absurd (missed ks 4 h k)
+not-reset ks (Store t) h k = refl
+not-reset ks (Remove t at) h k = refl
+not-reset ks (Assert c) h k = refl
+not-reset ks Malformed h k = refl
+
+-- ---- a group of checks that passes
+
+front-passes : (xs ys : List (ℕ × Bool)) → verdict (xs ++ ys) ≡ Pass → verdict xs ≡ Pass
+unfolding verdict
+front-passes [] ys e = refl
+front-passes ((n, true) ∷ xs) ys e = e
+front-passes ((n, false) ∷ xs) ys e = front-passes xs ys e
+
+-- ---- a decision that passes
+
+module _ (t : Tables) (q : Request) (g : Decision) (is : g ≡ decided t q) (pass : g .check ≡ Pass) where
+  all-pass : verdict (decisionChecks t q) ≡ Pass
+  all-pass = sym (ap (λ (x : Decision). x .check) is ∙ check-decided t q) ∙ pass
+
+  granted-is : g ≡ decisionBy t q Pass
+  unfolding decided
+  granted-is = is ∙ ap (decisionBy t q) all-pass
+
+  pub action-is : g .action ≡ action (q .bytes)
+  action-is = ap (λ (x : Decision). x .action) granted-is
+
+  grant-passes : verdict (grantChecks t q) ≡ Pass
+  grant-passes = rest-passes (senderChecks t (q .bytes)) (grantChecks t q) all-pass
+
+  abbrev first-checks : List (ℕ × Bool)
+  first-checks = askedChecks (q .clock) t (permission (q .clock) t (q .bytes)) (q .bytes) (action (q .bytes))
+
+  -- the checks of the state and of the rows
+  pub rows-pass : verdict (stateChecks t (g .action) ++ rowChecks (q .clock) t (q .bytes) (g .action)) ≡ Pass
+  rows-pass =
+      rw action-is
+      (rest-passes (requestChecks (permission (q .clock) t (q .bytes)) (q .bytes) (action (q .bytes))) _ (front-passes first-checks (roomChecks t q) grant-passes))
+
+  -- the reply fits
+  pub reply-fits : length (replyOf (q .clock) t (q .bytes)) ≤ q .room
+  unfolding tooShort
+  reply-fits = ltb-false _ _ (passed (roomChecks t q) (rest-passes first-checks (roomChecks t q) grant-passes) 15)
+
+  module _ (h : sound t ≡ true) where
+    pub form-passes : verdict (formChecks t (q .bytes)) ≡ Pass
+    form-passes = sym (skip-at 1 _ _ (ap not h) (sym (front-passes (senderChecks t (q .bytes)) (grantChecks t q) all-pass)))
+
+    whole : Pass ≡ verdict (checks t (permission (q .clock) t (q .bytes)) q)
+    whole = skip-at 1 (not (sound t)) (decisionChecks t q) (ap not h) (sym all-pass)
+
+    -- what is said, with the tables afterwards, and the buffer
+    pub says : (d : Defaults) (p : Places) (k : Links) (next : Tables) → p ≡ placesOf t (body (q .bytes)) (g .action) → k ≡ linksOf (q .clock) t (q .bytes)
+        → next ≡ effect d (q .clock) t (q .bytes) (g .action)
+        → record { answer = 0; permission = g .permission; length = g .length; places = p; links = k; tables = next } ≡ judgementOf (outcome d t q)
+    unfolding outcome outcomeAt
+    says d p k next e f i = rw (← whole, e, f, i, granted-is)
+
+    passes : (d : Defaults) → outcomeOf d t (permission (q .clock) t (q .bytes)) q Pass ≡ outcome d t q
+    unfolding outcome outcomeAt
+    passes d = ap (outcomeOf d t (permission (q .clock) t (q .bytes)) q) whole
+
+    pub fills : (d : Defaults) (b b′ : List ℕ) (n : ℕ) → length b ≡ q .room → Puts b 0 (replyOf (q .clock) t (q .bytes)) b′ n → b′ ≡ filled b (replyTo d t q .contents)
+    unfolding filled
+    fills d b b′ n l p = p .buffer ∙ written-start b _ (rw l reply-fits) ∙ ap (λ (o : Outcome). filled b (o .reply .contents)) (passes d)
+
+    -- a record of an application resource leaves the tables
+    pub served : (d : Defaults) → g .action ≡ Serve → tablesAfter d t q ≡ t
+    served d e = sym (ap (λ (o : Outcome). o .tables) (passes d)) ∙ ap (effect d (q .clock) t (q .bytes)) (sym action-is ∙ e)
+
+    clears-is : (d : Defaults) → clears d t q ≡ isReset (g .action)
+    unfolding clears
+    clears-is d = sym (ap (λ (o : Outcome). eqb (o .reply .answer) 0 && isReset (action (q .bytes))) (passes d)) ∙ ap isReset (sym action-is)
+
+    -- ---- the memory that it leaves
+
+    module _ (d : Defaults) (over : Bool) (told : over ≡ isReset (g .action)) (u : Tables) (after : u ≡ tablesAfter d t q) (k : Round) (ws : List Row) where
+      pub cleared-memory : over ≡ true → freshMemory ≡ memoryAfter d t q k ws
+      unfolding memoryAfter
+      cleared-memory e = sym (rw (clears-is d ∙ sym told ∙ e))
+
+      module _ (e : over ≡ false) where
+        pub same-memory : u .ncreds ≡ t .ncreds → memoryOf k ws ≡ memoryAfter d t q k ws
+        unfolding memoryAfter asMany
+        same-memory n = sym (rw (clears-is d ∙ sym told ∙ e, ap (λ (v : Tables). eqb (t .ncreds) (v .ncreds)) (sym after) ∙ eq-eqb (t .ncreds) (u .ncreds) (sym n)))
+
+        pub moved-memory : (u .ncreds ≡ t .ncreds → ⊥) → memoryOf (heldRound (seats u) (heldRound (seats t) k)) (without (gone (seats u)) ws) ≡ memoryAfter d t q k ws
+        unfolding memoryAfter asMany
+        moved-memory n =
+            ap (λ (v : Tables). memoryOf (heldRound (seats v) (heldRound (seats t) k)) (without (gone (seats v)) ws)) after
+            ∙ sym (rw (clears-is d ∙ sym told ∙ e, ap (λ (v : Tables). eqb (t .ncreds) (v .ncreds)) (sym after) ∙ ne-eqb (t .ncreds) (u .ncreds) (λ f. n (sym f))))

@@ -1,0 +1,2 @@
+-- What the contracts of the crate `execute` speak of.
+pub mod Executed

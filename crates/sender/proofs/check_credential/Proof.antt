@@ -1,0 +1,48 @@
+-- `check_credential`: a partner has a row exactly where the bytes that were found are some.
+use mathlib.Core.Path.{_≡_, refl, sym, ap, _∙_}
+use mathlib.Core.Bool.{Bool, true, false, not}
+use mathlib.Core.List.{List}
+use native.Mathlib.Omega.{arith}
+use lib.Dec.{eqb}
+use lib.ListN.{length}
+use Rattle.rows.specs.Rows.{Row}
+use Rattle.rules.specs.declared.Tables.{Tables}
+use Rattle.rules.specs.declared.Table.the-variants.{Creds}
+use Rattle.rules.specs.Record.{Sender, unauthenticated, partner, sender}
+use Rattle.rules.specs.Tables.{rows}
+use Rattle.rules.specs.Permission.{connectionOf}
+use Rattle.rules.specs.Checks.{refuseIf, noRow, noCredential}
+use Rattle.sender.specs.Own.{Own}
+use borrow.Author.Needs.{needs}
+use Rattle.sender.proofs.check_credential.Statement.{statement}
+use Rattle.sender.proofs.check_credential.Tie as tie
+
+not-not : (b : Bool) → not (not b) ≡ b
+not-not true = refl
+not-not false = refl
+
+no-row : (t : Tables) (s : Sender) (w : Row) → Own (rows Creds t) s w → connectionOf s ≡ 1 → eqb (length w) 0 ≡ noRow t s
+no-row t unauthenticated w o e = absurd (omega (arith, e))
+no-row t (partner n) w o e = sym (ap not (o .found n refl) ∙ not-not (eqb (length w) 0))
+
+no-partner : (t : Tables) (s : Sender) → (connectionOf s ≡ 1 → ⊥) → noRow t s ≡ false
+no-partner t unauthenticated e = refl
+no-partner t (partner n) e = absurd (e refl)
+
+returns : tie.Need-returns
+unfolding refuseIf noCredential
+returns c = rw (no-partner _ (sender _) (λ e. c .if1 .taken (c .before .sender-connection .ensures ∙ e)))
+
+returns-2 : tie.Need-returns-2
+unfolding noCredential
+returns-2 c =
+    let test = c .before in
+    let s = test .before .before .before .before in
+    c .refuse-if .ensures ∙ ap (refuseIf 7) (no-row _ (sender _) _ (s .pre) (sym (test .before .sender-connection .ensures) ∙ test .if1 .left))
+
+pub check-credential-spec : {M : Type 1} → statement M
+check-credential-spec =
+    tie.close
+    (tie.spec
+    (λ c κs. search needs) returns
+    (λ c κs. search needs) returns-2)

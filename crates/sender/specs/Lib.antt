@@ -1,0 +1,2 @@
+-- What the contracts of the crate `sender` speak of.
+pub mod Own
