@@ -6,7 +6,7 @@
  * What the functions return, write into a lent buffer and leave in the memory of waiting records
  * depends on their arguments alone. They keep no state between calls, allocate nothing, do no input or
  * output, never fail and always return. So any number of threads may call them at once, each with a
- * buffer and a memory of its own. A thread needs 48 KiB of free stack for a call; docs/BENCHMARKS.md has
+ * buffer and a memory of its own. A thread needs 16 KiB of free stack for a call; docs/BENCHMARKS.md has
  * the measured depth.
  *
  * Tables go in and come out by value: the caller owns every copy, and keeps the one that was
