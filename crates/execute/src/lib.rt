@@ -1,4 +1,4 @@
-// What becomes of a decided record beside a sound terminal: the reply, the places, the links, the tables in place, and what waits.
+// What becomes of a decided record beside sound tables and a queue: the reply, the places, the links, the tables in place, and what waits.
 // Check 1 and the decision are the caller's.
 use effect::apply;
 use links::links_of;
@@ -72,7 +72,7 @@ fn is_reset(a: Action) -> bool
     target == 0
 }
 
-// The same for an action that may change the tables: with a credential row its waiting record goes, and RESET leaves nothing waiting.
+// A permitted record and what waits, for an action that may change the tables: with a credential row its waiting record goes, and RESET leaves nothing waiting.
 fn change(
     h: Head,
     creds: &mut [u8; CRED_ROWS],

@@ -180,7 +180,7 @@ reply-loaded d t u q n qs l p ready e =
     (all-may Aces u (storing n) (owner-may u n (ready .isSound) (ready .owner) (ready .number)) (rowsOfReply Aces (replyTo d t q .contents)) qs
     (rw (rows-told d Aces t q p l) (long-bodies Aces t (retrieved-sound d Aces t q p))) e)
 
--- the same of any calls that meet the contracts of `judge` and `payload`, each on the tables handed back last
+-- the same of any calls that give `outcome` and `payloadAt`, each on the tables handed back last
 pub built-loaded : (d : Defaults) (t : Tables) (n : ℕ) (b : List ℕ) (qs : List Request) (cs : List Call)
     → listTested b .answer ≡ 0 → Ready n t → Stores n qs (listed b) → Built d t qs cs
     → (map (λ (p : Reply). p .answer) (map told cs) ≡ map (λ (q : Request). 0) qs)

@@ -93,7 +93,7 @@ pub fn check_missing<'a>(
     Check::Pass
 }
 
-// The places behind the first row that has the key's bytes from `at` on.
+// The places from the first row that has the key's bytes from `at` on to the last one held.
 fn gap<'a>(
     h: Head,
     creds: &'a [u8; CRED_ROWS],
