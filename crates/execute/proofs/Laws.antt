@@ -42,25 +42,6 @@ use Rattle.waiting.specs.Round.{seats, gone, heldRound}
 use Rattle.waiting.specs.Terminal.{isReset, clears, asMany, memoryAfter}
 use Rattle.decision.proofs.Laws.{check-decided}
 
--- ---- an action that is no move to a state
-
-missed : (ks : List ℕ) (x : ℕ) → lacks ks x ≡ true → OneOf ks x → ⊥
-missed [] x h e = e
-missed (k ∷ []) x h e = eqb-false x k (not-true _ (and-left (not (eqb x k)) true h)) e
-missed (k ∷ k′ ∷ ks) x h e =
-    ⊎-elim (λ q. eqb-false x k (not-true _ (and-left (not (eqb x k)) (lacks (k′ ∷ ks) x) h)) q) (λ q. missed (k′ ∷ ks) x (and-right (not (eqb x k)) _ h) q) e
-
-pub not-reset : (ks : List ℕ) (a : Action) → lacks ks 4 ≡ true → OneOf ks (tagOf the-type a) → isReset a ≡ false
-not-reset ks Serve h k = refl
-not-reset ks Read h k = refl
-not-reset ks (SetRowOwner n) h k = refl
-not-reset ks (SetOwner o) h k = refl
-not-reset ks (SetState s) h k = absurd (missed ks 4 h k)
-not-reset ks (Store t) h k = refl
-not-reset ks (Remove t at) h k = refl
-not-reset ks (Assert c) h k = refl
-not-reset ks Malformed h k = refl
-
 -- ---- a group of checks that passes
 
 front-passes : (xs ys : List (ℕ × Bool)) → verdict (xs ++ ys) ≡ Pass → verdict xs ≡ Pass

@@ -9,10 +9,10 @@ use Rattle.rules.specs.declared.Tables.{Tables}
 use Rattle.rules.specs.declared.Table.the-variants.{Aces}
 use Rattle.rules.specs.Directory.{someSecurity}
 use Rattle.rules.specs.Record.{Request, asked}
-use Rattle.rules.specs.Tables.{rows, withRows}
+use Rattle.rules.specs.Tables.{rows, withRows, withState, withOwner}
 use Rattle.rules.specs.Defaults.{noDefaults}
 use Rattle.rules.specs.Checks.{refuseIf}
-use Rattle.rules.specs.Outcome.{withState, withOwner, replyTo, tablesAfter}
+use Rattle.rules.specs.Outcome.{replyTo, tablesAfter}
 use Rattle.rules.specs.Run.{final}
 use Rattle.rules.specs.Isolation.{rowAlters}
 use Rattle.rules.proofs.Examples.{definitions, uuid, credRow, withCreds, owned5, aceBody, aceRow, weight, connected}

@@ -12,7 +12,6 @@ use Rattle.rules.specs.declared.Action.the-variants.{Serve, Read, SetRowOwner, 
 use Rattle.rules.specs.Directory.{isSecurity, doxm, pstat, cred, acl2, roles}
 use Rattle.rules.specs.Record.{verb, connection, resource, body}
 use Rattle.rules.specs.Bodies.{newOwned, target}
-use Rattle.rules.specs.Tables.{shortest, longest}
 use Rattle.rules.specs.Action.{ifAllowed, updateDoxm, updatePstat, storeRow, updateRows, updateRoles, updateAction, deleteNumber, deleteCreds, deleteAction, readAction, securityAction, action}
 use Rattle.rules.proofs.Bools.{cond-cases, contradiction}
 
@@ -39,8 +38,7 @@ rows-not : (n : ℕ) (k : Table) (b : List ℕ) → NotFrom (updateRows n k b)
 unfolding updateRows storeRow
 rows-not n k b =
     cond-cases NotFrom (eqb (length b) 16) (λ _. refl)
-    (λ _. cond-cases NotFrom (eqb (length b) (shortest k)) (λ _. allowed-not _ (Store k) refl)
-    (λ _. cond-cases NotFrom (eqb (length b) (longest k)) (λ _. allowed-not _ (Store k) refl) (λ _. refl)))
+    (λ _. allowed-not _ (Store k) refl)
 
 update-not : (c n : ℕ) (b : List ℕ) → NotFrom (updateAction c n b)
 unfolding updateAction updateDoxm updatePstat updateRoles

@@ -13,7 +13,7 @@ ghost use lib.Dec.{ltb};
 ghost use Rattle.rules.specs.Places.{nowhere};
 ghost use Rattle.rules.specs.Links.{noLinks};
 ghost use Rattle.rules.specs.Checks.{numberOf, refuseIf};
-ghost use Rattle.rules.specs.Outcome.{refusal, payloadAt};
+ghost use Rattle.rules.specs.Outcome.{refusal, Passes};
 
 // Nothing to store.
 // Rules out: one place in an empty table; a place left from an earlier record.
@@ -67,7 +67,7 @@ pub fn check_room(room: usize, length: usize) -> Check
 // What a record with this answer passes on: a part of the caller's own bytes, empty on a refusal.
 // Rules out: a payload on a refusal; the body of a security record.
 pub fn payload(record: &[u8], answer: u8) -> &[u8]
-    ensures { λ r. ⌜ now r ≡ payloadAt answer (now («record» .entry)) ⌝ }
+    ensures { λ r. ⌜ Passes answer (now («record» .entry)) (now r) ⌝ }
 {
     if answer != 0 {
         return &record[..0];

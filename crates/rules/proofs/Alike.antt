@@ -22,7 +22,7 @@ use Rattle.rules.specs.Bits.{word}
 use Rattle.rules.specs.Directory.{links, someSecurity}
 use Rattle.rules.specs.Bodies.{isNil, newOwner, rowNumber, credSubject}
 use Rattle.rules.specs.Roles.{bodyOf, withoutRoles, asserted}
-use Rattle.rules.specs.Tables.{storable, rowOf, bytes, rows, withRows, rowOwner, sound}
+use Rattle.rules.specs.Tables.{storable, rowOf, bytes, rows, withRows, rowOwner, sound, withState, withOwner, withRowOwner}
 use Rattle.rules.specs.Permission.{numbered, credentialIn, ownRow, connectionOf, isRow, subjectIs, names, isOwner, byOwner, byNoOwner, effectiveOf, permission}
 use Rattle.rules.specs.States.{stateAllows, moveAllowed}
 use Rattle.rules.specs.Places.{gapOf, placesOf}
@@ -31,7 +31,7 @@ use Rattle.rules.specs.Action.{action}
 use Rattle.rules.specs.Checks.{noRow, noCredential, badTarget, missing, full, checks, verdict}
 use Rattle.rules.specs.Links.{ownRecord, permits, setOf, asksLinks, linkSet, linksOf}
 use Rattle.rules.specs.Defaults.{Defaults, fresh}
-use Rattle.rules.specs.Outcome.{Outcome, withState, withOwner, withRowOwner, entered, effect, outcomeOf, outcomeAt, outcome, replyTo, tablesAfter}
+use Rattle.rules.specs.Outcome.{Outcome, entered, effect, outcomeOf, outcomeAt, outcome, replyTo, tablesAfter}
 use Rattle.rules.specs.Isolation.{namesOwner, mayFit, mayAlter, Harmless, hidden, hiddenIn, compared}
 use Rattle.rules.proofs.Bools.{cond-cases, bool-cases, contradiction}
 use Rattle.rules.proofs.BitLaws.{bits-small}

@@ -18,7 +18,7 @@ use Rattle.rules.specs.Directory.{resourceOf, isSecurity, doxm, pstat, c
 use Rattle.rules.specs.Record.{Request, verb, connection, resource, body}
 use Rattle.rules.specs.Bodies.{isNil, newOwned, ownerBody, target, stateBody, rowNumber}
 use Rattle.rules.specs.Roles.{noRole}
-use Rattle.rules.specs.Tables.{shortest, longest, storable, rowOf, rows, withRows, sound}
+use Rattle.rules.specs.Tables.{storable, rowOf, rows, withRows, sound}
 use Rattle.rules.specs.Defaults.{Defaults}
 use Rattle.rules.specs.Action.{ifAllowed, updateDoxm, updatePstat, storeRow, updateRows, updateRoles, updateAction, deleteNumber, deleteAces, deleteCreds, deleteAction, readAction, securityAction, action}
 use Rattle.rules.specs.Places.{nowhere, gapOf, placesOf, deletes}
@@ -141,9 +141,7 @@ module _ (t : Tables) (b : List ℕ) where
   rows-quiet : (n : ℕ) (k : Table) → Quiet (updateRows n k b)
   unfolding updateRows storeRow
   rows-quiet n k =
-      cond-cases Quiet (eqb (length b) 16) (λ _. refl)
-      (λ _. cond-cases Quiet (eqb (length b) (shortest k)) (λ _. allowed-quiet (storable k (rowOf k b)) (Store k) refl)
-      (λ _. cond-cases Quiet (eqb (length b) (longest k)) (λ _. allowed-quiet (storable k (rowOf k b)) (Store k) refl) (λ _. refl)))
+      cond-cases Quiet (eqb (length b) 16) (λ _. refl) (λ _. allowed-quiet (storable k (rowOf k b)) (Store k) refl)
 
   roles-quiet : (c : ℕ) → Quiet (updateRoles c b)
   unfolding updateRoles

@@ -16,7 +16,7 @@ use Rattle.rules.specs.Directory.{resourceOf, someSecurity}
 use Rattle.rules.specs.Record.{Request, asked, Sender, unauthenticated, partner, sender, payloadOf}
 use Rattle.rules.specs.Bodies.{nil, isNil, ownerBody, stateBody, credStorable, credRowOf, setKnown, subjectStorable, aceStorable, everySecond, aceRowOf}
 use Rattle.rules.specs.Roles.{noRole, free, sameRole, unasserted, rolesInForce, rolesSound, credHeld, withRole, bothTaken, asserted}
-use Rattle.rules.specs.Tables.{rowsIn, withRows, rowsSound, headSound, sound, empty, rowOwner}
+use Rattle.rules.specs.Tables.{rowsIn, withRows, rowsSound, headSound, sound, empty, rowOwner, withOwner, withState}
 use Rattle.rules.specs.Defaults.{Defaults, noDefaults, goodList, defaultRows, fresh}
 use Rattle.rules.specs.Permission.{has, forRole, roleFits, subjectIs, subjectFits, resourceFits, inForce, rowFits, gives, names, isOwner, byOwner, byNoOwner, byRoles, effectiveOf, effective, permission}
 use Rattle.rules.specs.Action.{ifAllowed, updateDoxm, updatePstat, storeRow, updateRows, updateRoles, updateAction, deleteNumber, deleteAces, deleteCreds, deleteAction, readAction, securityAction, action}
@@ -26,7 +26,7 @@ use Rattle.rules.specs.Places.{nowhere, gapOf}
 use Rattle.rules.specs.Links.{ownRecord, permits, setOf, asksLinks, linkSet, noLinks}
 use Rattle.rules.specs.Reading.{ownBody, rowBytes, contents, reads, replyOf, tooShort}
 use Rattle.rules.specs.Checks.{badLength, noVerb, zeroBitSet, mismatch, unknownResource, noCredential, noEndpoint, notPermitted, offered, notOffered, verdict}
-use Rattle.rules.specs.Outcome.{Reply, outcomeAt, outcome, withOwner, withState, entered, replyTo, tablesAfter}
+use Rattle.rules.specs.Outcome.{Reply, outcomeAt, outcome, entered, replyTo, tablesAfter}
 use Rattle.rules.specs.Run.{replies, final, Along, kept, keptOf}
 use Rattle.rules.specs.Isolation.{Harmless, Premise, isOthers, namesOwner, rowAlters, mayFit, mayAlter, compared}
 use Rattle.rules.proofs.Bools.{and-left, and-right}

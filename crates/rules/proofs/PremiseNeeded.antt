@@ -11,9 +11,9 @@ use borrow.Author.Tests.{eqb-true, not-true}
 use Rattle.rules.specs.declared.Tables.{Tables}
 use Rattle.rules.specs.Directory.{someSecurity}
 use Rattle.rules.specs.Record.{Request, asked, Sender, unauthenticated, partner}
-use Rattle.rules.specs.Tables.{sound}
+use Rattle.rules.specs.Tables.{sound, withRowOwner}
 use Rattle.rules.specs.Defaults.{noDefaults, fresh}
-use Rattle.rules.specs.Outcome.{withRowOwner, replyTo, tablesAfter}
+use Rattle.rules.specs.Outcome.{replyTo, tablesAfter}
 use Rattle.rules.specs.Run.{replies, final, Along, kept}
 use Rattle.rules.specs.Isolation.{Harmless, isOthers, namesOwner, rowAlters, mayFit, mayAlter, compared}
 use Rattle.rules.proofs.Examples.{definitions, uuid, credRow, withCreds, owned5, serving, aceBody, aceRow, haulierRow, haulier}

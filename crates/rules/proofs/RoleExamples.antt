@@ -12,11 +12,11 @@ use Rattle.rules.specs.Directory.{someSecurity}
 use Rattle.rules.specs.Record.{Request, asked, unauthenticated, partner}
 use Rattle.rules.specs.Bodies.{nil}
 use Rattle.rules.specs.Roles.{unasserted, withoutRoles, rolesInForce, credHeld}
-use Rattle.rules.specs.Tables.{rows, withRows}
+use Rattle.rules.specs.Tables.{rows, withRows, withState}
 use Rattle.rules.specs.Defaults.{noDefaults, fresh}
 use Rattle.rules.specs.Permission.{ownRow, effective}
 use Rattle.rules.specs.Links.{ownRecord, permits, setOf}
-use Rattle.rules.specs.Outcome.{withState, replyTo, tablesAfter}
+use Rattle.rules.specs.Outcome.{replyTo, tablesAfter}
 use Rattle.rules.specs.Run.{replies, final, Along, kept, keptOf}
 use Rattle.rules.specs.Storing.{inClear, AllStored}
 use Rattle.rules.specs.Isolation.{Premise, isOthers, namesOwner, rowAlters, mayFit, mayAlter, compared}

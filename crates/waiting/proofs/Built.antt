@@ -18,7 +18,7 @@ use Rattle.rules.specs.Tables.{sound}
 use Rattle.rules.specs.Defaults.{Defaults}
 use Rattle.rules.specs.Reading.{filled}
 use Rattle.rules.specs.Checks.{verdict}
-use Rattle.rules.specs.Outcome.{Reply, Said, payloadAt, replyTo, tablesAfter}
+use Rattle.rules.specs.Outcome.{Reply, Said, payloadAt, Passes, replyTo, tablesAfter}
 use Rattle.rules.specs.Run.{replies, final, Along, kept, keptOf}
 use Rattle.rules.specs.Isolation.{Premise, isOthers, compared}
 use Rattle.rules.proofs.Bools.{cond-cases, bool-cases, contradiction, or-neither, or-left, or-not-left, or-true-right}
@@ -63,7 +63,7 @@ recordGiven c = take (c .size) (c .bytes)
 -- a buffer of the length that was lent, and the payload of the record r by the call's answer
 pub record Lends (room : ℕ) (r : List ℕ) (c : Call) : Type 0 where
   pub sized : length (c .lent) ≡ room
-  pub passes : c .payload ≡ payloadAt (c .judgement .answer) r
+  pub passes : Passes (c .judgement .answer) r (c .payload)
 
 -- what a call meets, on the terminal x, for the input
 abbrev pub Meets : Defaults → Terminal → Input → Call → Type 0

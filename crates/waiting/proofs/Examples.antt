@@ -4,9 +4,9 @@ use mathlib.Core.Path.{_≡_, refl}
 use mathlib.Core.Bool.{Bool, true, false}
 use mathlib.Core.List.{List, [], _∷_, _++_, map}
 use lib.ListN.{take, drop, replicate}
+use Rattle.rules.specs.Tables.{withState}
 use Rattle.rules.specs.Record.{asked}
 use Rattle.rules.specs.Defaults.{noDefaults}
-use Rattle.rules.specs.Outcome.{withState}
 use Rattle.rules.specs.Run.{replies, final}
 use Rattle.rules.proofs.Examples.{definitions, uuid, credRow, withCreds, credBody, owned5, serving, aceBody, aceRow, weight, none, connected, haulier, yard}
 use Rattle.waiting.specs.Slots.{Round, anew, after, seatOf, padded, slotOf, recordOf, roundOf, waiting, memoryOf, freshMemory}

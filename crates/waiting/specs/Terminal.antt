@@ -10,7 +10,7 @@ use Rattle.rules.specs.declared.Table.the-variants.{Creds}
 use Rattle.rules.specs.declared.Check.{Check}
 use Rattle.rules.specs.declared.Check.the-variants.{Pass, Refuse}
 use Rattle.rules.specs.declared.Action.{Action}
-use Rattle.rules.specs.declared.Action.the-variants.{Serve, Read, SetRowOwner, SetOwner, SetState, Store, Remove, Assert, Malformed}
+use Rattle.rules.specs.Kinds.{onMove}
 use Rattle.rules.specs.Record.{Request, asked}
 use Rattle.rules.specs.Tables.{count, sound}
 use Rattle.rules.specs.Defaults.{Defaults, fresh}
@@ -88,15 +88,7 @@ handedIn x r = handInOf x r (verdict (handInChecks x r))
 -- ---- what a judged record leaves of the queue
 
 abbrev pub isReset : Action → Bool
-isReset Serve = false
-isReset Read = false
-isReset (SetRowOwner n) = false
-isReset (SetOwner owned) = false
-isReset (SetState target) = eqb target 0
-isReset (Store k) = false
-isReset (Remove k at) = false
-isReset (Assert c) = false
-isReset Malformed = false
+isReset = onMove (λ target. eqb target 0) false
 
 -- a permitted record that gives the fresh tables
 unfoldable pub clears : Defaults → Tables → Request → Bool

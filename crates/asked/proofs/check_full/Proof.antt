@@ -23,7 +23,7 @@ returns : tie.Need-returns
 unfolding refuseIf
 returns c =
     let s = c .before .before in
-    rw (not-store (0 ∷ 1 ∷ 2 ∷ 3 ∷ 4 ∷ 6 ∷ 7 ∷ 8 ∷ []) (tables s) (body (now (s .args .«record»))) (s .args .a) refl (c .match .keys2))
+    rw (not-store (0 ∷ 1 ∷ 2 ∷ 3 ∷ 4 ∷ 6 ∷ 7 ∷ 8 ∷ []) _ (s .args .a) _ refl (c .match .keys2))
 
 returns-2 : tie.Need-returns-2
 unfolding refuseIf

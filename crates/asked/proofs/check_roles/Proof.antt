@@ -17,7 +17,7 @@ unfolding refuseIf
 returns c =
     let s = c .before .before in
     let r = now (s .args .«record») in
-    rw (not-assert (0 ∷ 1 ∷ 2 ∷ 3 ∷ 4 ∷ 5 ∷ 6 ∷ 8 ∷ []) (rolesInForce (s .args .clock) (ownRow (tablesOf (s .args .h) (now (s .args .creds)) (now (s .args .aces))) (sender r))) (body r) (s .args .a) refl (c .match .keys2))
+    rw (not-assert (0 ∷ 1 ∷ 2 ∷ 3 ∷ 4 ∷ 5 ∷ 6 ∷ 8 ∷ []) _ (s .args .a) _ refl (c .match .keys2))
 
 returns-2 : tie.Need-returns-2
 returns-2 c =

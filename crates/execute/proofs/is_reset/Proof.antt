@@ -2,13 +2,13 @@
 use mathlib.Core.Path.{_≡_, refl, sym, ap}
 use mathlib.Core.List.{[], _∷_}
 use Rattle.waiting.specs.Terminal.{isReset}
-use Rattle.execute.proofs.Laws.{not-reset}
+use Rattle.rules.proofs.Others.{not-move}
 use borrow.Author.Needs.{needs}
 use Rattle.execute.proofs.is_reset.Statement.{statement}
 use Rattle.execute.proofs.is_reset.Tie as tie
 
 returns : tie.Need-returns
-returns c = sym (not-reset (0 ∷ 1 ∷ 2 ∷ 3 ∷ 5 ∷ 6 ∷ 7 ∷ 8 ∷ []) (c .before .args .a) refl (c .match .keys2))
+returns c = sym (not-move (0 ∷ 1 ∷ 2 ∷ 3 ∷ 5 ∷ 6 ∷ 7 ∷ 8 ∷ []) _ (c .before .args .a) _ refl (c .match .keys2))
 
 returns-2 : tie.Need-returns-2
 returns-2 c = sym (ap isReset (c .before .a .given .1))

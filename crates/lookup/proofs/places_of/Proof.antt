@@ -6,7 +6,7 @@ use Rattle.rules.specs.declared.Tables.{Tables}
 use Rattle.rules.specs.Tables.{tablesOf}
 use borrow.Author.Needs.{needs}
 use Rattle.rules.specs.Record.{body}
-use Rattle.rules.proofs.Others.{not-gap}
+use Rattle.rules.proofs.Others.{not-remove}
 use Rattle.lookup.proofs.places_of.Statement.{statement}
 use Rattle.lookup.proofs.places_of.Tie as tie
 
@@ -17,7 +17,7 @@ tables s = tablesOf (s .args .h) (now (s .args .creds)) (now (s .args .aces))
 returns : tie.Need-returns
 returns c =
     let s = c .before .before .before in
-    c .no-places .ensures ∙ sym (not-gap (0 ∷ 1 ∷ 2 ∷ 3 ∷ 4 ∷ 5 ∷ 7 ∷ 8 ∷ []) (tables s) (body (now (s .args .«record»))) (s .args .a) refl (c .before .match .keys2))
+    c .no-places .ensures ∙ sym (not-remove (0 ∷ 1 ∷ 2 ∷ 3 ∷ 4 ∷ 5 ∷ 7 ∷ 8 ∷ []) _ (s .args .a) _ refl (c .before .match .keys2))
 
 returns-2 : tie.Need-returns-2
 returns-2 c = rw (c .before .before .before .a .given .1, ← c .before .body-of .ensures) (c .gap .ensures)
