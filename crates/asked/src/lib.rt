@@ -4,7 +4,6 @@ use bodies::ace_row;
 use bodies::cred_row;
 use fields::record::body_of;
 use format::capacity_of;
-use lookup::check_missing;
 use lookup::count_of;
 use lookup::place;
 use request::check_request;
@@ -24,7 +23,7 @@ ghost use Rattle.rules.specs.Record.{sender, body};
 ghost use Rattle.rules.specs.Roles.{rolesInForce};
 ghost use Rattle.rules.specs.Tables.{rowOf, rows, tablesOf};
 ghost use Rattle.rules.specs.Permission.{ownRow};
-ghost use Rattle.rules.specs.Checks.{refuseIf, verdict, full, rolesFull, askedChecks};
+ghost use Rattle.rules.specs.Checks.{refuseIf, verdict, missing, full, rolesFull, askedChecks};
 
 // Where the table holds the number of the row that the body stores.
 fn numbered_place<'a>(
@@ -46,6 +45,29 @@ fn numbered_place<'a>(
             place(h, creds, aces, table, 0, part(&row, 0, 2))
         }
     }
+}
+
+// Check 13: the rows to delete are not there; an empty table may be emptied.
+fn check_missing<'a>(
+    h: Head,
+    creds: &'a [u8; CRED_ROWS],
+    aces: &'a [u8; 1152],
+    a: Action,
+    record: &[u8],
+) -> Check
+    ensures { λ c. ⌜ c ≡ refuseIf 13 (missing (tablesOf h (now (creds .entry)) (now (aces .entry))) (body (now («record» .entry))) a) ⌝ }
+{
+    let Action::Remove(table, at) = a else {
+        return Check::Pass;
+    };
+    let key = body_of(record);
+    if key.len() == 0 {
+        return Check::Pass;
+    }
+    let Found::At(_) = place(h, creds, aces, table, at, key) else {
+        return Check::Refuse(13);
+    };
+    Check::Pass
 }
 
 fn check_full<'a>(

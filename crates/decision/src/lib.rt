@@ -3,8 +3,8 @@
 use action::action_of;
 use asked::check_asked;
 use header::check_header;
-use outcome::check_room;
 use permission::effective;
+use reading::check_room;
 use reading::reply_length;
 use rules::Action;
 use rules::CRED_ROWS;

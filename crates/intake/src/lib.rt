@@ -1,7 +1,6 @@
 // Hand-in: a record that passes the checks 1 to 7 and 26 waits in its sender's seat.
 // It asks nothing of its caller.
 use form::check_sender;
-use outcome::refused;
 use rows::Found;
 use rules::CRED_ROWS;
 use rules::Check;
@@ -65,8 +64,8 @@ pub fn hand_in<'a>(
 {
     let c = check_hand_in(h, creds, aces, memory, record);
     let Check::Pass = c else {
-        return refused(h, c);
+        return Judgement::refused(h, c);
     };
     queue::keep(memory, record);
-    refused(h, c)
+    Judgement::refused(h, c)
 }

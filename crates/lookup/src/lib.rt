@@ -1,13 +1,11 @@
-// Rows looked up in the tables by a key: check 13, and the places to store after a DELETE.
+// Rows looked up in the tables by a key, and the places to store after a DELETE.
 // Every function is total: a table is read as far as it has room.
 use fields::held;
 use fields::record::body_of;
-use outcome::no_places;
 use rows::Found;
 use rules::Action;
 use rules::CRED_ROW;
 use rules::CRED_ROWS;
-use rules::Check;
 use rules::Head;
 use rules::Places;
 use rules::Table;
@@ -17,7 +15,6 @@ ghost use Rattle.rows.specs.Rows.{placeOf, hasKey};
 ghost use Rattle.rules.specs.Record.{body};
 ghost use Rattle.rules.specs.Tables.{count, rows, tablesOf};
 ghost use Rattle.rules.specs.Places.{gapOf, placesOf};
-ghost use Rattle.rules.specs.Checks.{refuseIf, missing};
 
 // Rows counted.
 // Rules out: the other table's count; the rows that there is room for.
@@ -69,30 +66,6 @@ pub fn place<'a>(
     }
 }
 
-// Check 13: the rows to delete are not there.
-// Rules out: 13 for an empty table that is emptied; a row of the other table that counts.
-pub fn check_missing<'a>(
-    h: Head,
-    creds: &'a [u8; CRED_ROWS],
-    aces: &'a [u8; 1152],
-    a: Action,
-    record: &[u8],
-) -> Check
-    ensures { λ c. ⌜ c ≡ refuseIf 13 (missing (tablesOf h (now (creds .entry)) (now (aces .entry))) (body (now («record» .entry))) a) ⌝ }
-{
-    let Action::Remove(table, at) = a else {
-        return Check::Pass;
-    };
-    let key = body_of(record);
-    if key.len() == 0 {
-        return Check::Pass;
-    }
-    let Found::At(_) = place(h, creds, aces, table, at, key) else {
-        return Check::Refuse(13);
-    };
-    Check::Pass
-}
-
 // The places from the first row that has the key's bytes from `at` on to the last one held.
 fn gap<'a>(
     h: Head,
@@ -105,7 +78,7 @@ fn gap<'a>(
     ensures { λ r. ⌜ r ≡ gapOf (hasKey at (now (key .entry))) (rows table (tablesOf h (now (creds .entry)) (now (aces .entry)))) ⌝ }
 {
     let Found::At(first) = place(h, creds, aces, table, at, key) else {
-        return no_places();
+        return Places::none();
     };
     Places {
         first: first,
@@ -125,7 +98,7 @@ pub fn places_of<'a>(
     ensures { λ r. ⌜ r ≡ placesOf (tablesOf h (now (creds .entry)) (now (aces .entry))) (body (now («record» .entry))) a ⌝ }
 {
     let Action::Remove(table, at) = a else {
-        return no_places();
+        return Places::none();
     };
     gap(h, creds, aces, table, at, body_of(record))
 }

@@ -10,6 +10,7 @@ use rows::part;
 use rules::CRED_BODY;
 use rules::CRED_ROW;
 use rules::CRED_ROWS;
+use rules::Check;
 use rules::Head;
 use sender::own_row;
 use text::put;
@@ -17,12 +18,14 @@ use text::put_byte;
 ghost use mathlib.Core.Path.{_≡_};
 ghost use mathlib.Core.List.{map};
 ghost use Prim.Native.Nat.{_*_, _≤_};
+ghost use lib.Dec.{ltb};
 ghost use lib.ListN.{length};
 ghost use Rattle.text.specs.Buffer.{Puts};
 ghost use Rattle.rows.specs.Rows.{rowsOf, joined};
 ghost use Rattle.rules.specs.Record.{sender};
 ghost use Rattle.rules.specs.Roles.{bodyOf};
 ghost use Rattle.rules.specs.Tables.{tablesOf};
+ghost use Rattle.rules.specs.Checks.{refuseIf};
 ghost use Rattle.rules.specs.Reading.{ownBody, rowBytes, contents, reads, replyOf};
 
 // Whether the record asks for a reply.
@@ -103,6 +106,14 @@ pub fn reply_length<'a>(
         return contents_length(clock, h, creds, aces, record, resource_of(record));
     }
     0
+}
+
+// The reply does not fit the room that the buffer has.
+// Rules out: 15 where it fits exactly; 15 for a record without a reply.
+pub fn check_room(room: usize, length: usize) -> Check
+    ensures { λ c. ⌜ c ≡ refuseIf 15 (ltb room length) ⌝ }
+{
+    Check::refuse_if(15, room < length)
 }
 
 fn put_owner<'a>(

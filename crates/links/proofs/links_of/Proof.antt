@@ -11,7 +11,7 @@ returns : tie.Need-returns
 unfolding linkSet ones onesIn
 returns c =
     let test = c .before in
-    rw (sym (test .before .asks-links .ensures) ∙ not-true _ (test .if1 .taken)) (c .no-links .ensures)
+    rw (sym (test .before .asks-links .ensures) ∙ not-true _ (test .if1 .taken)) (c .none .ensures)
 
 -- the record passed 1 to 7, and the row found is its sender's
 link-set-requires : tie.Need-link-set-requires

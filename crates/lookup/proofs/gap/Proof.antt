@@ -39,7 +39,7 @@ returns : tie.Need-returns
 unfolding gapOf
 returns c =
     let told = c .before in
-    rw (some-place 0 _ _ ∙ ap isAt (sym (told .before .before .place .ensures) ∙ told .enum-told .given .1)) (c .no-places .ensures)
+    rw (some-place 0 _ _ ∙ ap isAt (sym (told .before .before .place .ensures) ∙ told .enum-told .given .1)) (c .none .ensures)
 
 sub-many : tie.Need-sub-t10
 sub-many c = let s = start (c .before .before) in omega (arith, c .held-of .ensures, before-is _ _ _ (found (c .before .before)), before-all (hasKey (s .args .at) (now (s .args .key))) (rows (s .args .table) (tables s)))

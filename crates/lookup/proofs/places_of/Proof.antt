@@ -17,7 +17,7 @@ tables s = tablesOf (s .args .h) (now (s .args .creds)) (now (s .args .aces))
 returns : tie.Need-returns
 returns c =
     let s = c .before .before .before in
-    c .no-places .ensures ∙ sym (not-remove (0 ∷ 1 ∷ 2 ∷ 3 ∷ 4 ∷ 5 ∷ 7 ∷ 8 ∷ []) _ (s .args .a) _ refl (c .before .match .keys2))
+    c .none .ensures ∙ sym (not-remove (0 ∷ 1 ∷ 2 ∷ 3 ∷ 4 ∷ 5 ∷ 7 ∷ 8 ∷ []) _ (s .args .a) _ refl (c .before .match .keys2))
 
 returns-2 : tie.Need-returns-2
 returns-2 c = rw (c .before .before .before .a .given .1, ← c .before .body-of .ensures) (c .gap .ensures)

@@ -1,13 +1,13 @@
 -- `refused`: by the verdict.
 use borrow.Author.Needs.{needs}
-use Rattle.outcome.proofs.refused.Statement.{statement}
-use Rattle.outcome.proofs.refused.Tie as tie
+use Rattle.rules.proofs.Judgement.refused.Statement.{statement}
+use Rattle.rules.proofs.Judgement.refused.Tie as tie
 
 returns : tie.Need-returns
-returns c = rw (c .before .before .enum-told .given .1, c .before .no-places .ensures, c .no-links .ensures)
+returns c = rw (c .before .before .enum-told .given .1, c .before .none .ensures, c .none2 .ensures)
 
 returns-2 : tie.Need-returns-2
-returns-2 c = rw (c .before .before .before .c .given .1, c .before .no-places2 .ensures, c .no-links2 .ensures)
+returns-2 c = rw (c .before .before .before .c .given .1, c .before .none3 .ensures, c .none4 .ensures)
 
 pub refused-spec : {M : Type 1} → statement M
 refused-spec =
