@@ -36,7 +36,10 @@ use Rattle.rules.proofs.ReadBack.{long-bodies, rows-themselves}
 use Rattle.rules.proofs.RowsStored.{otherwise, by-others, all-may, all-stored}
 use Rattle.rules.proofs.Restored.{retrieved-sound, rows-told, reply-judged}
 use Rattle.rules.proofs.Gaps.{has-number}
-use Rattle.rules.proofs.Built.{Call, told, Built, handedBack, built-same}
+use Rattle.waiting.specs.Terminal.{Terminal}
+use Rattle.waiting.specs.Inputs.{direct}
+use Rattle.waiting.proofs.Direct.{Whole}
+use Rattle.waiting.proofs.Built.{Call, told, Built, handedBack, directs-told}
 use Rattle.lists.specs.Lists.{listed, badSize, listTested}
 use Rattle.lists.specs.Loading.{ownsDevice, storing, Stores, Ready, Loaded}
 use Rattle.lists.proofs.Exact.{accepted-faultless}
@@ -180,16 +183,16 @@ reply-loaded d t u q n qs l p ready e =
     (all-may Aces u (storing n) (owner-may u n (ready .isSound) (ready .owner) (ready .number)) (rowsOfReply Aces (replyTo d t q .contents)) qs
     (rw (rows-told d Aces t q p l) (long-bodies Aces t (retrieved-sound d Aces t q p))) e)
 
--- the same of any calls that give `outcome` and `payloadAt`, each on the tables handed back last
-pub built-loaded : (d : Defaults) (t : Tables) (n : ℕ) (b : List ℕ) (qs : List Request) (cs : List Call)
-    → listTested b .answer ≡ 0 → Ready n t → Stores n qs (listed b) → Built d t qs cs
+-- the same of any calls that meet the contract of `judge`, beside memory that is sound where the tables are
+pub built-loaded : (d : Defaults) (x : Terminal) (n : ℕ) (b : List ℕ) (qs : List Request) (cs : List Call)
+    → listTested b .answer ≡ 0 → Ready n (x .tables) → Whole x → Stores n qs (listed b) → Built d x (map direct qs) cs
     → (map (λ (p : Reply). p .answer) (map told cs) ≡ map (λ (q : Request). 0) qs)
-    × (rows Aces (handedBack t cs) ≡ listed b)
-    × (withRows Aces (handedBack t cs) [] ≡ withRows Aces t [])
-built-loaded d t n b qs cs a ready e built =
-    let same = built-same d t qs cs built in
-    let l = accepted-loaded d t n b qs a ready e in (
+    × (rows Aces (handedBack x cs .tables) ≡ listed b)
+    × (withRows Aces (handedBack x cs .tables) [] ≡ withRows Aces (x .tables) [])
+built-loaded d x n b qs cs a ready whole e built =
+    let same = directs-told d x qs cs built whole in
+    let l = accepted-loaded d (x .tables) n b qs a ready e in (
       ap (map (λ (p : Reply). p .answer)) (same .0) ∙ l .permitted,
       ap (rows Aces) (same .1) ∙ l .held,
-      ap (λ (x : Tables). withRows Aces x []) (same .1) ∙ l .others,
+      ap (λ (t : Tables). withRows Aces t []) (same .1) ∙ l .others,
     )

@@ -1,4 +1,4 @@
--- The laws of the definitions, and the theorems over them: Refusals, SoundKept, ReadBack, RowsStored, Restored, Gaps, Wear, SubjectRows, LinkLaws, AnyBody, YardSet, Isolated, PremiseNeeded, Built, Examples, RoleExamples.
+-- The laws of the definitions, and the theorems over them: Refusals, SoundKept, ReadBack, RowsStored, Restored, Gaps, Wear, SubjectRows, LinkLaws, AnyBody, YardSet, Isolated, PremiseNeeded, Examples, RoleExamples.
 pub mod Bools
 pub mod BitLaws
 pub mod RecordLaws
@@ -28,7 +28,6 @@ pub mod AnyBody
 pub mod YardSet
 pub mod Alike
 pub mod Isolated
-pub mod Built
 pub mod Examples
 pub mod RoleExamples
 pub mod PremiseNeeded

@@ -24,6 +24,7 @@ use Rattle.rules.specs.Isolation.{Premise, isOthers, compared}
 use Rattle.rules.proofs.Bools.{cond-cases, bool-cases, contradiction, or-neither, or-left, or-not-left, or-true-right}
 use Rattle.rules.proofs.Answers.{passed}
 use Rattle.rules.proofs.Refusals.{payload-is}
+use Rattle.rules.proofs.Isolated.{isolation}
 use Rattle.waiting.specs.Slots.{padded}
 use Rattle.waiting.specs.Terminal.{Terminal, terminal, Answered, handedIn, soundTerminal, takeChecks, due, takeOf, taken, directChecks, directOf, judged, said, HandedOut, handedOut}
 use Rattle.waiting.specs.Calls.{Leaves, HandsIn, Takes, Judges}
@@ -31,7 +32,7 @@ use Rattle.waiting.specs.Inputs.{Input, handIn, takeAt, direct, answered
 use Rattle.waiting.proofs.Sound.{terminal-parts, take-passed}
 use Rattle.waiting.proofs.Refused.{among, refused-among, no-such}
 use Rattle.waiting.proofs.Isolated.{Premises, AsTheBook, isolated}
-use Rattle.waiting.proofs.Direct.{Whole, directReplies, directEnd, direct-isolated}
+use Rattle.waiting.proofs.Direct.{Whole, directReplies, directEnd, directs-same}
 
 -- ---- what the calls of a run gave
 
@@ -222,6 +223,14 @@ directs-built d x (q ∷ qs) (c ∷ cs) b =
       more .1 ∙ ap (λ (y : Terminal). directEnd d y qs) l,
     )
 
+-- so are the tables handed back, beside memory that is sound where the tables are
+pub directs-told : (d : Defaults) (x : Terminal) (qs : List Request) (cs : List Call) → Built d x (map direct qs) cs → Whole x
+    → (map told cs ≡ replies (replyTo d) (tablesAfter d) (x .tables) qs) × (handedBack x cs .tables ≡ final (tablesAfter d) (x .tables) qs)
+directs-told d x qs cs built whole =
+    let calls = directs-built d x qs cs built in
+    let same = directs-same d x qs whole in
+    (calls .0 ∙ same .0, ap (λ (y : Terminal). y .tables) (calls .1) ∙ same .1)
+
 pub direct-isolation :
     (d : Defaults) (chosen : Sender → Bool) (x : Terminal) (qs : List Request) (cs : List Call)
     → Built d x (map direct qs) cs
@@ -230,6 +239,6 @@ pub direct-isolation :
     → (keptOf (isOthers chosen) qs (map told cs) ≡ replies (replyTo d) (tablesAfter d) (x .tables) (kept (isOthers chosen) qs))
     × (compared chosen (handedBack x cs .tables) ≡ compared chosen (final (tablesAfter d) (x .tables) (kept (isOthers chosen) qs)))
 direct-isolation d chosen x qs cs built whole premise =
-    let same = directs-built d x qs cs built in
-    let apart = direct-isolated d chosen x qs whole premise in
-    (ap (keptOf (isOthers chosen) qs) (same .0) ∙ apart .0, ap (λ (y : Terminal). compared chosen (y .tables)) (same .1) ∙ apart .1)
+    let same = directs-told d x qs cs built whole in
+    let apart = isolation d chosen (x .tables) qs premise in
+    (ap (keptOf (isOthers chosen) qs) (same .0) ∙ apart .0, ap (compared chosen) (same .1) ∙ apart .1)

@@ -1,5 +1,5 @@
--- Theorem, demand 3 for lists of records that are judged at once: it stays as it was.
--- Beside memory that is sound wherever the tables are, such a record gets the outcome of the rules over the tables, 1 included; so fresh memory changes nothing for a run without hand-ins.
+-- Lists of records that are judged at once, beside memory that is sound wherever the tables are.
+-- Such a record gets the outcome of the rules over the tables, 1 included; so fresh memory changes nothing for a run without hand-ins.
 use Prim.Native.Nat.{ℕ}
 use mathlib.Core.Path.{_≡_, refl, sym, ap, ap₂, _∙_}
 use mathlib.Core.Bool.{Bool, true, false, not, _&&_, cond}
@@ -76,15 +76,3 @@ directs-same d x (q ∷ qs) w =
       ap₂ (λ (y : Reply) (ys : List Reply). y ∷ ys) (a .reply) (more .0 ∙ ap (λ (t : Tables). replies (replyTo d) (tablesAfter d) t qs) (a .tables)),
       more .1 ∙ ap (λ (t : Tables). final (tablesAfter d) t qs) (a .tables),
     )
-
--- demand 3: record by record what the others are told, and at the end the tables
-pub direct-isolated :
-    (d : Defaults) (chosen : Sender → Bool) (x : Terminal) (qs : List Request)
-    → Whole x
-    → Along (tablesAfter d) (Premise chosen) (x .tables) (kept (isOthers chosen) qs)
-    → (keptOf (isOthers chosen) qs (directReplies d x qs) ≡ replies (replyTo d) (tablesAfter d) (x .tables) (kept (isOthers chosen) qs))
-    × (compared chosen (directEnd d x qs .tables) ≡ compared chosen (final (tablesAfter d) (x .tables) (kept (isOthers chosen) qs)))
-direct-isolated d chosen x qs w premise =
-    let same = directs-same d x qs w in
-    let apart = isolation d chosen (x .tables) qs premise in
-    (ap (keptOf (isOthers chosen) qs) (same .0) ∙ apart .0, ap (compared chosen) (same .1) ∙ apart .1)
