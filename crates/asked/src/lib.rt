@@ -1,5 +1,5 @@
 // Checks 16, 8 to 14 and 22: what is asked for, the device state, then the rows and the room for a new one, or for a role.
-// The first refusal is returned at once. Every public function is total.
+// The first refusal is returned at once. The resource's row and the sender's own row are the caller's, who found them.
 use bodies::ace_row;
 use bodies::cred_row;
 use fields::record::body_of;
@@ -14,16 +14,19 @@ use rules::Action;
 use rules::CRED_ROWS;
 use rules::Check;
 use rules::Head;
+use rules::Resource;
 use rules::Table;
-use sender::own_row;
 use states::check_states;
 ghost use mathlib.Core.Path.{_≡_};
 ghost use Rattle.rows.specs.Rows.{placeOf, numberedAs};
-ghost use Rattle.rules.specs.Record.{sender, body};
+ghost use Rattle.rules.specs.declared.Table.the-variants.{Creds};
+ghost use Rattle.rules.specs.Directory.{resourceOf};
+ghost use Rattle.rules.specs.Record.{resource, sender, body};
 ghost use Rattle.rules.specs.Roles.{rolesInForce};
 ghost use Rattle.rules.specs.Tables.{rowOf, rows, tablesOf};
 ghost use Rattle.rules.specs.Permission.{ownRow};
 ghost use Rattle.rules.specs.Checks.{refuseIf, verdict, missing, full, rolesFull, askedChecks};
+ghost use Rattle.sender.specs.Own.{Own};
 
 // Where the table holds the number of the row that the body stores.
 fn numbered_place<'a>(
@@ -97,32 +100,37 @@ fn check_roles<'a>(
     h: Head,
     creds: &'a [u8; CRED_ROWS],
     aces: &'a [u8; 1152],
+    cred: &[u8],
     a: Action,
     record: &[u8],
 ) -> Check
+    requires { ⌜ Own (rows Creds (tablesOf h (now creds) (now aces))) (sender (now «record»)) (now cred) ⌝ }
     ensures { λ c. ⌜ c ≡ refuseIf 22 (rolesFull (rolesInForce clock (ownRow (tablesOf h (now (creds .entry)) (now (aces .entry))) (sender (now («record» .entry))))) (body (now («record» .entry))) a) ⌝ }
 {
     let Action::Assert(_) = a else {
         return Check::Pass;
     };
-    let cred = own_row(h.ncreds, creds, record);
     Check::refuse_if(22, both_taken(clock, body_of(record), cred))
 }
 
-// The first of the checks 16, 8 to 14 and 22 that applies to the action `a` of the record.
+// The first of the checks 16, 8 to 14 and 22 that applies to the action `a` of the record, where `cred` is the sender's own row or no bytes and `e` the row of the resource.
 // Rules out: the body judged before the permission; a full table that refuses a row whose number it holds; a role that is over counted for 22.
 pub fn check_asked<'a>(
     clock: u32,
     h: Head,
     creds: &'a [u8; CRED_ROWS],
     aces: &'a [u8; 1152],
+    cred: &[u8],
     permission: u8,
     record: &[u8],
+    e: Resource,
     a: Action,
 ) -> Check
+    requires { ⌜ Own (rows Creds (tablesOf h (now creds) (now aces))) (sender (now «record»)) (now cred) ⌝ }
+    requires { ⌜ e ≡ resourceOf (resource (now «record»)) ⌝ }
     ensures { λ c. ⌜ c ≡ verdict (askedChecks clock (tablesOf h (now (creds .entry)) (now (aces .entry))) permission (now («record» .entry)) a) ⌝ }
 {
-    let c = check_request(permission, record, a);
+    let c = check_request(permission, record, e, a);
     let Check::Pass = c else {
         return c;
     };
@@ -138,5 +146,5 @@ pub fn check_asked<'a>(
     let Check::Pass = c else {
         return c;
     };
-    check_roles(clock, h, creds, aces, a, record)
+    check_roles(clock, h, creds, aces, cred, a, record)
 }

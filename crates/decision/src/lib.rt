@@ -1,7 +1,9 @@
 // The decision on a record beside sound tables: the checks after 1 in their order and, where none applies, what is permitted.
-// The sender's own row is found once, for check 7 and for the permission. Check 1 is the caller's, since it covers the memory of waiting records too.
+// The resource's row of the directory and the sender's own row are found once, for all checks and for the permission. Check 1 is the caller's, since it covers the memory of waiting records too.
 use action::action_of;
 use asked::check_asked;
+use directory::resource_row;
+use fields::record::resource_of;
 use header::check_header;
 use permission::effective;
 use reading::check_room;
@@ -11,11 +13,13 @@ use rules::CRED_ROWS;
 use rules::Check;
 use rules::Decision;
 use rules::Head;
+use rules::Resource;
 use sender::check_credential;
 use sender::own_row;
 ghost use mathlib.Core.Path.{_≡_};
 ghost use Rattle.rules.specs.declared.Table.the-variants.{Creds};
-ghost use Rattle.rules.specs.Record.{asked, sender};
+ghost use Rattle.rules.specs.Directory.{resourceOf};
+ghost use Rattle.rules.specs.Record.{asked, resource, sender};
 ghost use Rattle.rules.specs.Tables.{tablesOf, rows};
 ghost use Rattle.rules.specs.Decision.{nothingGranted, granted, decided};
 ghost use Rattle.sender.specs.Own.{Own};
@@ -32,7 +36,7 @@ fn turned_away(c: Check) -> Decision
     }
 }
 
-// The decision on a record that passes 2 to 7, where `cred` is the sender's own row or no bytes and the buffer has this room.
+// The decision on a record that passes 2 to 7, where `cred` is the sender's own row or no bytes, `e` the row of the resource, and the buffer has this room.
 // Rules out: the body judged before the permission; another clock for the rows; a reply that does not fit permitted.
 pub fn grant<'a>(
     clock: u32,
@@ -41,18 +45,20 @@ pub fn grant<'a>(
     aces: &'a [u8; 1152],
     cred: &[u8],
     record: &[u8],
+    e: Resource,
     room: usize,
 ) -> Decision
     requires { ⌜ Own (rows Creds (tablesOf h (now creds) (now aces))) (sender (now «record»)) (now cred) ⌝ }
+    requires { ⌜ e ≡ resourceOf (resource (now «record»)) ⌝ }
     ensures { λ r. ⌜ r ≡ granted (tablesOf h (now (creds .entry)) (now (aces .entry))) (asked clock (now («record» .entry)) room) ⌝ }
 {
-    let permission = effective(clock, h, creds, aces, cred, record);
-    let a = action_of(record);
-    let c = check_asked(clock, h, creds, aces, permission, record, a);
+    let permission = effective(clock, h, creds, aces, cred, record, e);
+    let a = action_of(record, e);
+    let c = check_asked(clock, h, creds, aces, cred, permission, record, e, a);
     let Check::Pass = c else {
         return turned_away(c);
     };
-    let length = reply_length(clock, h, creds, aces, record);
+    let length = reply_length(clock, h, creds, aces, cred, record, e);
     let c = check_room(room, length);
     let Check::Pass = c else {
         return turned_away(c);
@@ -77,7 +83,8 @@ pub fn decide<'a>(
 ) -> Decision
     ensures { λ r. ⌜ r ≡ decided (tablesOf h (now (creds .entry)) (now (aces .entry))) (asked clock (now («record» .entry)) room) ⌝ }
 {
-    let c = check_header(record);
+    let e = resource_row(resource_of(record) as usize);
+    let c = check_header(record, e);
     let Check::Pass = c else {
         return turned_away(c);
     };
@@ -86,5 +93,5 @@ pub fn decide<'a>(
     let Check::Pass = c else {
         return turned_away(c);
     };
-    grant(clock, h, creds, aces, cred, record, room)
+    grant(clock, h, creds, aces, cred, record, e, room)
 }

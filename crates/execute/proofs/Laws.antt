@@ -63,6 +63,9 @@ module _ (t : Tables) (q : Request) (g : Decision) (is : g ≡ decided t q) (pas
   pub action-is : g .action ≡ action (q .bytes)
   action-is = ap (λ (x : Decision). x .action) granted-is
 
+  pub length-is : g .length ≡ length (replyOf (q .clock) t (q .bytes))
+  length-is = ap (λ (x : Decision). x .length) granted-is
+
   grant-passes : verdict (grantChecks t q) ≡ Pass
   grant-passes = rest-passes (senderChecks t (q .bytes)) (grantChecks t q) all-pass
 

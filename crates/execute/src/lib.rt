@@ -38,7 +38,7 @@ pub fn execute(
     requires { ⌜ (sound (tablesOf h (now creds) (now aces)) ≡ true) × (d ≡ decided (tablesOf h (now creds) (now aces)) (asked clock (now «record») (length (now reply)))) × (d .check ≡ Pass) ⌝ }
     ensures { λ r. ⌜ Executes (defaults (now («default_creds» .entry)) (now («default_aces» .entry))) (tablesOf h (now (creds .entry)) (now (aces .entry))) (asked clock (now («record» .entry)) (length (now (reply .entry)))) (now (reply .entry)) r (now (creds .exit)) (now (aces .exit)) (now (reply .exit)) ⌝ }
 {
-    put_reply(reply, clock, h, creds, aces, record);
+    put_reply(reply, clock, h, creds, aces, record, d.length);
     let a = d.action;
     let places = places_of(h, creds, aces, a, record);
     let links = links_of(clock, h, creds, aces, record);

@@ -1,6 +1,5 @@
 // Reading the tables back: the reply to a RETRIEVE of a security resource, its length and its bytes.
 // The resource's own body, its row owner, and its rows in table order, without asserted roles; of roles the sender's own in force.
-use directory::resource_row;
 use fields::held;
 use fields::record::resource_of;
 use fields::record::verb_of;
@@ -12,6 +11,7 @@ use rules::CRED_ROW;
 use rules::CRED_ROWS;
 use rules::Check;
 use rules::Head;
+use rules::Resource;
 use sender::own_row;
 use text::put;
 use text::put_byte;
@@ -22,17 +22,20 @@ ghost use lib.Dec.{ltb};
 ghost use lib.ListN.{length};
 ghost use Rattle.text.specs.Buffer.{Puts};
 ghost use Rattle.rows.specs.Rows.{rowsOf, joined};
-ghost use Rattle.rules.specs.Record.{sender};
+ghost use Rattle.rules.specs.declared.Table.the-variants.{Creds};
+ghost use Rattle.rules.specs.Directory.{resourceOf};
+ghost use Rattle.rules.specs.Record.{resource, sender};
 ghost use Rattle.rules.specs.Roles.{bodyOf};
-ghost use Rattle.rules.specs.Tables.{tablesOf};
+ghost use Rattle.rules.specs.Tables.{tablesOf, rows};
 ghost use Rattle.rules.specs.Checks.{refuseIf};
 ghost use Rattle.rules.specs.Reading.{ownBody, rowBytes, contents, reads, replyOf};
+ghost use Rattle.sender.specs.Own.{Own};
 
 // Whether the record asks for a reply.
-fn is_read(record: &[u8]) -> bool
+fn is_read(record: &[u8], e: Resource) -> bool
+    requires { ⌜ e ≡ resourceOf (resource (now «record»)) ⌝ }
     ensures { λ r. ⌜ r ≡ reads (now («record» .entry)) ⌝ }
 {
-    let e = resource_row(resource_of(record) as usize);
     (verb_of(record) == 1) & e.configuration
 }
 
@@ -61,15 +64,17 @@ fn rows_length<'a>(
     h: Head,
     creds: &'a [u8; CRED_ROWS],
     aces: &'a [u8; 1152],
+    cred: &[u8],
     record: &[u8],
     resource: u16,
 ) -> usize
+    requires { ⌜ Own (rows Creds (tablesOf h (now creds) (now aces))) (sender (now «record»)) (now cred) ⌝ }
     ensures { λ r. ⌜ (r ≡ length (rowBytes clock (tablesOf h (now (creds .entry)) (now (aces .entry))) (sender (now («record» .entry))) resource)) × (r ≤ 1152) ⌝ }
 {
     match resource {
         2 => bodies_length(creds, held(h.ncreds, 24)),
         3 => part(aces, 0, held(h.naces, 32) * 36).len(),
-        4 => roles_length(clock, own_row(h.ncreds, creds, record)),
+        4 => roles_length(clock, cred),
         _ => 0,
     }
 }
@@ -79,31 +84,37 @@ fn contents_length<'a>(
     h: Head,
     creds: &'a [u8; CRED_ROWS],
     aces: &'a [u8; 1152],
+    cred: &[u8],
     record: &[u8],
     resource: u16,
 ) -> usize
+    requires { ⌜ Own (rows Creds (tablesOf h (now creds) (now aces))) (sender (now «record»)) (now cred) ⌝ }
     ensures { λ r. ⌜ r ≡ length (contents clock (tablesOf h (now (creds .entry)) (now (aces .entry))) (sender (now («record» .entry))) resource) ⌝ }
 {
     let at = resource as usize * 16;
     let owner = part(&h.rowners, at, 16).len();
     own_length(h, creds, aces, resource)
         + owner
-        + rows_length(clock, h, creds, aces, record, resource)
+        + rows_length(clock, h, creds, aces, cred, record, resource)
 }
 
-// The length of the record's reply.
+// The length of the record's reply, where `cred` is the sender's own row or no bytes and `e` the row of the resource.
 // Rules out: a length without the row owner; a length for OBSERVE.
 pub fn reply_length<'a>(
     clock: u32,
     h: Head,
     creds: &'a [u8; CRED_ROWS],
     aces: &'a [u8; 1152],
+    cred: &[u8],
     record: &[u8],
+    e: Resource,
 ) -> usize
+    requires { ⌜ Own (rows Creds (tablesOf h (now creds) (now aces))) (sender (now «record»)) (now cred) ⌝ }
+    requires { ⌜ e ≡ resourceOf (resource (now «record»)) ⌝ }
     ensures { λ r. ⌜ r ≡ length (replyOf clock (tablesOf h (now (creds .entry)) (now (aces .entry))) (now («record» .entry))) ⌝ }
 {
-    if is_read(record) {
-        return contents_length(clock, h, creds, aces, record, resource_of(record));
+    if is_read(record, e) {
+        return contents_length(clock, h, creds, aces, cred, record, resource_of(record));
     }
     0
 }
@@ -205,7 +216,7 @@ fn put_contents<'a>(
     put_rows(out, p, clock, h, creds, aces, record, resource)
 }
 
-// Writes the record's reply to the start of the buffer, as far as the buffer goes.
+// Writes the record's reply, which has `size` bytes, to the start of the buffer, as far as the buffer goes.
 // Rules out: rows in another order; a role in the reply of cred; another sender's roles; a byte written for a record that has no reply.
 pub fn put_reply<'a>(
     out: &mut [u8],
@@ -214,11 +225,14 @@ pub fn put_reply<'a>(
     creds: &'a [u8; CRED_ROWS],
     aces: &'a [u8; 1152],
     record: &[u8],
+    size: usize,
 ) -> usize
+    requires { ⌜ size ≡ length (replyOf clock (tablesOf h (now creds) (now aces)) (now «record»)) ⌝ }
     ensures { λ r. ⌜ Puts (now (out .entry)) 0 (replyOf clock (tablesOf h (now (creds .entry)) (now (aces .entry))) (now («record» .entry))) (now (out .exit)) r ⌝ }
 {
-    if is_read(record) {
-        return put_contents(out, clock, h, creds, aces, record, resource_of(record));
+    // only a record that is read has a reply
+    if size == 0 {
+        return put(out, 0, b"");
     }
-    put(out, 0, b"")
+    put_contents(out, clock, h, creds, aces, record, resource_of(record))
 }

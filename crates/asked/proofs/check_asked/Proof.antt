@@ -32,7 +32,7 @@ module _ (s : tie.Start) where
   all = requests ++ (ofStates ++ ofRows)
 
 abbrev start : tie.After-enum-told → tie.Start
-start c = c .before .before .before .before
+start c = c .before .before .before .before .before
 
 past : (c : tie.After-enum-told) {out : Check} → out ≡ verdict (ofStates (start c) ++ ofRows (start c)) → out ≡ verdict (all (start c))
 past c h = skip-all (requests (start c)) _ (c .before .before .check-request .ensures) (c .enum-told .given .1) h
@@ -50,7 +50,7 @@ past3 : (c : tie.After-enum-told5) {out : Check} → out ≡ verdict (drop 1 (of
 past3 c h = past2 (c .before .before .before) (skip _ _ _ (c .before .before .check-missing .ensures) (c .enum-told5 .given .1) h)
 
 returns : tie.Need-returns
-returns c = stop-all (requests (c .before .before .before .before)) _ _ (c .before .before .check-request .ensures) (c .enum-told2 .given .1)
+returns c = stop-all (requests (c .before .before .before .before .before)) _ _ (c .before .before .check-request .ensures) (c .enum-told2 .given .1)
 
 returns-2 : tie.Need-returns-2
 returns-2 c = past (c .before .before .before) (stop-all (ofStates (start (c .before .before .before))) _ _ (c .before .before .check-states .ensures) (c .enum-told4 .given .1))

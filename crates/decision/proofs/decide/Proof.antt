@@ -4,6 +4,7 @@ use denote.Ref.{now}
 use Rattle.rules.specs.declared.Tables.{Tables}
 use Rattle.rules.specs.declared.Check.{Check}
 use Rattle.rules.specs.declared.Check.the-variants.{Pass}
+use Rattle.rules.specs.Directory.{resourceOf}
 use Rattle.rules.specs.Record.{Request, asked}
 use Rattle.rules.specs.Tables.{tablesOf}
 use Rattle.rules.specs.Checks.{verdict, headerChecks, senderChecks}
@@ -15,13 +16,17 @@ use Rattle.decision.proofs.decide.Statement.{statement}
 use Rattle.decision.proofs.decide.Tie as tie
 
 abbrev start : tie.After-check-header → tie.Start
-start c = c .before .before
+start c = c .before .before .before .before
 
 abbrev tables : tie.Start → Tables
 tables s = tablesOf (s .args .h) (now (s .args .creds)) (now (s .args .aces))
 
 abbrev request : tie.Start → Request
 request s = asked (s .args .clock) (now (s .args .«record»)) (s .args .room)
+
+-- the row found is the resource's
+check-header-requires : tie.Need-check-header-requires
+check-header-requires c κs = c .resource-row .ensures ∙ ap resourceOf (c .before .resource-of .ensures)
 
 returns : tie.Need-returns
 unfolding decided
@@ -54,7 +59,9 @@ returns-2 c =
     turned (tables s) (request s) _ _ _ _ (stop-all (senderChecks (tables s) (now (s .args .«record»))) (grantChecks (tables s) (request s)) _ (sender-checked call) (told .enum-told4 .given .1)) (told .enum-told4 .given .1) (c .turned-away2 .ensures)
 
 grant-requires : tie.Need-grant-requires
-grant-requires c κs = c .before .before .before .own-row .ensures
+grant-requires c κs =
+    let row = headed (c .before .before) .before .before .before in
+    (c .before .before .before .own-row .ensures, row .resource-row .ensures ∙ ap resourceOf (row .before .resource-of .ensures))
 
 -- where 2 to 7 pass, the decision is that of the rest
 rest-decides : (t : Tables) (q : Request) (c : Check) → c ≡ verdict (senderChecks t (q .bytes)) → c ≡ Pass → granted t q ≡ decided t q
@@ -72,6 +79,6 @@ pub decide-spec : {M : Type 1} → statement M
 decide-spec =
     tie.close
     (tie.spec
-    (λ c κs. search needs) (λ c. search needs) (λ c. search needs) (λ c κs. search needs) returns
+    (λ c κs. search needs) (λ c. search needs) (λ c κs. search needs) check-header-requires (λ c. search needs) (λ c. search needs) (λ c κs. search needs) returns
     (λ c κs. search needs) check-credential-requires (λ c. search needs) (λ c. search needs) (λ c κs. search needs) returns-2
     grant-requires returns-3)

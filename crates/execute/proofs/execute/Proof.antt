@@ -7,7 +7,7 @@ use Rattle.rules.specs.declared.Tables.{Tables}
 use Rattle.rules.specs.Record.{Request, asked}
 use Rattle.rules.specs.Tables.{tablesOf}
 use Rattle.rules.specs.Defaults.{Defaults, defaults}
-use Rattle.execute.proofs.Laws.{action-is, rows-pass, form-passes, says, fills}
+use Rattle.execute.proofs.Laws.{action-is, length-is, rows-pass, form-passes, says, fills}
 use borrow.Author.Needs.{needs}
 use Rattle.execute.proofs.execute.Statement.{statement}
 use Rattle.execute.proofs.execute.Tie as tie
@@ -29,6 +29,12 @@ request s = asked (s .args .clock) (now (s .args .«record»)) (length (now (s .
 
 abbrev lists : tie.Start → Defaults
 lists s = defaults (now (s .args .default-creds)) (now (s .args .default-aces))
+
+-- the decision has the reply's length
+put-reply-requires : tie.Need-put-reply-requires
+put-reply-requires c κs =
+    let s = c .before .before .before .before .before .before .before in
+    length-is (tables s) (request s) (s .args .d) (s .pre .1) (s .pre .2)
 
 links-of-requires : tie.Need-links-of-requires
 links-of-requires c κs =
@@ -60,7 +66,7 @@ pub execute-spec : {M : Type 1} → statement M
 execute-spec =
     tie.close
     (tie.spec
-    (λ c κs. search needs) (λ c κs. search needs) links-of-requires
+    put-reply-requires (λ c κs. search needs) links-of-requires
     apply-requires
     same-length
     returns)

@@ -6,10 +6,7 @@ use Rattle.reading.proofs.is_read.Tie as tie
 
 returns : tie.Need-returns
 unfolding reads
-returns c = rw (c .before .verb-of .ensures, c .before .before .resource-row .ensures, c .before .before .before .resource-of .ensures)
+returns c = rw (c .before .verb-of .ensures, c .before .before .before .pre)
 
 pub is-read-spec : {M : Type 1} → statement M
-is-read-spec =
-    tie.close
-    (tie.spec
-    (λ c κs. search needs) (λ c. search needs) (λ c κs. search needs) (λ c κs. search needs) returns)
+is-read-spec = tie.close (tie.spec (λ c κs. search needs) returns)

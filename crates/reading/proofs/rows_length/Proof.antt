@@ -16,7 +16,7 @@ unfolding rowBytes
 returns c =
     let held = c .before in
     let match = held .before .before in
-    let l : length (now (match .before .before .args .creds)) ≡ 936 = search needs in
+    let l : length (now (match .before .before .before .args .creds)) ≡ 936 = search needs in
     rw (match .match .keys1) (c .bodies-length .ensures .0 ∙ ap length (bodies-held _ _ _ (held .held .ensures)), omega (arith, l, c .bodies-length .ensures .1))
 
 -- the first bytes of the table, of as many rows as there is room for
@@ -32,9 +32,9 @@ returns-2 c =
 returns-3 : tie.Need-returns-3
 unfolding rowBytes
 returns-3 c =
-    let row = c .before in
-    let roles = rw (row .own-row .ensures .row) at (c .roles-length .ensures) in
-    rw (row .before .match .keys3) (roles .0, omega (arith, roles .1))
+    let match = c .before in
+    let roles = rw (match .before .before .before .pre .row) at (c .roles-length .ensures) in
+    rw (match .match .keys3) (roles .0, omega (arith, roles .1))
 
 returns-4 : tie.Need-returns-4
 unfolding rowBytes
@@ -44,7 +44,7 @@ pub rows-length-spec : {M : Type 1} → statement M
 rows-length-spec =
     tie.close
     (tie.spec
-    (λ c κs. search needs) (λ c κs. search needs) (λ c κs. search needs) (λ c. search needs) (λ c κs. search needs) (λ c κs. search needs) (λ c κs. search needs) returns
+    (λ c κs. search needs) (λ c κs. search needs) (λ c κs. search needs) (λ c. search needs) (λ c κs. search needs) (λ c κs. search needs) returns
     returns-2
     returns-3
     returns-4)
