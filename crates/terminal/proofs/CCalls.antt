@@ -9,7 +9,7 @@ use Rattle.rules.specs.Record.{Request, Sender}
 use Rattle.rules.specs.Defaults.{Defaults}
 use Rattle.rules.specs.Outcome.{Said, payloadAt}
 use Rattle.rules.specs.Run.{kept}
-use Rattle.waiting.specs.Terminal.{Terminal, terminal, handedIn, taken, judged, HandedOut}
+use Rattle.waiting.specs.Terminal.{Terminal, terminal, handedIn, taken, judged}
 use Rattle.waiting.specs.Calls.{Leaves}
 use Rattle.waiting.specs.Inputs.{Input, handIn, takeAt, direct, othersTurn}
 use Rattle.waiting.proofs.Isolated.{Premises, AsTheBook}
