@@ -5,7 +5,7 @@
     tests/documents.py --write    first draws the pictures of docs/PICTURES.md anew
 
 README.md       the layers with crates.txt; what must be believed with what the contracts cite
-PROOFS.md       each theorem and function that its tables name stands in the file named
+PROOFS.md       each theorem and function that its tables name stands in the file named, or in the crate
 MUST-FAIL.md    each edit has a row, and each row its edit
 PICTURES.md     the pictures with those made from the definitions
 tillerclover.h  offsets, lengths and shifts with the definitions
@@ -566,13 +566,29 @@ def check_proofs():
             word = re.escape(name)
             if not re.search(rf"^ *(?:(?:pub|unfoldable|abbrev) )*(?:{word} :|(?:record|data) {word}\s)", sources, re.M):
                 fault(f"PROOFS.md: {name} stands in no file that its row names")
-    functions = set()
-    for path in glob.glob("crates/*/src/**/*.rt", recursive=True):
-        functions |= set(re.findall(r"\bfn (\w+)", read(path)))
-    for cells in rows_of(contracts.split("## The reviewer's")[0]):
-        for name in re.findall(r"`(?:\w+::)*([a-z]\w*)`", cells[0]):
-            if name not in functions and not os.path.isdir(f"crates/{name}"):
-                fault(f"PROOFS.md: there is no function {name}")
+    check_functions(contracts.split("## The reviewer's")[0])
+
+
+def functions_of(path):
+    files = [path] if path.endswith(".rt") else glob.glob(f"{path}/**/*.rt", recursive=True)
+    return {name for file in files if os.path.exists(file) for name in re.findall(r"\bfn (\w+)", read(file))}
+
+
+def check_functions(text):
+    """A function in a row's first cell stands in its crate, in a file of it that the last cell names, if that names any.
+    A name without a crate has that of the name before it, and one like `_clear` begins as that does."""
+    for cells in rows_of(text):
+        named = re.findall(r"\w+/src(?:/\w+\.rt)?", cells[-1])
+        crate = before = ""
+        for words in re.findall(r"`((?:\w+::)*\w+)`", cells[0]):
+            first, name = words.split("::")[0], words.split("::")[-1]
+            crate = first if os.path.isdir(f"crates/{first}") else crate
+            if words == crate:
+                continue
+            before = before.split("_")[0] + name if name.startswith("_") else name
+            paths = [path for path in named if path.startswith(f"{crate}/") or not crate] if named else [f"{crate}/src"]
+            if not any(before in functions_of(f"crates/{path}") for path in paths):
+                fault(f"PROOFS.md: there is no function {before} in {' or '.join(paths) or crate}")
 
 
 def check_edits():

@@ -1,6 +1,6 @@
--- Theorems: each part of the premise of 'The others alone' is needed. One run, and for each part tables in which it alone fails:
+-- Theorems: each part of the premise of 'The others alone' is needed. For each part a run, and tables in which it alone fails:
 -- what is compared of the tables at the end is then not the same.
-use Prim.Native.Nat.{ℕ}
+use Prim.Native.Nat.{ℕ, _≤_}
 use native.Mathlib.Omega.{arith}
 use mathlib.Core.Path.{_≡_, refl, ap}
 use mathlib.Core.Bool.{Bool, true, false, not, false≢true}
@@ -9,9 +9,10 @@ use lib.Dec.{eqb}
 use lib.ListN.{replicate}
 use borrow.Author.Tests.{eqb-true, not-true}
 use Rattle.rules.specs.declared.Tables.{Tables}
+use Rattle.rules.specs.declared.Table.the-variants.{Aces}
 use Rattle.rules.specs.Directory.{someSecurity}
 use Rattle.rules.specs.Record.{Request, asked, Sender, unauthenticated, partner}
-use Rattle.rules.specs.Tables.{sound, withRowOwner}
+use Rattle.rules.specs.Tables.{sound, withRows, withRowOwner}
 use Rattle.rules.specs.Defaults.{noDefaults, fresh}
 use Rattle.rules.specs.Outcome.{replyTo, tablesAfter}
 use Rattle.rules.specs.Run.{replies, final, Along, kept}
@@ -48,77 +49,97 @@ parts-harmless t e = record { hasOwner = owned; notOwner = owner; notGranted = g
     granted unauthenticated c = absurd (false≢true c)
     granted (partner n) c = rw (eqb-true n 7 c) (not-true _ cc)
 
--- ---- the run: the owner, partner 5, reads pstat; partner 7 resets the terminal; partner 5 reads again
+-- ---- the runs: the owner, partner 5, reads pstat; partner 7 sends a record; partner 5 reads again
 
+pub around : List ℕ → List Request
+around r = let reads : List ℕ = 0x30 ∷ 0x40 ∷ 0x00 ∷ 0x05 ∷ [] in map (λ b. asked 0 b 17) (reads ∷ r ∷ reads ∷ [])
+
+-- partner 7 resets the terminal
 pub resetRun : List Request
-resetRun =
-    map (λ r. asked 0 r 17)
-    ((0x30 ∷ 0x40 ∷ 0x00 ∷ 0x05 ∷ [])
-    ∷ (0x50 ∷ 0x40 ∷ 0x00 ∷ 0x07 ∷ 0x00 ∷ [])
-    ∷ (0x30 ∷ 0x40 ∷ 0x00 ∷ 0x05 ∷ [])
-    ∷ [])
+resetRun = around (0x50 ∷ 0x40 ∷ 0x00 ∷ 0x07 ∷ 0x00 ∷ [])
 
--- along the others' run the tables are sound, and these parts of the premise hold; and yet the tables at the end differ
-pub record Needed (holds : List Bool) (t : Tables) : Type 0 where
-  pub premise : Along (tablesAfter noDefaults) (λ (x : Tables). (sound x ∷ parts x) ≡ true ∷ holds) t (kept (isOthers only7) resetRun)
+-- partner 7 deletes the owner's credential row
+pub deleteRun : List Request
+deleteRun = around (0x70 ∷ 0x80 ∷ 0x00 ∷ 0x07 ∷ 0x00 ∷ 0x05 ∷ [])
+
+-- along the others' part of the run the tables are sound, and these parts of the premise hold; and yet the tables at the end differ
+pub record Needed (run : List Request) (holds : List Bool) (t : Tables) : Type 0 where
+  pub premise : Along (tablesAfter noDefaults) (λ (x : Tables). (sound x ∷ parts x) ≡ true ∷ holds) t (kept (isOthers only7) run)
   pub differ :
-      compared only7 (final (tablesAfter noDefaults) t resetRun)
-      ≡ compared only7 (final (tablesAfter noDefaults) t (kept (isOthers only7) resetRun))
+      compared only7 (final (tablesAfter noDefaults) t run)
+      ≡ compared only7 (final (tablesAfter noDefaults) t (kept (isOthers only7) run))
       → ⊥
 
-rows-gone : (a b : Tables) → a .ncreds ≡ 0 → b .ncreds ≡ 2 → a ≡ b → ⊥
-rows-gone a b none two e = let z = ap (λ (x : Tables). x .ncreds) e in omega arith
+-- fewer credential rows than both
+rows-gone : (a b : Tables) → a .ncreds ≤ 1 → b .ncreds ≡ 2 → a ≡ b → ⊥
+rows-gone a b few two e = let z = ap (λ (x : Tables). x .ncreds) e in omega arith
 
 -- everybody's answers
-pub answers : Tables → List ℕ
-answers t = replies (λ x q. replyTo noDefaults x q .answer) (tablesAfter noDefaults) t resetRun
+pub answers : List Request → Tables → List ℕ
+answers run t = replies (λ x q. replyTo noDefaults x q .answer) (tablesAfter noDefaults) t run
 
--- `unfolding the-reset` opens all that these examples say
-the-reset : Unit {0}
-unfolding definitions namesOwner rowAlters mayFit mayAlter someSecurity compared only7 parts resetRun answers haulierRow haulier owned5 serving aceBody aceRow uuid credRow withCreds
-the-reset = tt
+-- `unfolding the-runs` opens all that these examples say
+the-runs : Unit {0}
+unfolding definitions namesOwner rowAlters mayFit mayAlter someSecurity compared only7 parts around resetRun deleteRun answers haulierRow haulier owned5 serving aceBody aceRow uuid credRow withCreds
+the-runs = tt
 
 -- ---- no owner: RFOTM, a credential row for each
 
 pub unowned : Tables
 unowned = withCreds (fresh noDefaults) (credRow 5 ∷ haulierRow 7 ∷ [])
 
-pub owner-needed : Needed (false ∷ true ∷ true ∷ []) unowned
-unfolding the-reset unowned
-owner-needed = record { premise = (refl, (refl, refl)); differ = rows-gone _ _ refl refl }
+pub owner-needed : Needed resetRun (false ∷ true ∷ true ∷ []) unowned
+unfolding the-runs unowned
+owner-needed = record { premise = (refl, (refl, refl)); differ = rows-gone _ _ (omega arith) refl }
 
 -- ---- a chosen partner's credential row names an owner, in RFNOP: the device owner; the row owner of pstat
 
 pub deputy : Tables
 deputy = withCreds (serving []) (credRow 5 ∷ credRow 7 ∷ [])
 
-pub device-owner-needed : Needed (true ∷ false ∷ true ∷ []) deputy
-unfolding the-reset deputy
-device-owner-needed = record { premise = (refl, (refl, refl)); differ = rows-gone _ _ refl refl }
+pub device-owner-needed : Needed resetRun (true ∷ false ∷ true ∷ []) deputy
+unfolding the-runs deputy
+device-owner-needed = record { premise = (refl, (refl, refl)); differ = rows-gone _ _ (omega arith) refl }
 
 pub caretaker : Tables
 caretaker = withRowOwner (withCreds (serving []) (credRow 5 ∷ haulierRow 7 ∷ [])) 1 haulier
 
-pub row-owner-needed : Needed (true ∷ false ∷ true ∷ []) caretaker
-unfolding the-reset caretaker
-row-owner-needed = record { premise = (refl, (refl, refl)); differ = rows-gone _ _ refl refl }
+pub row-owner-needed : Needed resetRun (true ∷ false ∷ true ∷ []) caretaker
+unfolding the-runs caretaker
+row-owner-needed = record { premise = (refl, (refl, refl)); differ = rows-gone _ _ (omega arith) refl }
 
 -- ---- an access row gives a chosen partner update on pstat, in RFNOP
 
 pub granted : Tables
 granted = withCreds (serving (aceRow 1 0 4 0 (0x40 ∷ replicate 7 0) haulier ∷ [])) (credRow 5 ∷ haulierRow 7 ∷ [])
 
-pub grant-needed : Needed (true ∷ true ∷ false ∷ []) granted
-unfolding the-reset granted
-grant-needed = record { premise = (refl, (refl, refl)); differ = rows-gone _ _ refl refl }
+pub grant-needed : Needed resetRun (true ∷ true ∷ false ∷ []) granted
+unfolding the-runs granted
+grant-needed = record { premise = (refl, (refl, refl)); differ = rows-gone _ _ (omega arith) refl }
 
--- ---- in each the reset is permitted, and the owner is then unknown; where no part fails it is refused
+-- ---- an access row gives a chosen partner delete on cred, in RFPRO
+
+pub deleting : Tables
+deleting = withCreds (withRows Aces owned5 (aceRow 1 0 8 0 (0x20 ∷ replicate 7 0) haulier ∷ [])) (credRow 5 ∷ haulierRow 7 ∷ [])
+
+pub delete-needed : Needed deleteRun (true ∷ true ∷ false ∷ []) deleting
+unfolding the-runs deleting
+delete-needed = record { premise = (refl, (refl, refl)); differ = rows-gone _ _ (omega arith) refl }
+
+-- ---- in each the record is permitted, and the owner is then unknown; where no part fails it is refused
 
 pub calm : Tables
 calm = withCreds (serving []) (credRow 5 ∷ haulierRow 7 ∷ [])
 
+pub calmRfpro : Tables
+calmRfpro = withCreds owned5 (credRow 5 ∷ haulierRow 7 ∷ [])
+
 pub reset-answers :
-    map answers (unowned ∷ deputy ∷ caretaker ∷ granted ∷ calm ∷ [])
+    map (answers resetRun) (unowned ∷ deputy ∷ caretaker ∷ granted ∷ calm ∷ [])
     ≡ (0 ∷ 0 ∷ 7 ∷ []) ∷ (0 ∷ 0 ∷ 7 ∷ []) ∷ (0 ∷ 0 ∷ 7 ∷ []) ∷ (0 ∷ 0 ∷ 7 ∷ []) ∷ (0 ∷ 8 ∷ 0 ∷ []) ∷ []
-unfolding the-reset unowned deputy caretaker granted calm
+unfolding the-runs unowned deputy caretaker granted calm
 reset-answers = refl
+
+pub delete-answers : map (answers deleteRun) (deleting ∷ calmRfpro ∷ []) ≡ (0 ∷ 0 ∷ 7 ∷ []) ∷ (0 ∷ 8 ∷ 0 ∷ []) ∷ []
+unfolding the-runs deleting calmRfpro
+delete-answers = refl

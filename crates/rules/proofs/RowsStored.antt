@@ -280,6 +280,15 @@ unfolding rowsIn rowsOf
 none-held Creds t z = rw z
 none-held Aces t z = rw z
 
+-- into a table without credential rows none but the unauthenticated may store one: a partner without a row gets 7
+pub creds-in-clear : (t : Tables) (q : Request) (b : List ℕ) → TakesRows Creds t → MayStore Creds t q b → sender (q .bytes) ≡ unauthenticated
+unfolding noCredential
+creds-in-clear t q b takes m = go (sender (q .bytes)) (passed (senderChecks t (q .bytes)) (m .passes) 7)
+  where
+    go : (s : Sender) → noRow t s ≡ false → s ≡ unauthenticated
+    go unauthenticated h = refl
+    go (partner n) h = absurd (none-known t n (none-held Creds t (takes .noRows)) h)
+
 -- records that may store the bodies are permitted throughout, and leave their rows
 pub all-stored : (d : Defaults) (k : Table) (t : Tables) (bs : List (List ℕ)) (qs : List Request)
     → TakesRows k t → AllLong (longest k) bs → SoundRows k (map (rowOf k) bs) → AllMayStore k t qs bs → AllStored d k t qs (map (rowOf k) bs)

@@ -1,3 +1,4 @@
 -- What follows from the C interface's contracts, and the tables that C hands in.
+pub mod CCalls
 pub mod Payload
 mod Whole
