@@ -1,4 +1,4 @@
--- The laws of the definitions, and the theorems over them: Refusals, SoundKept, ReadBack, RowsStored, Restored, Gaps, Wear, SubjectRows, LinkLaws, AnyBody, YardSet, Isolated, PremiseNeeded, Built, Examples, RoleExamples.
+-- The laws of the definitions, and the theorems over them: Refusals, SoundKept, ReadBack, RowsStored, Restored, Gaps, Wear, SubjectRows, LinkLaws, AnyBody, YardSet, Isolated, PremiseNeeded, Built; and the Examples, by what they show.
 pub mod Bools
 pub mod BitLaws
 pub mod RecordLaws
@@ -30,5 +30,9 @@ pub mod Alike
 pub mod Isolated
 pub mod Built
 pub mod Examples
+pub mod ReadExamples
+pub mod DeleteExamples
+pub mod GrantExamples
+pub mod IsolationExamples
 pub mod RoleExamples
 pub mod PremiseNeeded
