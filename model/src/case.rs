@@ -1,27 +1,18 @@
-//! A case, what a caller sees of its outcome, and shrinking.
+//! A case as a line, what a caller sees of its outcome, and shrinking.
 
 use std::ops::Range;
 
 use crate::defaults::Defaults;
 use crate::hex;
 use crate::record::{HEADER, LONGEST};
-use crate::rules::{judge, Outcome, LONGEST_REPLY};
+use crate::rules::{judge, Outcome};
 use crate::tables::{
     fresh_bytes, Access, Asserted, Credential, Row, Stored, ACCESSES, ACCESS_COUNT, CREDENTIALS, CREDENTIAL_COUNT,
     DEVICE_OWNER, OWNED, ROW_OWNERS, SIZE, STATE,
 };
 use crate::waiting::{self, Memory, COUNT, ROUND, SLOT, SLOTS};
 
-/// What is asked of the terminal.
-#[derive(Clone, Copy, Debug, PartialEq, Eq)]
-pub enum Call {
-    /// To judge a record at once.
-    Judge,
-    /// To keep a record until its turn. Clock, room and default lists don't matter.
-    HandIn,
-    /// To judge the record whose turn it is. The record doesn't matter.
-    Take,
-}
+pub use crate::call::{Call, Case};
 
 impl Call {
     pub const ALL: [Call; 3] = [Call::Judge, Call::HandIn, Call::Take];
@@ -35,37 +26,7 @@ impl Call {
     }
 }
 
-/// Tables, what waits beside them, and a call.
-#[derive(Clone, Debug, PartialEq, Eq)]
-pub struct Case {
-    pub call: Call,
-    pub tables: Stored,
-    pub waiting: Memory,
-    /// The terminal's clock when the call is made.
-    pub clock: u32,
-    pub record: Vec<u8>,
-    /// The length of the buffer that is lent for a reply, or for the office
-    /// text of the tables.
-    pub room: usize,
-    /// The rows of fresh tables.
-    pub defaults: Defaults,
-}
-
 impl Case {
-    /// To judge a record with nothing waiting, at clock 0, with a buffer that fits
-    /// any reply, and no default rows.
-    pub fn new(tables: &Stored, record: &[u8]) -> Case {
-        Case {
-            call: Call::Judge,
-            tables: *tables,
-            waiting: Memory::fresh(),
-            clock: 0,
-            record: record.to_vec(),
-            room: LONGEST_REPLY,
-            defaults: Defaults::none(),
-        }
-    }
-
     /// As one line: call, tables, what waits, clock, record, room and the two
     /// default lists, with colons between. The call is a word, clock and room are in
     /// decimal, all else is in hexadecimal digits; zeros at the end of the memory of

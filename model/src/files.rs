@@ -3,14 +3,65 @@
 
 use std::fmt;
 
-use crate::case;
+use crate::case::{self, written, Case, BEHIND};
 use crate::directory::{self, DIRECTORY};
 use crate::examples::uuid;
 use crate::generate;
-use crate::older::{convert, Converted, File, NotConverted, OldRow, LONGEST_RESULT};
+use crate::hex;
+use crate::older::{convert, write, NotConverted, OldRow, LONGEST_RESULT};
 use crate::random::Random;
 use crate::spoil::FILE_FAULTS;
 use crate::tables::{Access, Row, Uuid};
+
+/// A file, and the length of the buffer that is lent for its rows.
+#[derive(Clone, Debug, PartialEq, Eq)]
+pub struct File {
+    pub bytes: Vec<u8>,
+    pub room: usize,
+}
+
+impl File {
+    /// As one line: the bytes in hexadecimal digits, a colon and the room in
+    /// decimal.
+    pub fn line(&self) -> String {
+        format!("{}:{}", hex::write(&self.bytes), self.room)
+    }
+
+    pub fn from_line(line: &str) -> Result<File, String> {
+        let (bytes, room) = line.split_once(':').ok_or("a file is FILE:ROOM, and this has no colon")?;
+        let bytes = hex::read(bytes)?;
+        let room = room.parse::<u16>().map_err(|_| format!("the room is a number up to 65535, not '{room}'"))?;
+        Ok(File { bytes, room: room.into() })
+    }
+}
+
+/// What a caller sees of the conversion.
+#[derive(Clone, Debug, PartialEq, Eq)]
+pub struct Converted {
+    pub answer: u8,
+    /// The length that is reported.
+    pub length: usize,
+    /// The lent buffer afterwards, and `BEHIND` bytes that were not lent.
+    pub buffer: Vec<u8>,
+}
+
+impl Converted {
+    /// What a caller is to see.
+    pub fn expected(file: &File) -> Converted {
+        let mut buffer = Case::pattern(file.room + BEHIND);
+        let (answer, length) = match write(&file.bytes, &mut buffer[..file.room]) {
+            Ok(length) => (0, length),
+            Err(reason) => (reason as u8, 0),
+        };
+        Converted { answer, length, buffer }
+    }
+
+    /// In one line, with the bytes that are reported as rows.
+    pub fn describe(&self) -> String {
+        let rows = hex::write(&self.buffer[..self.length.min(self.buffer.len())]);
+        format!("answer {}, length {}, {}, rows '{rows}'", self.answer, self.length, written(&self.buffer))
+    }
+}
 
 const ROW: usize = OldRow::LENGTH;
 const RANDOM: usize = 10_000;

@@ -4,8 +4,9 @@
 
 #![forbid(unsafe_code)]
 
-// The rules.
+// The rules. Of what follows them they import nothing, but for their tests.
 pub mod bits;
+pub mod call;
 pub mod defaults;
 pub mod directory;
 pub mod office;

@@ -5,10 +5,10 @@ use tillerclover::{interface, Tables, Taken, Waiting};
 
 use crate::case::{Call, Case, Seen, BEHIND};
 use crate::defaults::Defaults;
-use crate::office::Listed;
-use crate::older::{Converted, File};
+use crate::files::{Converted, File};
 use crate::provisioning::Tested;
 use crate::tables::{self, Stored};
+use crate::texts::Listed;
 use crate::waiting::{self, Memory};
 
 const _: () = assert!(Tables::SIZE == tables::SIZE && Waiting::SIZE == waiting::SIZE);

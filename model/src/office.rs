@@ -1,7 +1,6 @@
 //! The access list as office text: OCF's own JSON for the yard office, written
 //! to the front of a lent buffer.
 
-use crate::case::{written, Case, BEHIND};
 use crate::directory::DIRECTORY;
 use crate::tables::{Access, Connection, Period, Role, Stored, Subject, Tables, Uuid, Wildcards};
 use crate::waiting::{Memory, Waiting};
@@ -79,46 +78,17 @@ fn uuid_text(uuid: Uuid) -> String {
     [0..8, 8..12, 12..16, 16..20, 20..32].map(|part| &digits[part]).join("-")
 }
 
-/// What a caller sees of the text.
-#[derive(Clone, Debug, PartialEq, Eq)]
-pub struct Listed {
-    pub answer: u8,
-    /// The length that is reported.
-    pub length: usize,
-    /// The lent buffer afterwards, and `BEHIND` bytes that were not lent.
-    pub buffer: Vec<u8>,
-}
-
-impl Listed {
-    /// What a caller is to see who lends the room of the case.
-    pub fn expected(case: &Case) -> Listed {
-        let mut buffer = Case::pattern(case.room + BEHIND);
-        let (answer, length) = match write(&case.tables, &case.waiting, &mut buffer[..case.room]) {
-            Ok(length) => (0, length),
-            Err(reason) => (reason as u8, 0),
-        };
-        Listed { answer, length, buffer }
-    }
-
-    /// In one line, with the bytes that are reported as text.
-    pub fn describe(&self) -> String {
-        let reported = &self.buffer[..self.length.min(self.buffer.len())];
-        // Whatever the bytes are, the line stays one.
-        let letter = |&byte: &u8| if byte.is_ascii_graphic() { byte as char } else { '.' };
-        let text: String = reported.iter().map(letter).collect();
-        format!("answer {}, length {}, {}, text '{text}'", self.answer, self.length, written(&self.buffer))
-    }
-}
-
 #[cfg(test)]
 mod tests {
     use super::*;
+    use crate::case::{Case, BEHIND};
     use crate::directory;
     use crate::examples::{access, owned, role, uuid, ANON, AUTH};
     use crate::generate;
     use crate::random::Random;
     use crate::spoil::TABLE_FAULTS;
     use crate::tables::{Row, State, ACCESSES};
+    use crate::texts::Listed;
     use std::collections::HashMap;
 
     fn with_rows(accesses: Vec<Access>) -> Tables {

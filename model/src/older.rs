@@ -2,10 +2,8 @@
 //! rows that they become.
 
 use crate::bits::{Fields, Packer};
-use crate::case::{written, Case, BEHIND};
 use crate::defaults::join;
 use crate::directory;
-use crate::hex;
 use crate::tables::{Access, Connection, Period, Row, Subject, Uuid, Wildcards};
 
 /// Why a file is not converted; the value is its number.
@@ -95,63 +93,15 @@ pub fn write(file: &[u8], buffer: &mut [u8]) -> Result<usize, NotConverted> {
     Ok(rows.len())
 }
 
-/// A file, and the length of the buffer that is lent for its rows.
-#[derive(Clone, Debug, PartialEq, Eq)]
-pub struct File {
-    pub bytes: Vec<u8>,
-    pub room: usize,
-}
-
-impl File {
-    /// As one line: the bytes in hexadecimal digits, a colon and the room in
-    /// decimal.
-    pub fn line(&self) -> String {
-        format!("{}:{}", hex::write(&self.bytes), self.room)
-    }
-
-    pub fn from_line(line: &str) -> Result<File, String> {
-        let (bytes, room) = line.split_once(':').ok_or("a file is FILE:ROOM, and this has no colon")?;
-        let bytes = hex::read(bytes)?;
-        let room = room.parse::<u16>().map_err(|_| format!("the room is a number up to 65535, not '{room}'"))?;
-        Ok(File { bytes, room: room.into() })
-    }
-}
-
-/// What a caller sees of the conversion.
-#[derive(Clone, Debug, PartialEq, Eq)]
-pub struct Converted {
-    pub answer: u8,
-    /// The length that is reported.
-    pub length: usize,
-    /// The lent buffer afterwards, and `BEHIND` bytes that were not lent.
-    pub buffer: Vec<u8>,
-}
-
-impl Converted {
-    /// What a caller is to see.
-    pub fn expected(file: &File) -> Converted {
-        let mut buffer = Case::pattern(file.room + BEHIND);
-        let (answer, length) = match write(&file.bytes, &mut buffer[..file.room]) {
-            Ok(length) => (0, length),
-            Err(reason) => (reason as u8, 0),
-        };
-        Converted { answer, length, buffer }
-    }
-
-    /// In one line, with the bytes that are reported as rows.
-    pub fn describe(&self) -> String {
-        let rows = hex::write(&self.buffer[..self.length.min(self.buffer.len())]);
-        format!("answer {}, length {}, {}, rows '{rows}'", self.answer, self.length, written(&self.buffer))
-    }
-}
-
 #[cfg(test)]
 mod tests {
     use super::*;
+    use crate::case::{Case, BEHIND};
     use crate::directory::DIRECTORY;
     use crate::examples::{access, owned, uuid, ANON, AUTH};
-    use crate::files;
+    use crate::files::{self, Converted, File};
     use crate::generate;
+    use crate::hex;
     use crate::provisioning::{test, Tested};
     use crate::random::Random;
     use crate::rules::{effective_permission, Sender};

@@ -1,7 +1,7 @@
 //! A whole run: records, each behind a clock and its length, from fresh tables,
 //! to text.
 
-use crate::case::Case;
+use crate::call::Case;
 use crate::rules::judge;
 use crate::tables::{fresh_bytes, STATE};
 

@@ -3,16 +3,47 @@
 
 use std::fmt;
 
-use crate::case::{self, Case};
+use crate::case::{self, written, Case, BEHIND};
 use crate::defaults::Defaults;
 use crate::directory::{self, DIRECTORY};
 use crate::examples::{access, role, ANON, AUTH};
 use crate::generate::any_sound;
-use crate::office::{text, Listed, NoText, LONGEST_TEXT};
+use crate::office::{text, write, NoText, LONGEST_TEXT};
 use crate::random::Random;
 use crate::spoil::TABLE_FAULTS;
 use crate::tables::{fresh_bytes, read_uuid, Access, Period, Row, Stored, Subject, Tables, Uuid, Wildcards};
 use crate::waiting::Memory;
+
+/// What a caller sees of the text.
+#[derive(Clone, Debug, PartialEq, Eq)]
+pub struct Listed {
+    pub answer: u8,
+    /// The length that is reported.
+    pub length: usize,
+    /// The lent buffer afterwards, and `BEHIND` bytes that were not lent.
+    pub buffer: Vec<u8>,
+}
+
+impl Listed {
+    /// What a caller is to see who lends the room of the case.
+    pub fn expected(case: &Case) -> Listed {
+        let mut buffer = Case::pattern(case.room + BEHIND);
+        let (answer, length) = match write(&case.tables, &case.waiting, &mut buffer[..case.room]) {
+            Ok(length) => (0, length),
+            Err(reason) => (reason as u8, 0),
+        };
+        Listed { answer, length, buffer }
+    }
+
+    /// In one line, with the bytes that are reported as text.
+    pub fn describe(&self) -> String {
+        let reported = &self.buffer[..self.length.min(self.buffer.len())];
+        // Whatever the bytes are, the line stays one.
+        let letter = |&byte: &u8| if byte.is_ascii_graphic() { byte as char } else { '.' };
+        let text: String = reported.iter().map(letter).collect();
+        format!("answer {}, length {}, {}, text '{text}'", self.answer, self.length, written(&self.buffer))
+    }
+}
 
 /// A case for the text of these tables; clock, record and default lists don't
 /// matter.

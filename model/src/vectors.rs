@@ -695,7 +695,7 @@ fn rows(random: &mut Random) -> (Vec<Credential>, Vec<Access>) {
 #[cfg(test)]
 mod tests {
     use super::*;
-    use crate::older::{Converted, File};
+    use crate::files::{Converted, File};
     use crate::rules::ANSWERS;
 
     /// Reads the file as another program would.

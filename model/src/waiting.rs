@@ -209,11 +209,11 @@ mod tests {
     use crate::examples::{self, access, asserted, credential, owned, uuid, ANON, AUTH};
     use crate::generate;
     use crate::hex;
-    use crate::office::Listed;
     use crate::random::Random;
     use crate::record::{compose, target_body, Verb};
     use crate::rules::{judge, Outcome};
     use crate::tables::{Access, Period, State, Stored};
+    use crate::texts::Listed;
 
     /// In service, with the owner in row 5 and partners in rows 9, 3 and 7, in this
     /// order. Everybody may use the weight.

@@ -6,11 +6,11 @@ use model::case::{Call, Case, Seen};
 use model::defaults::{Defaults, ListFault};
 use model::directory::{find, set_bit, LINKS, ROLES, YARD};
 use model::examples::{access, ANON, AUTH};
-use model::files;
+use model::files::{self, Converted, File};
 use model::generate::{walk_groups, walk_sessions};
 use model::lists;
-use model::office::{text, Listed};
-use model::older::{convert, Converted, File, OldRow, LONGEST_RESULT};
+use model::office::text;
+use model::older::{convert, OldRow, LONGEST_RESULT};
 use model::provisioning::{opens_security, test, Tested};
 use model::record::{Header, Verb, ALL_BITS, CREATE_BIT, DELETE_BIT, LONGEST, UPDATE_BIT};
 use model::rules::{effective_permission, Sender};
@@ -18,7 +18,7 @@ use model::tables::{
     fresh_bytes, read_uuid, Access, Asserted, Credential, Period, Role, Row, Subject, Tables, Uuid, ACCESSES,
     ACCESS_COUNT, CREDENTIALS, CREDENTIAL_COUNT,
 };
-use model::texts::Picks;
+use model::texts::{Listed, Picks};
 use model::waiting::{place_of, Memory, Place, Waiting, CAPACITY, SLOT, SLOTS, UNAUTHENTICATED};
 
 /// What a program makes of a case, given what is right.

@@ -106,15 +106,6 @@ module _ (goes : Row → Bool) where
       go false zero h ih = refl
       go false (suc i) h ih = ih i (omega arith)
 
-  pub before-few : (ws : List Row) → some goes ws ≡ true → rowsBefore goes ws < length ws
-  unfolding some rowsBefore
-  before-few [] h = absurd (false≢true h)
-  before-few (w ∷ ws) h = go (goes w) h (before-few ws)
-    where
-      go : (t : Bool) → (t || some goes ws) ≡ true → (some goes ws ≡ true → rowsBefore goes ws < length ws) → cond t 0 (suc (rowsBefore goes ws)) < suc (length ws)
-      go true h ih = omega arith
-      go false h ih = omega (arith, ih h)
-
   -- where one goes, fewer stay
   pub fewer-stay : (ws : List Row) → some goes ws ≡ true → length (without goes ws) < length ws
   unfolding some without

@@ -19,9 +19,7 @@ use Rattle.rules.specs.Reading.{reads, replyOf, tooShort}
 use Rattle.rules.specs.Tables.{stride, capacity, storable, count, bytes, rows, rowsIn, rowsSound, headSound, sound}
 use Rattle.rules.specs.Checks.{verdict, badLength}
 use Rattle.rules.proofs.Bools.{and-left, and-right, or-left}
-
-apart : {n : ℕ} → Refuse n ≡ Pass → ⊥
-apart q = let z : _≡_ {A = ℕ} 0 1 = cc in omega arith
+use Rattle.rules.proofs.CheckLaws.{apart}
 
 -- the check with this number applies
 abbrev pub appliesIn : ℕ → List (ℕ × Bool) → Bool
@@ -32,7 +30,7 @@ appliesIn n (e ∷ es) = cond (eqb (e .0) n) (e .1) (appliesIn n es)
 pub passed : (es : List (ℕ × Bool)) → verdict es ≡ Pass → (n : ℕ) → appliesIn n es ≡ false
 unfolding verdict
 passed [] p n = refl
-passed ((m, true) ∷ es) p n = absurd (apart p)
+passed ((m, true) ∷ es) p n = absurd (apart p refl)
 passed ((m, false) ∷ es) p n = go (eqb m n) (passed es p n)
   where
     go : (b : Bool) → appliesIn n es ≡ false → cond b false (appliesIn n es) ≡ false

@@ -1,4 +1,4 @@
--- The laws of the definitions, and the theorems over them: Refusals, SoundKept, ReadBack, RowsStored, Restored, Gaps, Wear, SubjectRows, LinkLaws, AnyBody, YardSet, Isolated, PremiseNeeded, Examples, RoleExamples.
+-- The laws of the definitions, and the theorems over them: Refusals, SoundKept, ReadBack, RowsStored, Restored, Gaps, Wear, SubjectRows, LinkLaws, AnyBody, YardSet, Isolated, PremiseNeeded; and the Examples, by what they show.
 pub mod Bools
 pub mod BitLaws
 pub mod RecordLaws
@@ -29,5 +29,9 @@ pub mod YardSet
 pub mod Alike
 pub mod Isolated
 pub mod Examples
+pub mod ReadExamples
+pub mod DeleteExamples
+pub mod GrantExamples
+pub mod IsolationExamples
 pub mod RoleExamples
 pub mod PremiseNeeded

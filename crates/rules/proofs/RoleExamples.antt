@@ -20,7 +20,9 @@ use Rattle.rules.specs.Outcome.{replyTo, tablesAfter}
 use Rattle.rules.specs.Run.{replies, final, Along, kept, keptOf}
 use Rattle.rules.specs.Storing.{inClear, AllStored}
 use Rattle.rules.specs.Isolation.{Premise, isOthers, namesOwner, rowAlters, mayFit, mayAlter, compared}
-use Rattle.rules.proofs.Examples.{definitions, uuid, credRow, withCreds, owned5, serving, aceBody, aceRow, weight, connected, haulierRow, foreman, haulier, yard, chosen7, calm, calm-harmless}
+use Rattle.rules.proofs.Examples.{definitions, uuid, credRow, withCreds, owned5, serving, aceBody, aceRow, weight, connected, haulierRow, haulier, yard}
+use Rattle.rules.proofs.GrantExamples.{foreman}
+use Rattle.rules.proofs.IsolationExamples.{chosen7, calm, calm-harmless}
 use Rattle.rules.proofs.Restored.{reply-judged-clear}
 use Rattle.rules.proofs.Isolated.{isolation}
 

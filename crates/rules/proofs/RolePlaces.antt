@@ -40,17 +40,6 @@ module _ (clock : ℕ) (w : Row) where
       go false false false e true f = rw (e, f)
       go false false false e false f = rw (e, f)
 
-  -- their bytes
-  pub joined-in-force : joined (rolesInForce clock w) ≡ cond (free clock (firstRole w)) [] (firstRole w) ++ cond (free clock (secondRole w)) [] (secondRole w)
-  unfolding rolesInForce without joined
-  joined-in-force = go (free clock (firstRole w)) (free clock (secondRole w))
-    where
-      go : (a b : Bool) → joined (both a b) ≡ cond a [] (firstRole w) ++ cond b [] (secondRole w)
-      go true true = refl
-      go true false = append-nil (secondRole w)
-      go false true = refl
-      go false false = ap (λ (l : List ℕ). firstRole w ++ l) (append-nil (secondRole w))
-
 -- ---- a role is asserted: the roles afterwards, from each place on
 
 module _ (clock : ℕ) (new p : Row) (ps : List Row) where

@@ -139,15 +139,6 @@ some-without p q (w ∷ ws) h =
     (λ _. some-without p q ws (or-right (p w) _ h))
     (λ _. or-neither (p w) _ (or-left _ _ h) (some-without p q ws (or-right (p w) _ h)))
 
-none-left : (p : Row → Bool) (ws : List Row) → some p (without p ws) ≡ false
-unfolding some without
-none-left p [] = refl
-none-left p (w ∷ ws) = go (p w) refl (none-left p ws)
-  where
-    go : (b : Bool) → p w ≡ b → some p (without p ws) ≡ false → some p (cond b (without p ws) (w ∷ without p ws)) ≡ false
-    go true e h = h
-    go false e h = rw e h
-
 -- ---- a record that is judged at once
 
 -- a refused one changes nothing

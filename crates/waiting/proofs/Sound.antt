@@ -178,14 +178,6 @@ sound-taken d x clock room h = go (verdict (takeChecks x)) refl
 
 -- ---- a record that does not wait
 
--- a refusal leaves the tables
-pub refused-tables : (d : Defaults) (t : Tables) (q : Request) → eqb (replyTo d t q .answer) 0 ≡ false → tablesAfter d t q ≡ t
-refused-tables d t q e = go (replyTo d t q .answer) refl e
-  where
-    go : (n : ℕ) → replyTo d t q .answer ≡ n → eqb n 0 ≡ false → tablesAfter d t q ≡ t
-    go zero a f = contradiction refl f
-    go (suc n) a f = ap (λ (o : Outcome). o .tables) (refusal-is d t q n a)
-
 pub sound-judged : (d : Defaults) (x : Terminal) (q : Request) → soundTerminal x ≡ true → soundTerminal (judged d x q .terminal) ≡ true
 unfolding judged
 sound-judged d x q h = go (verdict (directChecks x))

@@ -3,20 +3,18 @@
 #![forbid(unsafe_code)]
 
 use model::case::{field, first_change, shrink, Call, Case, Seen};
-use model::files;
+use model::files::{self, Converted, File};
 use model::generate::{any_bytes, any_memory, defaults, walk};
 use model::hex;
 use model::histogram::Histogram;
 use model::library;
 use model::lists;
-use model::office::Listed;
-use model::older::{Converted, File};
 use model::options::Program;
 use model::provisioning::{test, Tested};
 use model::random::Random;
 use model::rules::judge;
 use model::tables::{Stored, SIZE};
-use model::texts::{self, Picks};
+use model::texts::{self, Listed, Picks};
 use model::waiting::{self, Memory};
 
 const PROGRAM: Program = Program {

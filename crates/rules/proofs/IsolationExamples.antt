@@ -1,0 +1,78 @@
+-- Demand 3 is not empty: a run for which the premise of 'The others alone' holds, though the chosen senders do write.
+-- What everybody is answered, and what the theorem says of it.
+use mathlib.Core.Path.{_≡_, refl}
+use mathlib.Core.Bool.{Bool, true, false, not, _&&_}
+use mathlib.Core.List.{List, [], _∷_, map}
+use lib.Dec.{eqb}
+use borrow.Author.Tests.{eqb-true, not-true}
+use Rattle.rules.specs.declared.Tables.{Tables}
+use Rattle.rules.specs.Directory.{someSecurity}
+use Rattle.rules.specs.Record.{Request, Sender, unauthenticated, partner}
+use Rattle.rules.specs.Defaults.{noDefaults}
+use Rattle.rules.specs.Outcome.{replyTo, tablesAfter}
+use Rattle.rules.specs.Run.{replies, final, Along, kept, keptOf}
+use Rattle.rules.specs.Isolation.{Harmless, Premise, isOthers, namesOwner, rowAlters, mayFit, mayAlter, compared}
+use Rattle.rules.proofs.Examples.{definitions, lent, uuid, credRow, withCreds, owned5, aceBody, aceRow, weight, none, connected, serving, haulier, yard}
+use Rattle.rules.proofs.Bools.{and-left, and-right}
+use Rattle.rules.proofs.Isolated.{isolation}
+
+-- ---- demand 3 is not empty: partner 7, a haulier who may read resource 8, is chosen, and the unauthenticated senders with it
+
+unfoldable pub chosen7 : Sender → Bool
+chosen7 unauthenticated = true
+chosen7 (partner n) = eqb n 7
+
+-- the chosen try to write, and read resource 8; the owner, partner 5, goes to state 2, stores a credential and goes back to state 3
+pub yardRun : List Request
+yardRun =
+    map lent
+    ((0x50 ∷ 0xc0 ∷ 0x00 ∷ 0x07 ∷ aceRow 9 0 31 0 weight haulier)
+    ∷ (0x50 ∷ 0x40 ∷ 0x00 ∷ 0x05 ∷ 0x40 ∷ [])
+    ∷ (0x60 ∷ 0x80 ∷ 0x00 ∷ 0x00 ∷ [])
+    ∷ (0x50 ∷ 0x80 ∷ 0x00 ∷ 0x05 ∷ credRow 9)
+    ∷ (0x50 ∷ 0x80 ∷ 0x00 ∷ 0x07 ∷ credRow 9)
+    ∷ (0x50 ∷ 0x40 ∷ 0x00 ∷ 0x05 ∷ 0x60 ∷ [])
+    ∷ (0x32 ∷ 0x00 ∷ 0x00 ∷ 0x07 ∷ 0x01 ∷ [])
+    ∷ [])
+
+-- everybody's answers: the chosen get 8 for each write, and their read is served
+pub yard-answers : replies (λ t q. replyTo noDefaults t q .answer) (tablesAfter noDefaults) yard yardRun ≡ 8 ∷ 0 ∷ 8 ∷ 0 ∷ 8 ∷ 0 ∷ 0 ∷ []
+unfolding definitions owned5 serving aceBody aceRow weight none connected uuid credRow haulier yard yardRun withCreds
+yard-answers = refl
+
+-- the premise for these two senders, as a test
+unfoldable pub calm : Tables → Bool
+calm t = not (eqb (t .owned) 0) && not (namesOwner t unauthenticated) && not (namesOwner t (partner 7)) && not (mayAlter t unauthenticated) && not (mayAlter t (partner 7))
+
+record Calm (t : Tables) : Type 0 where
+  owned : not (eqb (t .owned) 0) ≡ true
+  stranger-owner : not (namesOwner t unauthenticated) ≡ true
+  haulier-owner : not (namesOwner t (partner 7)) ≡ true
+  stranger-alters : not (mayAlter t unauthenticated) ≡ true
+  haulier-alters : not (mayAlter t (partner 7)) ≡ true
+
+calm-parts : (t : Tables) → calm t ≡ true → Calm t
+unfolding calm
+calm-parts t h = search (and-left, and-right)
+
+pub calm-harmless : (t : Tables) → calm t ≡ true → Harmless chosen7 t
+unfolding chosen7
+calm-harmless t h = let p = calm-parts t h in record { hasOwner = λ s c. not-true _ (p .owned); notOwner = owner p; notGranted = granted p }
+  where
+    owner : Calm t → (s : Sender) → chosen7 s ≡ true → namesOwner t s ≡ false
+    owner p unauthenticated c = not-true _ (p .stranger-owner)
+    owner p (partner n) c = rw (eqb-true n 7 c) (not-true _ (p .haulier-owner))
+
+    granted : Calm t → (s : Sender) → chosen7 s ≡ true → mayAlter t s ≡ false
+    granted p unauthenticated c = not-true _ (p .stranger-alters)
+    granted p (partner n) c = rw (eqb-true n 7 c) (not-true _ (p .haulier-alters))
+
+yard-premise : Along (tablesAfter noDefaults) (Premise chosen7) yard (kept (isOthers chosen7) yardRun)
+unfolding definitions calm namesOwner rowAlters mayFit mayAlter someSecurity owned5 serving aceBody aceRow weight none connected uuid credRow haulier yard yardRun chosen7 withCreds
+yard-premise = (λ _. calm-harmless _ refl, (λ _. calm-harmless _ refl, (λ _. calm-harmless _ refl, λ _. calm-harmless _ refl)))
+
+-- so the owner's answers, and the tables at the end, are those of the owner's records alone
+pub yard-isolated :
+    (keptOf (isOthers chosen7) yardRun (replies (replyTo noDefaults) (tablesAfter noDefaults) yard yardRun) ≡ replies (replyTo noDefaults) (tablesAfter noDefaults) yard (kept (isOthers chosen7) yardRun))
+    × (compared chosen7 (final (tablesAfter noDefaults) yard yardRun) ≡ compared chosen7 (final (tablesAfter noDefaults) yard (kept (isOthers chosen7) yardRun)))
+yard-isolated = isolation noDefaults chosen7 yard yardRun yard-premise
