@@ -90,7 +90,7 @@ fn change(
     ensures { λ r. ⌜ Executes (defaults (now («default_creds» .entry)) (now («default_aces» .entry))) (tablesOf h (now (creds .entry)) (now (aces .entry))) (asked clock (now («record» .entry)) (length (now (reply .entry)))) (now (reply .entry)) r (now (creds .exit)) (now (aces .exit)) (now (reply .exit)) ⌝ }
     ensures { λ _. ⌜ now (memory .exit) ≡ memoryAfter (defaults (now («default_creds» .entry)) (now («default_aces» .entry))) (tablesOf h (now (creds .entry)) (now (aces .entry))) (asked clock (now («record» .entry)) (length (now (reply .entry)))) (roundOf (now (memory .entry))) (waiting (now (memory .entry))) ⌝ }
 {
-    let before = *creds;
+    let was_held = queue::round_held(h.ncreds, creds, memory);
     let a = d.action;
     let j = execute(
         h,
@@ -111,7 +111,7 @@ fn change(
     if next.ncreds == h.ncreds {
         return j;
     }
-    queue::settle(h.ncreds, &before, next.ncreds, creds, memory);
+    queue::settle(was_held, next.ncreds, creds, memory);
     j
 }
 

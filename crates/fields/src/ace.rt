@@ -1,6 +1,7 @@
 // The fields of an access row, an access control entry.
 // Number, subject kind, permission, wildcards, set of resources, subject, period. Each contract rules out the bit beside the field and one bit fewer.
 use crate::bits::bit_at;
+use crate::bits::byte_at;
 use crate::bits::double_field;
 use crate::bits::field;
 use rows::part;
@@ -110,13 +111,14 @@ pub fn on_security(row: &[u8]) -> bool
 }
 
 // Whether each number in the set of resources is known: the numbers between and after the known ones are not in it.
+// Byte by byte, as one union: the compiler then compares all eight at once.
 pub fn set_known(row: &[u8]) -> bool
     ensures { λ b. ⌜ b ≡ setKnown (now (row .entry)) 64 ⌝ }
 {
     // 5 to 7, 15, and 17 to 63
-    (field(row, 37, 3) == 0)
-        & (field(row, 47, 1) == 0)
-        & (field(row, 49, 15) == 0)
-        & (field(row, 64, 16) == 0)
-        & (field(row, 80, 16) == 0)
+    let low = (byte_at(row, 4) % 8) | (byte_at(row, 5) % 2);
+    let next = (byte_at(row, 6) % 128) | byte_at(row, 7);
+    let third = byte_at(row, 8) | byte_at(row, 9);
+    let high = byte_at(row, 10) | byte_at(row, 11);
+    (low | next | third | high) == 0
 }

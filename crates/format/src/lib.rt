@@ -1,17 +1,18 @@
 // The values that a body may have, and what it could store as a row.
 // A test for each field, in the order of the layout; a body of another length is no row.
 use fields::ace;
+use fields::after;
 use fields::asserted::no_role;
 use fields::asserted::same_role;
 use fields::body;
 use fields::cred;
 use fields::word;
 use rows::part;
+use rows::short_zero;
 use rules::CRED_BODY;
 use rules::CRED_PLACE;
 use rules::CRED_ROW;
 use rules::Table;
-use rules::Uuid;
 ghost use mathlib.Core.Path.{_≡_};
 ghost use Rattle.rules.specs.Bodies.{isNil, ownerBody, stateBody, credStorable, subjectStorable, aceStorable};
 ghost use Rattle.rules.specs.Roles.{rolesSound, credHeld};
@@ -44,7 +45,10 @@ pub fn capacity_of(table: Table) -> usize
 pub fn is_nil(uuid: &[u8]) -> bool
     ensures { λ r. ⌜ r ≡ isNil (now (uuid .entry)) ⌝ }
 {
-    rows::same_bytes(uuid, &Uuid::NIL)
+    if uuid.len() != 16 {
+        return false;
+    }
+    short_zero(uuid)
 }
 
 // doxm: owned is 1 exactly when the device owner is not nil.
@@ -112,8 +116,8 @@ fn subject_storable(row: &[u8]) -> bool
     let kind = ace::kind(row);
     match kind {
         0 => !is_nil(subject),
-        1 => rows::all_zero(part(subject, 0, 12), 0) & (ace::role(row) != 0),
-        2 => rows::all_zero(part(subject, 0, 15), 0) & (ace::connection_zeros(row) == 0),
+        1 => short_zero(part(subject, 0, 12)) & (ace::role(row) != 0),
+        2 => short_zero(part(subject, 0, 15)) & (ace::connection_zeros(row) == 0),
         _ => false,
     }
 }
@@ -126,10 +130,27 @@ pub fn ace_storable(row: &[u8]) -> bool
     if row.len() != 36 {
         return false;
     }
+    // by itself: the compiler then compares the eight bytes of the set at once
+    if !ace::set_known(row) {
+        return false;
+    }
     let numbered = word(row) != 0;
     let zeros = ace::zeros(row) == 0;
     let period = ace::first(row) <= ace::last(row);
-    numbered & zeros & ace::set_known(row) & subject_storable(row) & period
+    numbered & zeros & subject_storable(row) & period
+}
+
+// The same as `cred_held`, for each row of a table: where nothing is asserted, as in most rows, the body is all there is to test.
+fn cred_row_held(row: &[u8]) -> bool
+    ensures { λ r. ⌜ r ≡ credHeld (now (row .entry)) ⌝ }
+{
+    if row.len() != CRED_ROW {
+        return false;
+    }
+    if short_zero(after(row, CRED_BODY)) {
+        return cred_storable(cred::body(row));
+    }
+    cred_held(row)
 }
 
 // A row that the table may hold.
@@ -138,7 +159,7 @@ pub fn row_storable(table: Table, row: &[u8]) -> bool
     ensures { λ r. ⌜ r ≡ storable table (now (row .entry)) ⌝ }
 {
     match table {
-        Table::Creds => cred_held(row),
+        Table::Creds => cred_row_held(row),
         Table::Aces => ace_storable(row),
     }
 }

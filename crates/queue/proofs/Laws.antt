@@ -188,40 +188,47 @@ seat-gone ps i b p is h e = rw (take-take 2 260 (drop (i * 260) b) (omega arith)
 
 -- ---- the round
 
-module _ (m : List ℕ) (q : IsQueue m) (ps ps′ : List Seat) where
-  abbrev next : List ℕ
-  next = roundBytes (heldRound ps′ (heldRound ps (roundOf m)))
+module _ (m : List ℕ) (q : IsQueue m) where
+  three-bytes : getD m 1 0 ∷ getD m 2 0 ∷ getD m 3 0 ∷ [] ≡ roundBytes (roundOf m)
+  three-bytes = three m (omega (arith, q .long)) ∙ q .round
+    where
+      three : (m : List ℕ) → 4 ≤ length m → getD m 1 0 ∷ getD m 2 0 ∷ getD m 3 0 ∷ [] ≡ take 3 (drop 1 m)
+      three [] l = absurd (omega arith)
+      three (a ∷ []) l = absurd (omega arith)
+      three (a ∷ b ∷ []) l = absurd (omega arith)
+      three (a ∷ b ∷ c ∷ []) l = absurd (omega arith)
+      three (a ∷ b ∷ c ∷ d ∷ m) l = refl
 
-  pub round-anew : getD m 1 0 ≡ 0 → 0 ∷ 0 ∷ 0 ∷ [] ≡ next
-  unfolding roundOf
-  round-anew e = rw (eq-eqb (getD m 1 0) 0 e)
-
-  module _ (taken : getD m 1 0 ≡ 0 → ⊥) where
-    abbrev seat : Seat
-    seat = take 2 (drop 2 m)
-
-    pub seat-two : length seat ≡ 2
-    seat-two = length-take-le 2 (drop 2 m) (omega (arith, length-drop 2 m, q .long))
-
-    round-after : roundOf m ≡ after seat
+  module _ (ps : List Seat) where
+    pub round-anew : getD m 1 0 ≡ 0 → heldRound ps (roundOf m) ≡ roundOf m
     unfolding roundOf
-    round-after = rw (ne-eqb (getD m 1 0) 0 taken)
+    round-anew e = rw (eq-eqb (getD m 1 0) 0 e)
 
-    pub not-before : held ps seat ≡ false → 0 ∷ 0 ∷ 0 ∷ [] ≡ next
-    not-before e = rw (round-after, e)
+    module _ (taken : getD m 1 0 ≡ 0 → ⊥) where
+      abbrev seat : Seat
+      seat = take 2 (drop 2 m)
 
-    pub not-now : held ps seat ≡ true → held ps′ seat ≡ false → 0 ∷ 0 ∷ 0 ∷ [] ≡ next
-    not-now e f = rw (round-after, e, f)
+      pub seat-two : length seat ≡ 2
+      seat-two = length-take-le 2 (drop 2 m) (omega (arith, length-drop 2 m, q .long))
 
-    pub stays : held ps seat ≡ true → held ps′ seat ≡ true → 1 ∷ getD m 2 0 ∷ getD m 3 0 ∷ [] ≡ next
-    stays e f = rw (round-after, e, f) (ap (λ (l : List ℕ). 1 ∷ l) (both m (omega (arith, q .long))))
-      where
-        both : (m : List ℕ) → 4 ≤ length m → getD m 2 0 ∷ getD m 3 0 ∷ [] ≡ take 2 (drop 2 m)
-        both [] l = absurd (omega arith)
-        both (a ∷ []) l = absurd (omega arith)
-        both (a ∷ b ∷ []) l = absurd (omega arith)
-        both (a ∷ b ∷ c ∷ []) l = absurd (omega arith)
-        both (a ∷ b ∷ c ∷ d ∷ m) l = refl
+      pub round-seat : (b : Bool) → b ≡ held ps seat → heldRound ps (roundOf m) ≡ cond b (roundOf m) anew
+      unfolding roundOf
+      round-seat b e = rw (ne-eqb (getD m 1 0) 0 taken, e)
+
+    -- the bytes afterwards: whether it was held, and is held now
+    module _ (was : Bool) where
+      abbrev next : List ℕ
+      next = roundBytes (heldRound ps (cond was (roundOf m) anew))
+
+      pub not-before : was ≡ false → 0 ∷ 0 ∷ 0 ∷ [] ≡ next
+      not-before e = rw e
+
+      module _ (is : Bool) (told : heldRound ps (roundOf m) ≡ cond is (roundOf m) anew) (e : was ≡ true) where
+        pub not-now : is ≡ false → 0 ∷ 0 ∷ 0 ∷ [] ≡ next
+        not-now f = rw (e, told, f)
+
+        pub stays : is ≡ true → getD m 1 0 ∷ getD m 2 0 ∷ getD m 3 0 ∷ [] ≡ next
+        stays f = rw (e, told, f) three-bytes
 
 -- a seat's bytes, after 1
 pub round-bytes : (p : Seat) → length p ≡ 2 → 1 ∷ getD p 0 0 ∷ getD p 1 0 ∷ [] ≡ roundBytes (after p)
@@ -234,5 +241,5 @@ round-bytes p two = ap (λ (l : List ℕ). 1 ∷ l) (both p two)
     both (x ∷ y ∷ z ∷ p) l = absurd (omega arith)
 
 -- slots without some are few
-pub few-without : (m : List ℕ) (q : IsQueue m) (p : Row → Bool) → length (without p (rowsOf 260 (getD m 0 0) (slotsOf m))) ≤ 25
-few-without m q p = omega (arith, length-without p (rowsOf 260 (getD m 0 0) (slotsOf m)), length-rowsOf 260 (getD m 0 0) (slotsOf m), q .few)
+pub few-left : (m : List ℕ) (q : IsQueue m) (p : Row → Bool) (n : ℕ) → n ≡ length (without p (rowsOf 260 (getD m 0 0) (slotsOf m))) → n ≤ 25
+few-left m q p n e = omega (arith, e, length-without p (rowsOf 260 (getD m 0 0) (slotsOf m)), length-rowsOf 260 (getD m 0 0) (slotsOf m), q .few)

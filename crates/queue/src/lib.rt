@@ -8,11 +8,12 @@ use rows::part;
 use rules::CRED_ROW;
 use rules::CRED_ROWS;
 ghost use mathlib.Core.Path.{_≡_};
+ghost use mathlib.Core.Bool.{cond};
 ghost use mathlib.Core.List.{_∷_, _++_};
 ghost use Prim.Native.Nat.{ℕ, _+_, _*_, _-_, _≤_, _<_};
 ghost use lib.ListN.{length, take, drop, getD};
 ghost use Rattle.rows.specs.Rows.{rowsOf, packed, without, hasKey, stored, IsTable};
-ghost use Rattle.waiting.specs.Slots.{after as afterSeat, slotOf, recordOf, roundBytes, roundOf, waiting, memoryOf, freshMemory};
+ghost use Rattle.waiting.specs.Slots.{anew, after as afterSeat, slotOf, recordOf, roundBytes, roundOf, waiting, memoryOf, freshMemory};
 ghost use Rattle.waiting.specs.Round.{seatsIn, held as heldIn, gone, heldRound};
 ghost use Rattle.waiting.specs.Terminal.{withRecord};
 ghost use Rattle.queue.specs.Queue.{IsQueue};
@@ -121,45 +122,42 @@ fn drop_gone(rows: u8, creds: &[u8; CRED_ROWS], slots: &mut [u8], count: usize) 
     n
 }
 
-// The round's bytes where `rows` credential rows became `left`: it begins anew where its seat was none before, or is none now.
-fn round_after<'a>(
-    rows: u8,
-    creds: &'a [u8; CRED_ROWS],
-    left: u8,
-    next: &'a [u8; CRED_ROWS],
-    memory: &[u8],
-) -> [u8; 3]
+// Whether the round keeps its place beside `count` credential rows: it begins anew, or its seat is one of theirs.
+// Rules out: a round after a seat that no row has; one that begins anew taken for lost.
+pub fn round_held(count: u8, creds: &[u8; CRED_ROWS], memory: &[u8]) -> bool
     requires { ⌜ IsQueue (now memory) ⌝ }
-    ensures { λ r. ⌜ r ≡ roundBytes (heldRound (seatsIn left (now (next .entry))) (heldRound (seatsIn rows (now (creds .entry))) (roundOf (now (memory .entry))))) ⌝ }
+    ensures { λ r. ⌜ heldRound (seatsIn count (now (creds .entry))) (roundOf (now (memory .entry))) ≡ cond r (roundOf (now (memory .entry))) anew ⌝ }
 {
     if memory[1] == 0 {
-        return [0, 0, 0];
+        return true;
     }
-    let seat = part(memory, 2, 2);
-    if !seat_held(rows, creds, seat) {
-        return [0, 0, 0];
-    }
-    if !seat_held(left, next, seat) {
-        return [0, 0, 0];
-    }
-    [1, memory[2], memory[3]]
+    seat_held(count, creds, part(memory, 2, 2))
 }
 
-// What goes where `rows` credential rows became `left`: the slots whose seat is none any more, and the round with its seat.
-// Rules out: a record that outlives its row; one that goes though its row stays; a round that a new row revives.
-pub fn settle<'a>(
-    rows: u8,
-    creds: &'a [u8; CRED_ROWS],
-    left: u8,
-    next: &'a [u8; CRED_ROWS],
-    memory: &mut [u8],
-)
+// The round's bytes where the credential rows became these: it begins anew where it was not held before, or is not now.
+fn round_after(was_held: bool, count: u8, creds: &[u8; CRED_ROWS], memory: &[u8]) -> [u8; 3]
     requires { ⌜ IsQueue (now memory) ⌝ }
-    ensures { λ _. ⌜ now (memory .exit) ≡ memoryOf (heldRound (seatsIn left (now (next .entry))) (heldRound (seatsIn rows (now (creds .entry))) (roundOf (now (memory .entry))))) (without (gone (seatsIn left (now (next .entry)))) (waiting (now (memory .entry)))) ⌝ }
+    ensures { λ r. ⌜ r ≡ roundBytes (heldRound (seatsIn count (now (creds .entry))) (cond «was_held» (roundOf (now (memory .entry))) anew)) ⌝ }
 {
-    let round = round_after(rows, creds, left, next, memory);
-    let count = memory[0] as usize;
-    let kept = drop_gone(left, next, &mut memory[4..], count);
+    if !was_held {
+        return [0, 0, 0];
+    }
+    if !round_held(count, creds, memory) {
+        return [0, 0, 0];
+    }
+    [memory[1], memory[2], memory[3]]
+}
+
+// What goes where the credential rows became these: the slots whose seat is none any more, and the round with its seat.
+// `was_held` is what `round_held` said beside the rows before: so no copy of those is kept.
+// Rules out: a record that outlives its row; one that goes though its row stays; a round that a new row revives.
+pub fn settle(was_held: bool, count: u8, creds: &[u8; CRED_ROWS], memory: &mut [u8])
+    requires { ⌜ IsQueue (now memory) ⌝ }
+    ensures { λ _. ⌜ now (memory .exit) ≡ memoryOf (heldRound (seatsIn count (now (creds .entry))) (cond «was_held» (roundOf (now (memory .entry))) anew)) (without (gone (seatsIn count (now (creds .entry)))) (waiting (now (memory .entry)))) ⌝ }
+{
+    let round = round_after(was_held, count, creds, memory);
+    let used = memory[0] as usize;
+    let kept = drop_gone(count, creds, &mut memory[4..], used);
     put_head(memory, kept, round);
 }
 

@@ -9,15 +9,20 @@ use Rattle.rules.specs.Record.{Request, asked}
 use Rattle.rules.specs.Tables.{tablesOf}
 use Rattle.rules.specs.Defaults.{Defaults, defaults}
 use Rattle.rules.specs.Outcome.{Said, tablesAfter}
-use Rattle.waiting.specs.Slots.{roundOf, waiting}
-use Rattle.waiting.specs.Round.{seats}
+use Rattle.rows.specs.Rows.{without}
+use Rattle.waiting.specs.Slots.{Round, roundOf, waiting, memoryOf}
+use Rattle.waiting.specs.Round.{seats, gone, heldRound}
 use Rattle.execute.proofs.Laws.{cleared-memory, same-memory, moved-memory}
 use borrow.Author.Needs.{needs}
 use Rattle.execute.proofs.change.Statement.{statement}
 use Rattle.execute.proofs.change.Tie as tie
 
+-- back from the rows that changed to the round that was held, and to the start
+abbrev held-of : tie.After-execute → tie.After-round-held
+held-of c = c .before .before .before .before
+
 abbrev start : tie.After-execute → tie.Start
-start c = c .before .before .before .before .before .before .before .before .before
+start c = held-of c .before .before .before .before .before .before .before .before
 
 -- back from the test of RESET, and from the rows that are counted
 abbrev ran : tie.After-is-reset → tie.After-execute
@@ -62,24 +67,26 @@ returns-2 c =
     )
 
 settle-requires : tie.Need-settle-requires
-settle-requires c κs = start (ran (tested (c .before .before .before .before))) .pre .1 .0
+settle-requires c κs = start (ran (tested (c .before .before .before))) .pre .1 .0
 
 returns-3 : tie.Need-returns-3
 unfolding seats
 returns-3 c =
-    let count = c .before .before .before .before in
+    let count = c .before .before .before in
     let reset = tested (count .before) in
     let call = ran reset in
     let s = start call in (
       call .execute .ensures,
-      c .settle .ensures ∙ moved-memory (tables s) (request s) (s .args .d) (s .pre .0 .1) (s .pre .0 .2) (s .pre .0 .0) (lists s) _ (reset .is-reset .ensures) (left call) (left-is call) _ _ (count .before .before .before .before .if1 .left) (count .if2 .left),
+      c .settle .ensures
+          ∙ ap (λ (k : Round). memoryOf (heldRound (seats (left call)) k) (without (gone (seats (left call))) (waiting (now (s .args .memory))))) (sym (held-of call .round-held .ensures))
+          ∙ moved-memory (tables s) (request s) (s .args .d) (s .pre .0 .1) (s .pre .0 .2) (s .pre .0 .0) (lists s) _ (reset .is-reset .ensures) (left call) (left-is call) _ _ (count .before .before .before .before .if1 .left) (count .if2 .left),
     )
 
 pub change-spec : {M : Type 1} → statement M
 change-spec =
     tie.close
     (tie.spec
-    (λ c κs. search needs) (λ c κs. search needs) (λ c κs. search needs) (λ c. search needs) returns
+    (λ c κs. search needs) (λ c κs. search needs) (λ c κs. search needs) (λ c κs. search needs) (λ c. search needs) returns
     (λ c. search needs) returns-2
     settle-requires
     (λ c. search needs) returns-3)

@@ -1,7 +1,9 @@
--- `ace_storable`: the length, then test by test.
+-- `ace_storable`: the length, the set, then test by test.
+use mathlib.Core.Path.{sym, _∙_}
+use mathlib.Core.Bool.{and-true, and-false}
 use Rattle.rules.specs.Bodies.{aceStorable}
 use borrow.Author.Needs.{needs}
-use borrow.Author.Tests.{eq-eqb, ne-eqb}
+use borrow.Author.Tests.{eq-eqb, ne-eqb, not-true, not-false}
 use lib.ListN.{length}
 use Rattle.format.proofs.ace_storable.Statement.{statement}
 use Rattle.format.proofs.ace_storable.Tie as tie
@@ -12,14 +14,20 @@ returns c = rw (ne-eqb (length (c .before .before .args .row .now)) 36 (c .if1 .
 
 returns-2 : tie.Need-returns-2
 unfolding aceStorable
-returns-2 c =
-    let last = c .before .before in
+returns-2 c = rw (sym (c .before .set-known .ensures) ∙ not-true _ (c .if2 .taken), and-false)
+
+returns-3 : tie.Need-returns-3
+unfolding aceStorable
+returns-3 c =
+    let last = c .before in
     let zeros = last .before .before in
-    let test = zeros .before .before in
+    let set = zeros .before .before in
+    let test = set .before .before in
     rw (
       eq-eqb (length (test .before .before .args .row .now)) 36 (test .if1 .left),
+      sym (set .before .set-known .ensures) ∙ not-false _ (set .if2 .left),
+      and-true,
       c .subject-storable .ensures,
-      c .before .set-known .ensures,
       last .last .ensures,
       last .before .first .ensures,
       zeros .zeros .ensures,
@@ -31,4 +39,5 @@ ace-storable-spec =
     tie.close
     (tie.spec
     returns
-    (λ c κs. search needs) (λ c κs. search needs) (λ c κs. search needs) (λ c κs. search needs) (λ c κs. search needs) (λ c κs. search needs) returns-2)
+    (λ c κs. search needs) returns-2
+    (λ c κs. search needs) (λ c κs. search needs) (λ c κs. search needs) (λ c κs. search needs) (λ c κs. search needs) returns-3)

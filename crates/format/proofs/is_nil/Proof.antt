@@ -1,15 +1,39 @@
--- `is_nil`: the constant is the definition's nil.
-use Rattle.rules.specs.Bodies.{nil, isNil}
+-- `is_nil`: sixteen bytes are the definition's nil where each is 0, and bytes of another length are not.
+use mathlib.Core.Path.{_≡_, refl, sym, ap, _∙_}
+use mathlib.Core.Bool.{Bool, _&&_}
+use mathlib.Core.List.{List, [], _∷_}
+use Prim.Native.Nat.{ℕ}
+use denote.Ref.{now}
+use lib.Dec.{eqb}
+use lib.ListN.{length, replicate}
 use borrow.Author.Needs.{needs}
+use Rattle.rows.specs.Rows.{allZero, same}
+use Rattle.rows.proofs.Kept.{same-true}
+use Rattle.rules.specs.Bodies.{nil, isNil}
+use Rattle.rules.proofs.Bools.{bool-cases}
 use Rattle.format.proofs.is_nil.Statement.{statement}
 use Rattle.format.proofs.is_nil.Tie as tie
 
+zeros-same : (u : List ℕ) → allZero u ≡ same u (replicate (length u) 0)
+unfolding allZero same
+zeros-same [] = refl
+zeros-same (x ∷ u) = ap (λ (t : Bool). eqb x 0 && t) (zeros-same u)
+
+long : length nil ≡ 16
+unfolding nil
+long = refl
+
 returns : tie.Need-returns
+unfolding isNil
+returns c =
+    let u = now (c .before .before .args .uuid) in
+    sym (bool-cases (same u nil) (λ t. absurd (c .if1 .taken (ap length (same-true u nil t) ∙ long))) (λ f. f))
+
+returns-2 : tie.Need-returns-2
 unfolding isNil nil
-returns c = c .same-bytes .ensures
+returns-2 c =
+    let u = now (c .before .before .before .args .uuid) in
+    c .short-zero .ensures ∙ zeros-same u ∙ ap (λ (n : ℕ). same u (replicate n 0)) (c .before .if1 .left)
 
 pub is-nil-spec : {M : Type 1} → statement M
-is-nil-spec =
-    tie.close
-    (tie.spec
-    (λ c. search needs) (λ c κs. search needs) returns)
+is-nil-spec = tie.close (tie.spec returns (λ c κs. search needs) returns-2)

@@ -4,7 +4,7 @@ use Rattle.format.proofs.row_storable.Statement.{statement}
 use Rattle.format.proofs.row_storable.Tie as tie
 
 returns : tie.Need-returns
-returns c = rw (c .before .enum-told .given .1) (c .cred-held .ensures)
+returns c = rw (c .before .enum-told .given .1) (c .cred-row-held .ensures)
 
 returns-2 : tie.Need-returns-2
 returns-2 c = rw (c .before .enum-told2 .given .1) (c .ace-storable .ensures)

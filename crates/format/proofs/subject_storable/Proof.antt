@@ -12,11 +12,11 @@ returns c = let at = c .before in rw (sym (at .before .kind .ensures) ∙ at .ma
 
 returns-2 : tie.Need-returns-2
 unfolding subjectStorable
-returns-2 c = let at = c .before .before .before in rw (sym (at .before .kind .ensures) ∙ at .match .keys2, c .role .ensures, c .before .all-zero .ensures, c .before .before .part .ensures, at .before .before .subject .ensures)
+returns-2 c = let at = c .before .before .before in rw (sym (at .before .kind .ensures) ∙ at .match .keys2, c .role .ensures, c .before .short-zero .ensures, c .before .before .part .ensures, at .before .before .subject .ensures)
 
 returns-3 : tie.Need-returns-3
 unfolding subjectStorable
-returns-3 c = let at = c .before .before .before in rw (sym (at .before .kind .ensures) ∙ at .match .keys3, c .connection-zeros .ensures, c .before .all-zero2 .ensures, c .before .before .part2 .ensures, at .before .before .subject .ensures)
+returns-3 c = let at = c .before .before .before in rw (sym (at .before .kind .ensures) ∙ at .match .keys3, c .connection-zeros .ensures, c .before .short-zero2 .ensures, c .before .before .part2 .ensures, at .before .before .subject .ensures)
 
 returns-4 : tie.Need-returns-4
 unfolding subjectStorable

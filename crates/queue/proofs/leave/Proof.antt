@@ -6,7 +6,7 @@ use denote.Ref.{now}
 use lib.ListN.{length, getD}
 use Rattle.rows.specs.Rows.{Row, rowsOf, without, hasKey}
 use Rattle.waiting.specs.Slots.{after, memoryOf}
-use Rattle.queue.proofs.Laws.{slotsOf, slots-table, slots-rows, between-long, changed, few-without, round-bytes}
+use Rattle.queue.proofs.Laws.{slotsOf, slots-table, slots-rows, between-long, changed, few-left, round-bytes}
 use borrow.Author.Needs.{needs}
 use Rattle.queue.proofs.leave.Statement.{statement}
 use Rattle.queue.proofs.leave.Tie as tie
@@ -40,7 +40,7 @@ put-head-requires c κs =
     let call = c .before .before .before .before .before in
     let s = call .before .before .before .before .before in
     let m = now (s .args .memory) in
-    (omega (arith, between-long m (s .pre .0) (call .take-out .last .0) (call .take-out .kept .0)), omega (arith, call .take-out .ensures .0, few-without m (s .pre .0) (hasKey 0 (now (s .args .seat)))))
+    (omega (arith, between-long m (s .pre .0) (call .take-out .last .0) (call .take-out .kept .0)), few-left m (s .pre .0) _ _ (call .take-out .ensures .0))
 
 same-length : tie.Need-same-length
 same-length c = search needs

@@ -1,13 +1,14 @@
 -- `settle`: the slots, then the head.
 use mathlib.Core.Path.{_≡_, ap, _∙_}
+use mathlib.Core.Bool.{cond}
 use mathlib.Core.List.{List}
 use native.Mathlib.Omega.{arith}
 use denote.Ref.{now}
 use lib.ListN.{length, getD}
 use Rattle.rows.specs.Rows.{Row, rowsOf, without}
-use Rattle.waiting.specs.Slots.{roundOf, memoryOf}
+use Rattle.waiting.specs.Slots.{anew, roundOf, memoryOf}
 use Rattle.waiting.specs.Round.{seatsIn, gone, heldRound}
-use Rattle.queue.proofs.Laws.{slotsOf, slots-table, slots-rows, between-long, changed, few-without}
+use Rattle.queue.proofs.Laws.{slotsOf, slots-table, slots-rows, between-long, changed, few-left}
 use borrow.Author.Needs.{needs}
 use Rattle.queue.proofs.settle.Statement.{statement}
 use Rattle.queue.proofs.settle.Tie as tie
@@ -15,11 +16,11 @@ use Rattle.queue.proofs.settle.Tie as tie
 round-after-requires : tie.Need-round-after-requires
 round-after-requires c κs = search needs
 
-slice-read-count : tie.Need-slice-read-count
-slice-read-count c = search needs
+slice-read-used : tie.Need-slice-read-used
+slice-read-used c = search needs
 
-cast-count : tie.Need-cast-count
-cast-count c = search needs
+cast-used : tie.Need-cast-used
+cast-used c = search needs
 
 sub-drop-gone : tie.Need-sub-drop-gone
 sub-drop-gone c = search needs
@@ -38,7 +39,7 @@ put-head-requires c κs =
     let call = c .before .before .before in
     let s = call .before .before .before .before .before .before in
     let m = now (s .args .memory) in
-    (omega (arith, between-long m (s .pre) (call .drop-gone .last .1 .1 .0) (call .drop-gone .kept .1 .1 .0)), omega (arith, call .drop-gone .ensures .0, few-without m (s .pre) (gone (seatsIn (s .args .left) (now (s .args .next))))))
+    (omega (arith, between-long m (s .pre) (call .drop-gone .last .1 .1 .0) (call .drop-gone .kept .1 .1 .0)), few-left m (s .pre) _ _ (call .drop-gone .ensures .0))
 
 same-length : tie.Need-same-length
 same-length c = search needs
@@ -50,9 +51,8 @@ returns c =
     let turn = call .before .before .before in
     let s = turn .before .before .before in
     let m = now (s .args .memory) in
-    let before = seatsIn (s .args .rows) (now (s .args .creds)) in
-    let after = seatsIn (s .args .left) (now (s .args .next)) in
-    let k = heldRound after (heldRound before (roundOf m)) in
+    let after = seatsIn (s .args .count) (now (s .args .creds)) in
+    let k = heldRound after (cond (s .args .was-held) (roundOf m) anew) in
     changed m (s .pre) k (without (gone after) (rowsOf 260 (getD m 0 0) (slotsOf m))) _ _ _ _ (call .drop-gone .ensures .0) (call .drop-gone .ensures .1) (turn .round-after .ensures) (head .put-head .ensures)
     ∙ ap (λ (ws : List Row). memoryOf k (without (gone after) ws)) (slots-rows m (s .pre))
 
@@ -61,8 +61,8 @@ settle-spec =
     tie.close
     (tie.spec
     round-after-requires
-    slice-read-count
-    cast-count
+    slice-read-used
+    cast-used
     sub-drop-gone
     part-drop-gone-start
     part-drop-gone-end
