@@ -1,13 +1,10 @@
--- `check_terminal`: by the test.
-use mathlib.Core.Path.{_≡_, ap, _∙_}
-use mathlib.Core.Bool.{Bool, not}
-use Rattle.rules.specs.Checks.{refuseIf}
+-- `check_terminal`: the test is the definition.
 use borrow.Author.Needs.{needs}
 use Rattle.slots.proofs.check_terminal.Statement.{statement}
 use Rattle.slots.proofs.check_terminal.Tie as tie
 
 returns : tie.Need-returns
-returns c = c .refuse-if .ensures ∙ ap (λ (b : Bool). refuseIf 1 (not b)) (c .before .terminal-sound .ensures)
+returns c = rw (c .before .terminal-sound .ensures) at (c .refuse-if .ensures)
 
 pub check-terminal-spec : {M : Type 1} → statement M
 check-terminal-spec = tie.close (tie.spec (λ c κs. search needs) (λ c κs. search needs) returns)
