@@ -5,7 +5,7 @@ use mathlib.Core.Path.{_≡_, refl, sym, ap, ap₂, _∙_}
 use mathlib.Core.Bool.{Bool, true, false, not, _&&_}
 use mathlib.Core.List.{List, [], _∷_, _++_}
 use lib.Dec.{eqb}
-use lib.ListN.{length, take, getD, replicate, length-append}
+use lib.ListN.{length, take, getD, replicate}
 use lib.Seq.{take-at}
 use Rattle.rows.specs.Rows.{Row, hasKey, every, without, distinctNumbers}
 use Rattle.rows.proofs.Kept.{every-without, distinct-without}
@@ -35,21 +35,11 @@ padded-back : (r : List ℕ) → take (length r) (padded r) ≡ r
 unfolding padded
 padded-back r = take-at r (replicate (256 - length r) 0) (length r) refl
 
-padded-long : (r : List ℕ) → length r ≤ length (padded r)
-unfolding padded
-padded-long r = omega (arith, length-append r (replicate (256 - length r) 0))
-
 -- ---- the record handed to the decision
 
 module _ (x : Terminal) (q : Due) (is : q ≡ dueOf x) where
-  pub prefix-fits : q .size ≤ length (q .bytes)
-  prefix-fits = rw is (padded-long (due x))
-
-  pub prefix-is : take (q .size) (q .bytes) ≡ due x
+  prefix-is : take (q .size) (q .bytes) ≡ due x
   prefix-is = ap (λ (z : Due). take (z .size) (z .bytes)) is ∙ padded-back (due x)
-
-  pub prefix-long : q .size ≡ length (take (q .size) (q .bytes))
-  prefix-long = ap (λ (z : Due). z .size) is ∙ sym (ap length prefix-is)
 
   pub seat-is : q .seat ≡ turn x
   seat-is = ap (λ (z : Due). z .seat) is
@@ -93,12 +83,12 @@ module _ (d : Defaults) (t : Tables) (m : List ℕ) (clock room : ℕ) (c : Chec
   pub ready : c ≡ Pass → (soundTerminal (terminal t m) ≡ true) × (eqb (length (waiting m)) 0 ≡ false)
   ready e = take-passed (terminal t m) (sym told ∙ e)
 
-  module _ (e : c ≡ Pass) (q : Due) (is : q ≡ dueOf (terminal t m)) where
+  module _ (e : c ≡ Pass) (q : Due) (is : q ≡ dueOf (terminal t m)) (bytes : List ℕ) (front : bytes ≡ take (q .size) (q .bytes)) where
     abbrev pub handed : Request
-    handed = asked clock (take (q .size) (q .bytes)) room
+    handed = asked clock bytes room
 
     handed-is : handed ≡ asked clock (due (terminal t m)) room
-    handed-is = ap (λ (r : List ℕ). asked clock r room) (prefix-is (terminal t m) q is)
+    handed-is = ap (λ (r : List ℕ). asked clock r room) (front ∙ prefix-is (terminal t m) q is)
 
     -- by the memory that is left
     pub one-taken : (s : Said) (m′ b b′ : List ℕ) → s ≡ judgementOf (outcome d t handed) → b′ ≡ filled b (replyTo d t handed .contents)

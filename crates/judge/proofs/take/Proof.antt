@@ -16,7 +16,7 @@ use Rattle.waiting.specs.Terminal.{Terminal, terminal, soundTerminal, memoryAft
 use Rattle.waiting.proofs.Sound.{terminal-parts}
 use Rattle.queue.specs.Queue.{IsQueue}
 use Rattle.judge.proofs.Laws.{turned-buffer, turned-memory, turned-said}
-use Rattle.judge.proofs.TakeLaws.{prefix-fits, prefix-long, seat-is, can-leave, left-queue, left-round, left-waiting, ready, nothing-taken, handed, one-taken}
+use Rattle.judge.proofs.TakeLaws.{seat-is, can-leave, left-queue, left-round, left-waiting, ready, nothing-taken, handed, one-taken}
 use borrow.Author.Needs.{needs}
 use Rattle.judge.proofs.take.Statement.{statement}
 use Rattle.judge.proofs.take.Tie as tie
@@ -34,8 +34,11 @@ room s = length (now (s .args .reply))
 abbrev found : tie.After-due-record → tie.After-enum-told
 found c = c .before .before .before .before .before
 
+abbrev part-of : tie.After-decide → tie.After-part
+part-of c = c .before .before .before
+
 abbrev due-of : tie.After-decide → tie.After-due-record
-due-of c = c .before .before .before .before .before .before
+due-of c = part-of c .before .before .before .before .before
 
 abbrev decided-of : tie.After-leave → tie.After-decide
 decided-of c = c .before .before .before
@@ -54,13 +57,14 @@ is-sound : (c : tie.After-enum-told) → sound (terminal-of c .tables) ≡ true
 is-sound c = terminal-parts (terminal-of c) (can-take c .0) .tables
 
 -- the record's request
-abbrev request : tie.After-due-record → Request
+abbrev request : tie.After-decide → Request
 request c =
-    let told = found c in
+    let due = due-of c in
+    let told = found due in
     let call = told .before .before in
     let s = start call in
     let x = terminal-of told in
-    handed (lists s) (x .tables) (x .memory) (s .args .clock) (room s) _ (call .check-take .ensures) (told .enum-told .given .1) _ (c .due-record .ensures)
+    handed (lists s) (x .tables) (x .memory) (s .args .clock) (room s) _ (call .check-take .ensures) (told .enum-told .given .1) _ (due .due-record .ensures) _ (part-of c .part .ensures)
 
 leaves : (c : tie.After-decide) → let due = due-of c in IsQueue (terminal-of (found due) .memory) × (length (due .due-record .result .seat) ≡ 2)
 leaves c =
@@ -99,12 +103,6 @@ returns c =
 due-record-requires : tie.Need-due-record-requires
 due-record-requires c κs = can-take (c .before .before .before .before)
 
-array-share-prefix-bytes : tie.Need-array-share-prefix-bytes
-array-share-prefix-bytes c = let due = c .before .before in prefix-fits (terminal-of (found due)) _ (due .due-record .ensures)
-
-slice-aggregate-due : tie.Need-slice-aggregate-due
-slice-aggregate-due c = let due = c .before .before .before in prefix-long (terminal-of (found due)) _ (due .due-record .ensures)
-
 slice-aggregate-leave : tie.Need-slice-aggregate-leave
 slice-aggregate-leave c = sym (leaves (c .before .before) .1)
 
@@ -113,7 +111,7 @@ leave-requires c κs = leaves (c .before .before)
 
 returns-2 : tie.Need-returns-2
 returns-2 c =
-    let no = c .before in
+    let no = c .before .before in
     let left = no .before .before in
     let made = decided-of left in
     let due = due-of made in
@@ -121,10 +119,10 @@ returns-2 c =
     let call = told .before .before in
     let s = start call in
     let x = terminal-of told in
-    let q = request due in
+    let q = request made in
     let r = no .enum-told4 .given .1 in
-    one-taken (lists s) (x .tables) (x .memory) (s .args .clock) (room s) _ (call .check-take .ensures) (told .enum-told .given .1) _ (due .due-record .ensures) _ _ _ _
-    (turned-said (lists s) (s .args .h) (now (s .args .creds)) (now (s .args .aces)) q (is-sound told) _ (made .decide .ensures) _ r _ (c .refused2 .ensures))
+    one-taken (lists s) (x .tables) (x .memory) (s .args .clock) (room s) _ (call .check-take .ensures) (told .enum-told .given .1) _ (due .due-record .ensures) _ (part-of made .part .ensures) _ _ _ _
+    (turned-said (lists s) (s .args .h) (now (s .args .creds)) (now (s .args .aces)) q (is-sound told) _ (made .decide .ensures) _ r _ (c .before .refused2 .ensures))
     (turned-buffer (lists s) (x .tables) q (is-sound told) _ (made .decide .ensures) _ r _)
     (left-is left ∙ turned-memory (lists s) (x .tables) q (is-sound told) _ (made .decide .ensures) _ r _ _)
 
@@ -144,7 +142,7 @@ carry-out-requires c κs =
 
 returns-3 : tie.Need-returns-3
 returns-3 c =
-    let done = c .before .before in
+    let done = c .before .before .before in
     let left = done .before .before .before .before .before .before .before in
     let made = decided-of left in
     let due = due-of made in
@@ -152,15 +150,15 @@ returns-3 c =
     let call = told .before .before in
     let s = start call in
     let x = terminal-of told in
-    one-taken (lists s) (x .tables) (x .memory) (s .args .clock) (room s) _ (call .check-take .ensures) (told .enum-told .given .1) _ (due .due-record .ensures) _ _ _ _
+    one-taken (lists s) (x .tables) (x .memory) (s .args .clock) (room s) _ (call .check-take .ensures) (told .enum-told .given .1) _ (due .due-record .ensures) _ (part-of made .part .ensures) _ _ _ _
     (done .carry-out .ensures .0 .says) (done .carry-out .ensures .0 .fills)
-    (done .carry-out .ensures .1 ∙ ap₂ (λ (k : Round) (ws : List Row). memoryAfter (lists s) (x .tables) (request due) k ws) (left-turn left) (left-slots left))
+    (done .carry-out .ensures .1 ∙ ap₂ (λ (k : Round) (ws : List Row). memoryAfter (lists s) (x .tables) (request made) k ws) (left-turn left) (left-slots left))
 
 pub take-spec : {M : Type 1} → statement M
 take-spec =
     tie.close
     (tie.spec
     (λ c κs. search needs) (λ c. search needs) (λ c. search needs) (λ c κs. search needs) returns
-    due-record-requires array-share-prefix-bytes slice-aggregate-due
+    due-record-requires (λ c κs. search needs)
     (λ c κs. search needs) slice-aggregate-leave leave-requires (λ c. search needs) (λ c. search needs) (λ c κs. search needs) returns-2
     carry-out-requires (λ c. search needs) returns-3)
