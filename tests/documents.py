@@ -66,8 +66,8 @@ SPECS = {
         "Action": "rules/specs/Action",
         "States": "rules/specs/States",
         "Tables": "rules/specs/Tables",
-        "Old": "legacy/specs/OldList",
-        "Slots": "waiting/specs/Slots",
+        "Old": "rules_legacy/specs/OldList",
+        "Slots": "rules_waiting/specs/Slots",
     }.items()
 }
 
@@ -267,8 +267,8 @@ def plain_number(text, constants):
 def struct_fields():
     source = read("crates/rules/src/lib.rt")
     constants = {}
-    for name, value in re.findall(r"pub const (\w+): usize = ([^;]+);", source):
-        constants[name] = plain_number(value, constants)
+    for name, value in re.findall(r"pub const (\w+): (?:usize|u8) = ([^;]+);", source):
+        constants[name] = plain_number(value.replace(" as usize", ""), constants)
     block = re.search(r"pub struct Tables \{(.*?)\n\}", source, re.S)
     if not block:
         raise Changed("crates/rules/src/lib.rt has no struct Tables")

@@ -1,13 +1,14 @@
 // The decision on a record beside sound tables: the checks after 1 in their order and, where none applies, what is permitted.
 // The resource's row of the directory and the sender's own row are found once, for all checks and for the permission. Check 1 is the caller's, since it covers the memory of waiting records too.
 use action::action_of;
-use asked::check_asked;
+use check_asked::check_asked;
+use check_header::check_header;
 use directory::resource_row;
 use fields::record::resource_of;
-use header::check_header;
 use permission::effective;
 use reading::check_room;
 use reading::reply_length;
+use rules::ACE_ROWS;
 use rules::Action;
 use rules::CRED_ROWS;
 use rules::Check;
@@ -19,7 +20,7 @@ use sender::own_row;
 ghost use mathlib.Core.Path.{_≡_};
 ghost use Rattle.rules.specs.declared.Table.the-variants.{Creds};
 ghost use Rattle.rules.specs.Directory.{resourceOf};
-ghost use Rattle.rules.specs.Record.{asked, resource, sender};
+ghost use Rattle.rules.specs.Record.{received, resource, sender};
 ghost use Rattle.rules.specs.Tables.{tablesOf, rows};
 ghost use Rattle.rules.specs.Decision.{nothingGranted, granted, decided};
 ghost use Rattle.sender.specs.Own.{Own};
@@ -32,7 +33,7 @@ fn turned_away(c: Check) -> Decision
         check: c,
         permission: 0,
         action: Action::Malformed,
-        length: 0,
+        reply: 0,
     }
 }
 
@@ -42,7 +43,7 @@ pub fn grant<'a>(
     clock: u32,
     h: Head,
     creds: &'a [u8; CRED_ROWS],
-    aces: &'a [u8; 1152],
+    aces: &'a [u8; ACE_ROWS],
     cred: &[u8],
     record: &[u8],
     e: Resource,
@@ -50,7 +51,7 @@ pub fn grant<'a>(
 ) -> Decision
     requires { ⌜ Own (rows Creds (tablesOf h (now creds) (now aces))) (sender (now «record»)) (now cred) ⌝ }
     requires { ⌜ e ≡ resourceOf (resource (now «record»)) ⌝ }
-    ensures { λ r. ⌜ r ≡ granted (tablesOf h (now (creds .entry)) (now (aces .entry))) (asked clock (now («record» .entry)) room) ⌝ }
+    ensures { λ r. ⌜ r ≡ granted (tablesOf h (now (creds .entry)) (now (aces .entry))) (received clock (now («record» .entry)) room) ⌝ }
 {
     let permission = effective(clock, h, creds, aces, cred, record, e);
     let a = action_of(record, e);
@@ -67,7 +68,7 @@ pub fn grant<'a>(
         check: c,
         permission: permission,
         action: a,
-        length: length,
+        reply: length,
     }
 }
 
@@ -77,11 +78,11 @@ pub fn decide<'a>(
     clock: u32,
     h: Head,
     creds: &'a [u8; CRED_ROWS],
-    aces: &'a [u8; 1152],
+    aces: &'a [u8; ACE_ROWS],
     record: &[u8],
     room: usize,
 ) -> Decision
-    ensures { λ r. ⌜ r ≡ decided (tablesOf h (now (creds .entry)) (now (aces .entry))) (asked clock (now («record» .entry)) room) ⌝ }
+    ensures { λ r. ⌜ r ≡ decided (tablesOf h (now (creds .entry)) (now (aces .entry))) (received clock (now («record» .entry)) room) ⌝ }
 {
     let e = resource_row(resource_of(record) as usize);
     let c = check_header(record, e);

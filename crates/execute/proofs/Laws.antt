@@ -1,23 +1,11 @@
 -- What a decision that passes says of the record: it passed every check, so the outcome is its effect; and the memory that it leaves.
-use Prim.Native.Nat.{ℕ, _≤_}
-use mathlib.Core.Path.{_≡_, refl, sym, ap, _∙_}
-use mathlib.Core.Bool.{Bool, true, false, not, _&&_}
-use mathlib.Core.Logic.{⊎-elim}
-use mathlib.Core.List.{List, [], _∷_, _++_}
-use native.Mathlib.Omega.{arith}
-use lib.Dec.{eqb}
-use lib.ListN.{length}
-use borrow.Author.Tests.{eq-eqb, ne-eqb, eqb-false, not-true, ltb-false}
-use types.Run.{OneOf}
-use denote.Enum.Declared.{tagOf}
+use Rattle.rows.proofs.Prelude.{_≡_, refl, sym, ap, _∙_, Bool, true, false, not, _&&_, List, [], _∷_, _++_, ℕ, _≤_, length, eqb, eq-eqb, ltb-false, ne-eqb}
 use Rattle.rows.specs.Rows.{Row, without}
 use Rattle.text.specs.Buffer.{Puts}
 use Rattle.text.proofs.Buffers.{written-start}
 use Rattle.rules.specs.declared.Tables.{Tables}
-use Rattle.rules.specs.declared.Check.{Check}
-use Rattle.rules.specs.declared.Check.the-variants.{Pass, Refuse}
-use Rattle.rules.specs.declared.Action.{Action}
-use Rattle.rules.specs.declared.Action.the-variants.{Serve, Read, SetRowOwner, SetOwner, SetState, Store, Remove, Assert, Malformed}
+use Rattle.rules.specs.declared.Check.the-variants.{Pass}
+use Rattle.rules.specs.declared.Action.the-variants.{Serve}
 use Rattle.rules.specs.declared.Decision.{Decision}
 use Rattle.rules.specs.declared.Places.{Places}
 use Rattle.rules.specs.declared.Links.{Links}
@@ -31,15 +19,12 @@ use Rattle.rules.specs.Links.{linksOf}
 use Rattle.rules.specs.Reading.{replyOf, tooShort, filled}
 use Rattle.rules.specs.Checks.{verdict, senderChecks, formChecks, requestChecks, stateChecks, rowChecks, askedChecks, roomChecks, checks}
 use Rattle.rules.specs.Decision.{grantChecks, decisionChecks, decisionBy, decided}
-use Rattle.rules.specs.Outcome.{Outcome, outcomeOf, outcomeAt, outcome, replyTo, tablesAfter, judgementOf, effect}
-use Rattle.rules.proofs.Action.{the-type}
-use Rattle.rules.proofs.Bools.{and-left, and-right}
+use Rattle.rules.specs.Outcome.{Outcome, outcomeOf, outcomeAt, outcome, toldTo, tablesAfter, judgementOf, effect}
 use Rattle.rules.proofs.CheckLaws.{skip-at, rest-passes}
 use Rattle.rules.proofs.Answers.{passed}
-use Rattle.rules.proofs.Others.{lacks}
-use Rattle.waiting.specs.Slots.{Round, memoryOf, freshMemory}
-use Rattle.waiting.specs.Round.{seats, gone, heldRound}
-use Rattle.waiting.specs.Terminal.{isReset, clears, asMany, memoryAfter}
+use Rattle.rules_waiting.specs.Slots.{Round, memoryOf, freshMemory}
+use Rattle.rules_waiting.specs.Round.{seats, gone, heldRound}
+use Rattle.rules_waiting.specs.Terminal.{isReset, clears, asMany, memoryAfter}
 use Rattle.decision.proofs.Laws.{check-decided}
 
 -- ---- a group of checks that passes
@@ -63,8 +48,8 @@ module _ (t : Tables) (q : Request) (g : Decision) (is : g ≡ decided t q) (pas
   pub action-is : g .action ≡ action (q .bytes)
   action-is = ap (λ (x : Decision). x .action) granted-is
 
-  pub length-is : g .length ≡ length (replyOf (q .clock) t (q .bytes))
-  length-is = ap (λ (x : Decision). x .length) granted-is
+  pub length-is : g .reply ≡ length (replyOf (q .clock) t (q .bytes))
+  length-is = ap (λ (x : Decision). x .reply) granted-is
 
   grant-passes : verdict (grantChecks t q) ≡ Pass
   grant-passes = rest-passes (senderChecks t (q .bytes)) (grantChecks t q) all-pass
@@ -93,7 +78,7 @@ module _ (t : Tables) (q : Request) (g : Decision) (is : g ≡ decided t q) (pas
     -- what is said, with the tables afterwards, and the buffer
     pub says : (d : Defaults) (p : Places) (k : Links) (next : Tables) → p ≡ placesOf t (body (q .bytes)) (g .action) → k ≡ linksOf (q .clock) t (q .bytes)
         → next ≡ effect d (q .clock) t (q .bytes) (g .action)
-        → record { answer = 0; permission = g .permission; length = g .length; places = p; links = k; tables = next } ≡ judgementOf (outcome d t q)
+        → record { answer = 0; permission = g .permission; reply = g .reply; places = p; links = k; tables = next } ≡ judgementOf (outcome d t q)
     unfolding outcome outcomeAt
     says d p k next e f i = rw (← whole, e, f, i, granted-is)
 
@@ -101,9 +86,10 @@ module _ (t : Tables) (q : Request) (g : Decision) (is : g ≡ decided t q) (pas
     unfolding outcome outcomeAt
     passes d = ap (outcomeOf d t (permission (q .clock) t (q .bytes)) q) whole
 
-    pub fills : (d : Defaults) (b b′ : List ℕ) (n : ℕ) → length b ≡ q .room → Puts b 0 (replyOf (q .clock) t (q .bytes)) b′ n → b′ ≡ filled b (replyTo d t q .contents)
+    pub fills : (d : Defaults) (b b′ : List ℕ) (n : ℕ) → length b ≡ q .room → Puts b 0 (replyOf (q .clock) t (q .bytes)) b′ n
+        → b′ ≡ filled b (toldTo d t q .contents)
     unfolding filled
-    fills d b b′ n l p = p .buffer ∙ written-start b _ (rw l reply-fits) ∙ ap (λ (o : Outcome). filled b (o .reply .contents)) (passes d)
+    fills d b b′ n l p = p .buffer ∙ written-start b _ (rw l reply-fits) ∙ ap (λ (o : Outcome). filled b (o .told .contents)) (passes d)
 
     -- a record of an application resource leaves the tables
     pub served : (d : Defaults) → g .action ≡ Serve → tablesAfter d t q ≡ t
@@ -111,7 +97,7 @@ module _ (t : Tables) (q : Request) (g : Decision) (is : g ≡ decided t q) (pas
 
     clears-is : (d : Defaults) → clears d t q ≡ isReset (g .action)
     unfolding clears
-    clears-is d = sym (ap (λ (o : Outcome). eqb (o .reply .answer) 0 && isReset (action (q .bytes))) (passes d)) ∙ ap isReset (sym action-is)
+    clears-is d = sym (ap (λ (o : Outcome). eqb (o .told .answer) 0 && isReset (action (q .bytes))) (passes d)) ∙ ap isReset (sym action-is)
 
     -- ---- the memory that it leaves
 
@@ -125,7 +111,8 @@ module _ (t : Tables) (q : Request) (g : Decision) (is : g ≡ decided t q) (pas
         unfolding memoryAfter asMany
         same-memory n = sym (rw (clears-is d ∙ sym told ∙ e, ap (λ (v : Tables). eqb (t .ncreds) (v .ncreds)) (sym after) ∙ eq-eqb (t .ncreds) (u .ncreds) (sym n)))
 
-        pub moved-memory : (u .ncreds ≡ t .ncreds → ⊥) → memoryOf (heldRound (seats u) (heldRound (seats t) k)) (without (gone (seats u)) ws) ≡ memoryAfter d t q k ws
+        pub moved-memory : (u .ncreds ≡ t .ncreds → ⊥)
+            → memoryOf (heldRound (seats u) (heldRound (seats t) k)) (without (gone (seats u)) ws) ≡ memoryAfter d t q k ws
         unfolding memoryAfter asMany
         moved-memory n =
             ap (λ (v : Tables). memoryOf (heldRound (seats v) (heldRound (seats t) k)) (without (gone (seats v)) ws)) after

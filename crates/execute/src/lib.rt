@@ -1,24 +1,26 @@
 // What becomes of a decided record beside sound tables and a queue: the reply, the places, the links, the tables in place, and what waits.
 // Check 1 and the decision are the caller's.
+use decision_links::links_of;
 use effect::apply;
-use links::links_of;
-use lookup::places_of;
 use reading::put_reply;
+use row_lookup::places_of;
+use rules::ACE_ROWS;
 use rules::Action;
 use rules::CRED_ROWS;
 use rules::Decision;
 use rules::Head;
 use rules::Judgement;
+use rules_waiting::MEMORY;
 ghost use mathlib.Core.Path.{_≡_};
 ghost use mathlib.Core.Bool.{true};
 ghost use lib.ListN.{length};
 ghost use Rattle.rules.specs.declared.Check.the-variants.{Pass};
-ghost use Rattle.rules.specs.Record.{asked};
+ghost use Rattle.rules.specs.Record.{received};
 ghost use Rattle.rules.specs.Tables.{tablesOf, sound};
 ghost use Rattle.rules.specs.Defaults.{defaults};
 ghost use Rattle.rules.specs.Decision.{decided};
-ghost use Rattle.waiting.specs.Slots.{roundOf, waiting, memoryOf};
-ghost use Rattle.waiting.specs.Terminal.{isReset, memoryAfter};
+ghost use Rattle.rules_waiting.specs.Slots.{roundOf, waiting, memoryOf};
+ghost use Rattle.rules_waiting.specs.Terminal.{isReset, memoryAfter};
 ghost use Rattle.queue.specs.Queue.{IsQueue};
 ghost use Rattle.execute.specs.Executed.{Executes};
 
@@ -27,7 +29,7 @@ ghost use Rattle.execute.specs.Executed.{Executes};
 pub fn execute(
     h: Head,
     creds: &mut [u8; CRED_ROWS],
-    aces: &mut [u8; 1152],
+    aces: &mut [u8; ACE_ROWS],
     default_creds: &[u8],
     default_aces: &[u8],
     clock: u32,
@@ -35,10 +37,10 @@ pub fn execute(
     record: &[u8],
     reply: &mut [u8],
 ) -> Judgement
-    requires { ⌜ (sound (tablesOf h (now creds) (now aces)) ≡ true) × (d ≡ decided (tablesOf h (now creds) (now aces)) (asked clock (now «record») (length (now reply)))) × (d .check ≡ Pass) ⌝ }
-    ensures { λ r. ⌜ Executes (defaults (now («default_creds» .entry)) (now («default_aces» .entry))) (tablesOf h (now (creds .entry)) (now (aces .entry))) (asked clock (now («record» .entry)) (length (now (reply .entry)))) (now (reply .entry)) r (now (creds .exit)) (now (aces .exit)) (now (reply .exit)) ⌝ }
+    requires { ⌜ (sound (tablesOf h (now creds) (now aces)) ≡ true) × (d ≡ decided (tablesOf h (now creds) (now aces)) (received clock (now «record») (length (now reply)))) × (d .check ≡ Pass) ⌝ }
+    ensures { λ r. ⌜ Executes (defaults (now («default_creds» .entry)) (now («default_aces» .entry))) (tablesOf h (now (creds .entry)) (now (aces .entry))) (received clock (now («record» .entry)) (length (now (reply .entry)))) (now (reply .entry)) r (now (creds .exit)) (now (aces .exit)) (now (reply .exit)) ⌝ }
 {
-    put_reply(reply, clock, h, creds, aces, record, d.length);
+    put_reply(reply, clock, h, creds, aces, record, d.reply);
     let a = d.action;
     let places = places_of(h, creds, aces, a, record);
     let links = links_of(clock, h, creds, aces, record);
@@ -55,7 +57,7 @@ pub fn execute(
     Judgement {
         answer: 0,
         permission: d.permission,
-        length: d.length,
+        reply: d.reply,
         places: places,
         links: links,
         head: next,
@@ -76,8 +78,8 @@ fn is_reset(a: Action) -> bool
 fn change(
     h: Head,
     creds: &mut [u8; CRED_ROWS],
-    aces: &mut [u8; 1152],
-    memory: &mut [u8; 6504],
+    aces: &mut [u8; ACE_ROWS],
+    memory: &mut [u8; MEMORY],
     default_creds: &[u8],
     default_aces: &[u8],
     clock: u32,
@@ -85,10 +87,10 @@ fn change(
     record: &[u8],
     reply: &mut [u8],
 ) -> Judgement
-    requires { ⌜ (sound (tablesOf h (now creds) (now aces)) ≡ true) × (d ≡ decided (tablesOf h (now creds) (now aces)) (asked clock (now «record») (length (now reply)))) × (d .check ≡ Pass) ⌝ }
+    requires { ⌜ (sound (tablesOf h (now creds) (now aces)) ≡ true) × (d ≡ decided (tablesOf h (now creds) (now aces)) (received clock (now «record») (length (now reply)))) × (d .check ≡ Pass) ⌝ }
     requires { ⌜ (IsQueue (now memory)) × (now memory ≡ memoryOf (roundOf (now memory)) (waiting (now memory))) ⌝ }
-    ensures { λ r. ⌜ Executes (defaults (now («default_creds» .entry)) (now («default_aces» .entry))) (tablesOf h (now (creds .entry)) (now (aces .entry))) (asked clock (now («record» .entry)) (length (now (reply .entry)))) (now (reply .entry)) r (now (creds .exit)) (now (aces .exit)) (now (reply .exit)) ⌝ }
-    ensures { λ _. ⌜ now (memory .exit) ≡ memoryAfter (defaults (now («default_creds» .entry)) (now («default_aces» .entry))) (tablesOf h (now (creds .entry)) (now (aces .entry))) (asked clock (now («record» .entry)) (length (now (reply .entry)))) (roundOf (now (memory .entry))) (waiting (now (memory .entry))) ⌝ }
+    ensures { λ r. ⌜ Executes (defaults (now («default_creds» .entry)) (now («default_aces» .entry))) (tablesOf h (now (creds .entry)) (now (aces .entry))) (received clock (now («record» .entry)) (length (now (reply .entry)))) (now (reply .entry)) r (now (creds .exit)) (now (aces .exit)) (now (reply .exit)) ⌝ }
+    ensures { λ _. ⌜ now (memory .exit) ≡ memoryAfter (defaults (now («default_creds» .entry)) (now («default_aces» .entry))) (tablesOf h (now (creds .entry)) (now (aces .entry))) (received clock (now («record» .entry)) (length (now (reply .entry)))) (roundOf (now (memory .entry))) (waiting (now (memory .entry))) ⌝ }
 {
     let was_held = queue::round_held(h.ncreds, creds, memory);
     let a = d.action;
@@ -120,8 +122,8 @@ fn change(
 pub fn carry_out(
     h: Head,
     creds: &mut [u8; CRED_ROWS],
-    aces: &mut [u8; 1152],
-    memory: &mut [u8; 6504],
+    aces: &mut [u8; ACE_ROWS],
+    memory: &mut [u8; MEMORY],
     default_creds: &[u8],
     default_aces: &[u8],
     clock: u32,
@@ -129,10 +131,10 @@ pub fn carry_out(
     record: &[u8],
     reply: &mut [u8],
 ) -> Judgement
-    requires { ⌜ (sound (tablesOf h (now creds) (now aces)) ≡ true) × (d ≡ decided (tablesOf h (now creds) (now aces)) (asked clock (now «record») (length (now reply)))) × (d .check ≡ Pass) ⌝ }
+    requires { ⌜ (sound (tablesOf h (now creds) (now aces)) ≡ true) × (d ≡ decided (tablesOf h (now creds) (now aces)) (received clock (now «record») (length (now reply)))) × (d .check ≡ Pass) ⌝ }
     requires { ⌜ (IsQueue (now memory)) × (now memory ≡ memoryOf (roundOf (now memory)) (waiting (now memory))) ⌝ }
-    ensures { λ r. ⌜ Executes (defaults (now («default_creds» .entry)) (now («default_aces» .entry))) (tablesOf h (now (creds .entry)) (now (aces .entry))) (asked clock (now («record» .entry)) (length (now (reply .entry)))) (now (reply .entry)) r (now (creds .exit)) (now (aces .exit)) (now (reply .exit)) ⌝ }
-    ensures { λ _. ⌜ now (memory .exit) ≡ memoryAfter (defaults (now («default_creds» .entry)) (now («default_aces» .entry))) (tablesOf h (now (creds .entry)) (now (aces .entry))) (asked clock (now («record» .entry)) (length (now (reply .entry)))) (roundOf (now (memory .entry))) (waiting (now (memory .entry))) ⌝ }
+    ensures { λ r. ⌜ Executes (defaults (now («default_creds» .entry)) (now («default_aces» .entry))) (tablesOf h (now (creds .entry)) (now (aces .entry))) (received clock (now («record» .entry)) (length (now (reply .entry)))) (now (reply .entry)) r (now (creds .exit)) (now (aces .exit)) (now (reply .exit)) ⌝ }
+    ensures { λ _. ⌜ now (memory .exit) ≡ memoryAfter (defaults (now («default_creds» .entry)) (now («default_aces» .entry))) (tablesOf h (now (creds .entry)) (now (aces .entry))) (received clock (now («record» .entry)) (length (now (reply .entry)))) (roundOf (now (memory .entry))) (waiting (now (memory .entry))) ⌝ }
 {
     let a = d.action;
     let Action::Serve = a else {

@@ -1,12 +1,5 @@
 -- Laws of a take, as the code does it: nothing taken, or the record that is due, handed out and judged, and its seat left.
-use Prim.Native.Nat.{ℕ, _-_, _≤_}
-use native.Mathlib.Omega.{arith}
-use mathlib.Core.Path.{_≡_, refl, sym, ap, ap₂, _∙_}
-use mathlib.Core.Bool.{Bool, true, false, not, _&&_}
-use mathlib.Core.List.{List, [], _∷_, _++_}
-use lib.Dec.{eqb}
-use lib.ListN.{length, take, getD, replicate}
-use lib.Seq.{take-at}
+use Rattle.rows.proofs.Prelude.{_≡_, refl, sym, ap, ap₂, _∙_, true, false, List, ℕ, _-_, _≤_, length, take, replicate, take-at, eqb}
 use Rattle.rows.specs.Rows.{Row, hasKey, every, without, distinctNumbers}
 use Rattle.rows.proofs.Kept.{every-without, distinct-without}
 use Rattle.rules.specs.declared.Tables.{Tables}
@@ -14,22 +7,22 @@ use Rattle.rules.specs.declared.Check.{Check}
 use Rattle.rules.specs.declared.Check.the-variants.{Pass, Refuse}
 use Rattle.rules.specs.declared.Head.{Head}
 use Rattle.rules.specs.declared.Judgement.{Judgement}
-use Rattle.rules.specs.Record.{Request, asked}
+use Rattle.rules.specs.Record.{Request, received}
 use Rattle.rules.specs.Tables.{tablesOf}
 use Rattle.rules.specs.Defaults.{Defaults}
 use Rattle.rules.specs.Reading.{filled}
 use Rattle.rules.specs.Checks.{verdict, numberOf}
-use Rattle.rules.specs.Outcome.{Said, outcome, replyTo, judgementOf, refusal}
-use Rattle.waiting.specs.Slots.{Seat, Round, after, padded, roundOf, waiting, memoryOf}
-use Rattle.waiting.specs.Terminal.{Terminal, terminal, Answered, slotSound, memorySound, soundTerminal, memoryAfter, takeChecks, turn, due, takeOf, taken, handedOut, takenOf}
-use Rattle.waiting.specs.Calls.{Takes}
-use Rattle.waiting.proofs.SlotLaws.{memory-sound, waiting-back, round-back, slots-long}
-use Rattle.waiting.proofs.Held.{few-slots}
-use Rattle.waiting.proofs.Sound.{Sound, terminal-parts, turn-is, take-passed}
+use Rattle.rules.specs.Outcome.{Said, outcome, toldTo, judgementOf, refusal}
+use Rattle.rules_waiting.specs.Slots.{Seat, after, padded, roundOf, waiting, memoryOf}
+use Rattle.rules_waiting.specs.Terminal.{Terminal, terminal, slotSound, soundTerminal, memoryAfter, takeChecks, turn, due, takeOf, taken, handedOut, takenOf}
+use Rattle.rules_waiting.specs.Calls.{Takes}
+use Rattle.rules_waiting.proofs.SlotLaws.{memory-sound, waiting-back, round-back, slots-long}
+use Rattle.rules_waiting.proofs.Held.{few-slots}
+use Rattle.rules_waiting.proofs.Sound.{Sound, terminal-parts, turn-is, take-passed}
 use Rattle.queue.specs.Queue.{IsQueue}
 use Rattle.queue.proofs.Queues.{memory-queue, sound-queue}
-use Rattle.turns.specs.declared.Due.{Due}
-use Rattle.turns.specs.Turns.{dueOf}
+use Rattle.queue_turn.specs.declared.Due.{Due}
+use Rattle.queue_turn.specs.Turns.{dueOf}
 
 padded-back : (r : List ℕ) → take (length r) (padded r) ≡ r
 unfolding padded
@@ -85,39 +78,40 @@ module _ (d : Defaults) (t : Tables) (m : List ℕ) (clock room : ℕ) (c : Chec
 
   module _ (e : c ≡ Pass) (q : Due) (is : q ≡ dueOf (terminal t m)) (bytes : List ℕ) (front : bytes ≡ take (q .size) (q .bytes)) where
     abbrev pub handed : Request
-    handed = asked clock bytes room
+    handed = received clock bytes room
 
-    handed-is : handed ≡ asked clock (due (terminal t m)) room
-    handed-is = ap (λ (r : List ℕ). asked clock r room) (front ∙ prefix-is (terminal t m) q is)
+    handed-is : handed ≡ received clock (due (terminal t m)) room
+    handed-is = ap (λ (r : List ℕ). received clock r room) (front ∙ prefix-is (terminal t m) q is)
 
     -- by the memory that is left
-    pub one-taken : (s : Said) (m′ b b′ : List ℕ) → s ≡ judgementOf (outcome d t handed) → b′ ≡ filled b (replyTo d t handed .contents)
+    pub one-taken : (s : Said) (m′ b b′ : List ℕ) → s ≡ judgementOf (outcome d t handed) → b′ ≡ filled b (toldTo d t handed .contents)
         → m′ ≡ memoryAfter d t handed (after (turn (terminal t m))) (without (hasKey 0 (turn (terminal t m))) (waiting m))
         → Takes d (terminal t m) clock room (record { judgement = s; size = q .size; bytes = q .bytes }) b m′ b′
     unfolding taken
     one-taken s m′ b b′ f g h =
         let v : Pass ≡ verdict (takeChecks (terminal t m)) = sym e ∙ told in
-        let r = asked clock (due (terminal t m)) room in
+        let r = received clock (due (terminal t m)) room in
         record {
           hands = ap₂ (λ (k : Said) (z : Due). record { judgement = k; size = z .size; bytes = z .bytes }) (f ∙ ap (λ (i : Request). judgementOf (outcome d t i)) handed-is) is ∙ ap (λ (k : Check). handedOut (takeOf d (terminal t m) r k)) v;
           leaves = record {
             keeps = h ∙ ap (λ (i : Request). memoryAfter d t i (after (turn (terminal t m))) (without (hasKey 0 (turn (terminal t m))) (waiting m))) handed-is ∙ ap (λ (k : Check). takeOf d (terminal t m) r k .terminal .memory) v;
-            fills = g ∙ ap (λ (i : Request). filled b (replyTo d t i .contents)) handed-is ∙ ap (λ (k : Check). filled b (takeOf d (terminal t m) r k .reply .contents)) v;
+            fills = g ∙ ap (λ (i : Request). filled b (toldTo d t i .contents)) handed-is ∙ ap (λ (k : Check). filled b (takeOf d (terminal t m) r k .told .contents)) v;
           };
         }
 
-pub nothing-taken : (d : Defaults) (f : Head) (cs es m : List ℕ) (clock room : ℕ) (c : Check) → c ≡ verdict (takeChecks (terminal (tablesOf f cs es) m)) → (n : ℕ) → c ≡ Refuse n
+pub nothing-taken : (d : Defaults) (f : Head) (cs es m : List ℕ) (clock room : ℕ) (c : Check)
+    → c ≡ verdict (takeChecks (terminal (tablesOf f cs es) m)) → (n : ℕ) → c ≡ Refuse n
     → (j : Judgement) → j ≡ refusal f (numberOf c) → (z : List ℕ) → z ≡ replicate 256 0 → (b : List ℕ)
     → Takes d (terminal (tablesOf f cs es) m) clock room (takenOf (record { judgement = j; size = 0; bytes = z }) cs es) b m b
 unfolding taken padded filled
 nothing-taken d f cs es m clock room c told n e j i z l b =
     let x = terminal (tablesOf f cs es) m in
     let v : Refuse n ≡ verdict (takeChecks x) = sym e ∙ told in
-    let q = asked clock (due x) room in
+    let q = received clock (due x) room in
     record {
       hands = ap₂ (λ (k : Judgement) (y : List ℕ). takenOf (record { judgement = k; size = 0; bytes = y }) cs es) (i ∙ ap (λ (k : Check). refusal f (numberOf k)) e) l ∙ ap (λ (k : Check). handedOut (takeOf d x q k)) v;
       leaves = record {
         keeps = ap (λ (k : Check). takeOf d x q k .terminal .memory) v;
-        fills = ap (λ (k : Check). filled b (takeOf d x q k .reply .contents)) v;
+        fills = ap (λ (k : Check). filled b (takeOf d x q k .told .contents)) v;
       };
     }

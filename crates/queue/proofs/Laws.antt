@@ -1,16 +1,11 @@
 -- Laws of the memory as it is changed: a slot made, the slots between, the head and the round.
-use Prim.Native.Nat.{ℕ, zero, suc, _+_, _*_, _-_, _/_, _%_, _≤_, _<_, min}
-use native.Mathlib.Nat.{zero-mul, zero-add, suc-add, min-eq-left}
-use native.Mathlib.Omega.{arith}
-use mathlib.Core.Path.{_≡_, refl, sym, ap, ap₂, _∙_}
-use mathlib.Core.Bool.{Bool, true, false, not, _||_, cond}
-use mathlib.Core.List.{List, [], _∷_, _++_, map, append-assoc, append-nil}
-use lib.Dec.{eqb}
-use lib.ListN.{length, take, drop, getD, set, replicate, length-set, length-append, length-drop, drop-of-length-le}
-use lib.Seq.{length-take-le, take-take, drop-at}
-use borrow.Author.Tests.{eq-eqb, ne-eqb}
+use Rattle.rows.proofs.Prelude.{_≡_, refl, sym, ap, ap₂, _∙_, Bool, true, false, not, _||_, cond, List, [], _∷_, _++_, map, append-assoc, append-nil, ℕ, zero}
+use Rattle.rows.proofs.Prelude.{suc, _+_, _-_, _*_, _/_, _%_, _≤_, _<_, min, min-eq-left, zero-mul, arith, length, take, drop, getD, set, replicate}
+use Rattle.rows.proofs.Prelude.{drop-of-length-le, length-append, length-drop, length-set, drop-at, length-take-le, take-take, eq-eqb, ne-eqb}
+use native.Mathlib.Nat.{zero-add, suc-add}
 use Rattle.rows.specs.declared.Found.{Found}
-use Rattle.rows.specs.Rows.{Row, rowsOf, packed, joined, allZero, same, hasKey, some, numberedAs, placeOf, stored, without, withRow, IsTable}
+use Rattle.rows.specs.Rows.{Row, rowsOf, packed, joined, allZero, same, hasKey, some, numberedAs, stored, without, withRow}
+use Rattle.rows.specs.Contracts.{placeOf, IsTable}
 use Rattle.rows.proofs.Laws.{length-rowsOf, drop-replicate, take-rest, lent-rest, some-place, isAt, zeros-replicate, packed-is, joined-rowsOf}
 use Rattle.rows.proofs.Kept.{long-rowsOf, rowsOf-joined, same-true, same-refl, same-sym, length-without, length-stored}
 use Rattle.rules.specs.Bits.{word}
@@ -19,15 +14,16 @@ use Rattle.rules.specs.declared.Table.the-variants.{Creds}
 use Rattle.rules.specs.Tables.{stride, capacity, rowsIn}
 use Rattle.rules.proofs.BitLaws.{word-is}
 use Rattle.rules.proofs.Bools.{cond-cases, bool-cases, contradiction}
-use Rattle.waiting.specs.Slots.{Seat, Round, anew, after, seatOf, padded, slotOf, roundBytes, roundOf, waiting, memoryOf}
-use Rattle.waiting.specs.Round.{nobody, seatsIn, held, gone, heldRound}
-use Rattle.waiting.specs.Terminal.{withRecord}
+use Rattle.rules_waiting.specs.Slots.{Seat, Round, anew, after, seatOf, padded, slotOf, roundBytes, roundOf, waiting, memoryOf}
+use Rattle.rules_waiting.specs.Round.{nobody, seatsIn, held, gone, heldRound}
+use Rattle.rules_waiting.specs.Terminal.{withRecord}
 use Rattle.queue.specs.Queue.{IsQueue}
 
 -- ---- a slot
 
 -- as the code fills it
-pub slot-is : (r last : List ℕ) → getD r 2 0 < 256 → getD r 3 0 < 256 → last ≡ withRow (length r) 0 r (replicate 256 0) → getD r 2 0 ∷ getD r 3 0 ∷ length r / 256 ∷ length r % 256 ∷ (last ++ []) ≡ slotOf r
+pub slot-is : (r last : List ℕ) → getD r 2 0 < 256 → getD r 3 0 < 256 → last ≡ withRow (length r) 0 r (replicate 256 0)
+    → getD r 2 0 ∷ getD r 3 0 ∷ length r / 256 ∷ length r % 256 ∷ (last ++ []) ≡ slotOf r
 unfolding slotOf seatOf padded word withRow
 slot-is r last a b e =
     let s : word (credential r) ≡ getD r 2 0 ∷ getD r 3 0 ∷ [] = word-is r 2 a b in
@@ -36,7 +32,8 @@ slot-is r last a b e =
 
 -- ---- the head
 
-pub head-set : (m : List ℕ) (n : ℕ) (r : List ℕ) → 4 ≤ length m → length r ≡ 3 → set (set (set (set m 0 n) 1 (getD r 0 0)) 2 (getD r 1 0)) 3 (getD r 2 0) ≡ n ∷ (r ++ drop 4 m)
+pub head-set : (m : List ℕ) (n : ℕ) (r : List ℕ) → 4 ≤ length m → length r ≡ 3
+    → set (set (set (set m 0 n) 1 (getD r 0 0)) 2 (getD r 1 0)) 3 (getD r 2 0) ≡ n ∷ (r ++ drop 4 m)
 head-set [] n r h t = absurd (omega arith)
 head-set (w ∷ []) n r h t = absurd (omega arith)
 head-set (w ∷ x ∷ []) n r h t = absurd (omega arith)
@@ -93,7 +90,8 @@ module _ (m : List ℕ) (q : IsQueue m) where
       ∙ ap (λ (l : List ℕ). length ws ∷ (roundBytes k ++ l)) (between-slots last ∙ b ∙ ap (λ (j : ℕ). packed j ws) slots-long)
 
   -- other slots, and the count
-  pub counted-anew : (ws : List Row) (left : ℕ) (last : List ℕ) → left ≡ length ws → last ≡ packed (length (slotsOf m)) ws → set (between m last) 0 left ≡ memoryOf (roundOf m) ws
+  pub counted-anew : (ws : List Row) (left : ℕ) (last : List ℕ) → left ≡ length ws → last ≡ packed (length (slotsOf m)) ws
+      → set (between m last) 0 left ≡ memoryOf (roundOf m) ws
   unfolding memoryOf
   counted-anew ws left last n b =
       ap (λ (l : List ℕ). set l 0 left) (lent-rest 4 m last ∙ ap (λ (l : List ℕ). l ++ last) head-is)
@@ -146,7 +144,8 @@ module _ (s n : ℕ) (b : List ℕ) (t : IsTable s n b) where
   used-table = let few : length (take (n * s) b) ≤ n * s = omega (arith, used-long) in record { numbered = t .numbered; fits = rw used-long (omega arith); zeros = ap allZero (drop-of-length-le (take (n * s) b) few) }
 
   -- what is left of them, with the zeros behind
-  pub used-packed : (ws : List Row) (last : List ℕ) → last ≡ packed (length (take (n * s) b)) ws → length last ≡ length (take (n * s) b) → last ++ drop (n * s) b ≡ packed (length b) ws
+  pub used-packed : (ws : List Row) (last : List ℕ) → last ≡ packed (length (take (n * s) b)) ws → length last ≡ length (take (n * s) b)
+      → last ++ drop (n * s) b ≡ packed (length b) ws
   unfolding packed
   used-packed ws last e l =
       let zeros = zeros-replicate (drop (n * s) b) (t .zeros) in
@@ -175,14 +174,16 @@ module _ (count : ℕ) (creds : List ℕ) (p : Seat) (two : length p ≡ 2) (b :
   unfolding held some
   seat-zero e = sym (rw (sym (zero-seat p two b z) ∙ e))
 
-  pub seat-found : b ≡ false → (n : ℕ) → n ≡ min count (capacity Creds) → (at : Found) → at ≡ placeOf (hasKey 0 p) (rowsOf (stride Creds) n creds) → isAt at ≡ held (seatsIn count creds) p
+  pub seat-found : b ≡ false → (n : ℕ) → n ≡ min count (capacity Creds) → (at : Found) → at ≡ placeOf (hasKey 0 p) (rowsOf (stride Creds) n creds)
+      → isAt at ≡ held (seatsIn count creds) p
   unfolding held some rowsIn
   seat-found e n counted at f =
       ap isAt f ∙ sym (some-place 0 (hasKey 0 p) (rowsOf (stride Creds) n creds)) ∙ some-key p (rowsOf (stride Creds) n creds) two
       ∙ rw (sym (zero-seat p two b z) ∙ e, counted)
 
 -- the seat of slot i
-pub seat-gone : (ps : List Seat) (i : ℕ) (b : List ℕ) (p : Seat) → p ≡ take 2 (drop (i * 260) b) → (h : Bool) → h ≡ held ps p → gone ps (take 260 (drop (i * 260) b)) ≡ not h
+pub seat-gone : (ps : List Seat) (i : ℕ) (b : List ℕ) (p : Seat) → p ≡ take 2 (drop (i * 260) b) → (h : Bool) → h ≡ held ps p
+    → gone ps (take 260 (drop (i * 260) b)) ≡ not h
 unfolding gone
 seat-gone ps i b p is h e = rw (take-take 2 260 (drop (i * 260) b) (omega arith), ← is, e)
 

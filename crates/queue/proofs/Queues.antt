@@ -1,20 +1,12 @@
 -- The memory of a sound terminal is a queue, and what the changes leave is one again.
-use Prim.Native.Nat.{ℕ, _+_, _*_, _≤_, _<_, min}
-use native.Mathlib.Nat.{min-eq-left}
-use native.Mathlib.Omega.{arith}
-use mathlib.Core.Path.{_≡_, refl, sym, ap, _∙_}
-use mathlib.Core.Bool.{true}
-use mathlib.Core.List.{List}
-use lib.ListN.{length, drop, getD, length-drop}
-use borrow.Author.Tests.{eqb-true, leb-true}
-use Rattle.rows.specs.Rows.{IsTable}
+use Rattle.rows.proofs.Prelude.{_≡_, _∙_, true, List, ℕ, _≤_, min, min-eq-left, arith, length, drop, getD, length-drop, eqb-true, leb-true}
 use Rattle.rows.proofs.Laws.{length-rowsOf}
 use Rattle.rows.proofs.Kept.{same-true}
 use Rattle.rules.specs.declared.Tables.{Tables}
-use Rattle.waiting.specs.Slots.{waiting}
-use Rattle.waiting.specs.Terminal.{Terminal, terminal, memorySound, soundTerminal}
-use Rattle.waiting.proofs.SlotLaws.{SoundMemory, memory-parts}
-use Rattle.waiting.proofs.Sound.{terminal-parts}
+use Rattle.rules_waiting.specs.Slots.{waiting}
+use Rattle.rules_waiting.specs.Terminal.{terminal, memorySound, soundTerminal}
+use Rattle.rules_waiting.proofs.SlotLaws.{memory-parts}
+use Rattle.rules_waiting.proofs.Sound.{terminal-parts}
 use Rattle.queue.specs.Queue.{IsQueue}
 
 pub memory-queue : (t : Tables) (m : List ℕ) → memorySound t m ≡ true → IsQueue m

@@ -3,8 +3,8 @@ use mathlib.Core.Path.{_≡_}
 use mathlib.Core.List.{List}
 use Prim.Native.Nat.{ℕ, _≤_}
 use lib.ListN.{length, take, drop, getD}
-use Rattle.rows.specs.Rows.{IsTable}
-use Rattle.waiting.specs.Slots.{slotLong, slotsMost, memoryLong, roundBytes, roundOf}
+use Rattle.rows.specs.Contracts.{IsTable}
+use Rattle.rules_waiting.specs.Slots.{slotLong, slotsMost, memoryLong, roundBytes, roundOf}
 
 pub record IsQueue (m : List ℕ) : Type 0 where
   pub long : length m ≡ memoryLong

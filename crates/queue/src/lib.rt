@@ -7,15 +7,19 @@ use rows::Found;
 use rows::part;
 use rules::CRED_ROW;
 use rules::CRED_ROWS;
+use rules::CREDS;
+use rules_waiting::MEMORY;
+use rules_waiting::SLOT;
 ghost use mathlib.Core.Path.{_≡_};
 ghost use mathlib.Core.Bool.{cond};
 ghost use mathlib.Core.List.{_∷_, _++_};
-ghost use Prim.Native.Nat.{ℕ, _+_, _*_, _-_, _≤_, _<_};
-ghost use lib.ListN.{length, take, drop, getD};
-ghost use Rattle.rows.specs.Rows.{rowsOf, packed, without, hasKey, stored, IsTable};
-ghost use Rattle.waiting.specs.Slots.{anew, after as afterSeat, slotOf, recordOf, roundBytes, roundOf, waiting, memoryOf, freshMemory};
-ghost use Rattle.waiting.specs.Round.{seatsIn, held as heldIn, gone, heldRound};
-ghost use Rattle.waiting.specs.Terminal.{withRecord};
+ghost use Prim.Native.Nat.{_*_, _≤_, _<_};
+ghost use lib.ListN.{length, drop, getD};
+ghost use Rattle.rows.specs.Rows.{rowsOf, packed, without, hasKey};
+ghost use Rattle.rows.specs.Contracts.{IsTable};
+ghost use Rattle.rules_waiting.specs.Slots.{anew, after as afterSeat, slotOf, recordOf, roundBytes, roundOf, waiting, memoryOf, freshMemory};
+ghost use Rattle.rules_waiting.specs.Round.{seatsIn, held as heldIn, gone, heldRound};
+ghost use Rattle.rules_waiting.specs.Terminal.{withRecord};
 ghost use Rattle.queue.specs.Queue.{IsQueue};
 
 // The record that a slot keeps.
@@ -28,17 +32,17 @@ pub fn record_in(slot: &[u8]) -> &[u8]
 }
 
 // The slot that keeps a record.
-fn slot_of(record: &[u8]) -> [u8; 260]
+fn slot_of(record: &[u8]) -> [u8; SLOT]
     requires { ⌜ (4 ≤ length (now «record»)) × (length (now «record») ≤ 256) ⌝ }
     ensures { λ r. ⌜ r ≡ slotOf (now («record» .entry)) ⌝ }
 {
     let n = record.len();
-    let mut slot = [0; 260];
+    let mut slot = [0; SLOT];
     slot[0] = record[2];
     slot[1] = record[3];
     slot[2] = (n / 256) as u8;
     slot[3] = (n % 256) as u8;
-    changes::put_row(&mut slot[4..], n, 0, record);
+    rows_change::put_row(&mut slot[4..], n, 0, record);
     slot
 }
 
@@ -50,7 +54,7 @@ pub fn keep(memory: &mut [u8], record: &[u8])
 {
     let count = memory[0] as usize;
     let slot = slot_of(record);
-    let left = changes::store(&mut memory[4..], 260, count, &slot);
+    let left = rows_change::store(&mut memory[4..], SLOT, count, &slot);
     memory[0] = left as u8;
 }
 
@@ -71,8 +75,8 @@ fn take_out(slots: &mut [u8], count: usize, seat: &[u8]) -> usize
     ensures { λ r. ⌜ r ≡ length (without (hasKey 0 (now (seat .entry))) (rowsOf 260 count (now (slots .entry)))) ⌝ }
     ensures { λ _. ⌜ now (slots .exit) ≡ packed (length (now (slots .entry))) (without (hasKey 0 (now (seat .entry))) (rowsOf 260 count (now (slots .entry)))) ⌝ }
 {
-    let used = count * 260;
-    changes::remove(&mut slots[..used], 260, count, 0, seat)
+    let used = count * SLOT;
+    rows_change::remove(&mut slots[..used], SLOT, count, 0, seat)
 }
 
 // Empties a seat, after which the round then stands.
@@ -95,7 +99,7 @@ fn seat_held(count: u8, creds: &[u8; CRED_ROWS], seat: &[u8]) -> bool
     if rows::all_zero(seat, 0) {
         return true;
     }
-    let n = held(count, 24);
+    let n = held(count, CREDS);
     let Found::At(_) = rows::find(creds, CRED_ROW, n, 0, seat) else {
         return false;
     };
@@ -111,11 +115,11 @@ fn drop_gone(rows: u8, creds: &[u8; CRED_ROWS], slots: &mut [u8], count: usize) 
     let mut n = count;
     let mut i = 0;
     while i < n {
-        let a = i * 260;
+        let a = i * SLOT;
         if seat_held(rows, creds, part(slots, a, 2)) {
             i += 1;
         } else {
-            changes::remove_row(slots, 260, i);
+            rows_change::remove_row(slots, SLOT, i);
             n -= 1;
         }
     }
@@ -163,8 +167,8 @@ pub fn settle(was_held: bool, count: u8, creds: &[u8; CRED_ROWS], memory: &mut [
 
 // Nothing waits, and the round begins anew.
 // Rules out: a byte left.
-pub fn clear(memory: &mut [u8; 6504])
+pub fn clear(memory: &mut [u8; MEMORY])
     ensures { λ _. ⌜ now (memory .exit) ≡ freshMemory ⌝ }
 {
-    changes::clear(memory);
+    rows_change::clear(memory);
 }

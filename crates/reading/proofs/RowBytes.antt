@@ -1,10 +1,5 @@
 -- The bytes of the rows that a table holds: of access rows the first bytes of the table, of credential rows their bodies.
-use Prim.Native.Nat.{ℕ, suc, _*_, _-_, _≤_, _<_, min}
-use native.Mathlib.Omega.{arith}
-use mathlib.Core.Path.{_≡_, sym, ap, _∙_}
-use mathlib.Core.List.{List, [], _++_, map}
-use lib.ListN.{length, take, drop, length-map}
-use lib.Seq.{take-take}
+use Rattle.rows.proofs.Prelude.{_≡_, sym, ap, _∙_, List, [], _++_, map, ℕ, suc, _-_, _*_, _≤_, _<_, min, arith, length, take, drop, length-map, take-take}
 use Rattle.rows.specs.Rows.{rowsOf, joined}
 use Rattle.rows.proofs.Laws.{joined-rowsOf, length-rowsOf, take-rest}
 use Rattle.rows.proofs.Kept.{long-rowsOf, length-joined}

@@ -6,9 +6,13 @@ use fields::record::verb_of;
 use roles::put_roles;
 use roles::roles_length;
 use rows::part;
+use rules::ACE_ROW;
+use rules::ACE_ROWS;
+use rules::ACES;
 use rules::CRED_BODY;
 use rules::CRED_ROW;
 use rules::CRED_ROWS;
+use rules::CREDS;
 use rules::Check;
 use rules::Head;
 use rules::Resource;
@@ -40,7 +44,12 @@ fn is_read(record: &[u8], e: Resource) -> bool
 }
 
 // The length of a resource's own body.
-fn own_length<'a>(h: Head, creds: &'a [u8; CRED_ROWS], aces: &'a [u8; 1152], resource: u16) -> usize
+fn own_length<'a>(
+    h: Head,
+    creds: &'a [u8; CRED_ROWS],
+    aces: &'a [u8; ACE_ROWS],
+    resource: u16,
+) -> usize
     ensures { λ r. ⌜ (r ≡ length (ownBody (tablesOf h (now (creds .entry)) (now (aces .entry))) resource)) × (r ≤ 17) ⌝ }
 {
     match resource {
@@ -63,7 +72,7 @@ fn rows_length<'a>(
     clock: u32,
     h: Head,
     creds: &'a [u8; CRED_ROWS],
-    aces: &'a [u8; 1152],
+    aces: &'a [u8; ACE_ROWS],
     cred: &[u8],
     record: &[u8],
     resource: u16,
@@ -72,8 +81,8 @@ fn rows_length<'a>(
     ensures { λ r. ⌜ (r ≡ length (rowBytes clock (tablesOf h (now (creds .entry)) (now (aces .entry))) (sender (now («record» .entry))) resource)) × (r ≤ 1152) ⌝ }
 {
     match resource {
-        2 => bodies_length(creds, held(h.ncreds, 24)),
-        3 => part(aces, 0, held(h.naces, 32) * 36).len(),
+        2 => bodies_length(creds, held(h.ncreds, CREDS)),
+        3 => part(aces, 0, held(h.naces, ACES) * ACE_ROW).len(),
         4 => roles_length(clock, cred),
         _ => 0,
     }
@@ -83,7 +92,7 @@ fn contents_length<'a>(
     clock: u32,
     h: Head,
     creds: &'a [u8; CRED_ROWS],
-    aces: &'a [u8; 1152],
+    aces: &'a [u8; ACE_ROWS],
     cred: &[u8],
     record: &[u8],
     resource: u16,
@@ -104,7 +113,7 @@ pub fn reply_length<'a>(
     clock: u32,
     h: Head,
     creds: &'a [u8; CRED_ROWS],
-    aces: &'a [u8; 1152],
+    aces: &'a [u8; ACE_ROWS],
     cred: &[u8],
     record: &[u8],
     e: Resource,
@@ -132,7 +141,7 @@ fn put_owner<'a>(
     at: usize,
     h: Head,
     creds: &'a [u8; CRED_ROWS],
-    aces: &'a [u8; 1152],
+    aces: &'a [u8; ACE_ROWS],
 ) -> usize
     ensures { λ r. ⌜ Puts (now (out .entry)) at (ownBody (tablesOf h (now (creds .entry)) (now (aces .entry))) 0) (now (out .exit)) r ⌝ }
 {
@@ -145,7 +154,7 @@ fn put_own<'a>(
     at: usize,
     h: Head,
     creds: &'a [u8; CRED_ROWS],
-    aces: &'a [u8; 1152],
+    aces: &'a [u8; ACE_ROWS],
     resource: u16,
 ) -> usize
     ensures { λ r. ⌜ Puts (now (out .entry)) at (ownBody (tablesOf h (now (creds .entry)) (now (aces .entry))) resource) (now (out .exit)) r ⌝ }
@@ -179,7 +188,7 @@ fn put_rows<'a>(
     clock: u32,
     h: Head,
     creds: &'a [u8; CRED_ROWS],
-    aces: &'a [u8; 1152],
+    aces: &'a [u8; ACE_ROWS],
     record: &[u8],
     resource: u16,
 ) -> usize
@@ -187,11 +196,11 @@ fn put_rows<'a>(
 {
     match resource {
         2 => {
-            let n = held(h.ncreds, 24);
+            let n = held(h.ncreds, CREDS);
             put_bodies(out, at, creds, n)
         }
         3 => {
-            let n = held(h.naces, 32) * 36;
+            let n = held(h.naces, ACES) * ACE_ROW;
             put(out, at, part(aces, 0, n))
         }
         4 => put_roles(out, at, clock, own_row(h.ncreds, creds, record)),
@@ -204,7 +213,7 @@ fn put_contents<'a>(
     clock: u32,
     h: Head,
     creds: &'a [u8; CRED_ROWS],
-    aces: &'a [u8; 1152],
+    aces: &'a [u8; ACE_ROWS],
     record: &[u8],
     resource: u16,
 ) -> usize
@@ -223,7 +232,7 @@ pub fn put_reply<'a>(
     clock: u32,
     h: Head,
     creds: &'a [u8; CRED_ROWS],
-    aces: &'a [u8; 1152],
+    aces: &'a [u8; ACE_ROWS],
     record: &[u8],
     size: usize,
 ) -> usize

@@ -1,9 +1,6 @@
 -- Worked examples of the definitions, by computing: a line, and the runs that hold no whole record.
 -- The run of document 01 is the run program's own test.
-use mathlib.Core.Path.{_≡_, refl}
-use Prim.Native.Nat.{ℕ}
-use mathlib.Core.List.{List, [], _∷_, _++_, map}
-use lib.ListN.{replicate}
+use Rattle.rows.proofs.Prelude.{_≡_, refl, List, [], _∷_, _++_, map, ℕ, replicate}
 use Rattle.rules.specs.Bits.{bit, bits}
 use Rattle.text.specs.Text.{ascii, decimalIn, decimal}
 use Rattle.report.specs.Run.{header, line, cut, linesFrom, lines, runText}

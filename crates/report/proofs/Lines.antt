@@ -1,12 +1,7 @@
 -- The loop over the records of a run: what is written and what is still to come are the lines of the whole input.
 -- The start, a turn and the two ends, over plain variables.
-use mathlib.Core.Path.{_≡_, refl, ap, _∙_}
-use mathlib.Core.Bool.{cond}
-use mathlib.Core.List.{List, [], _∷_, _++_, append-nil, append-assoc}
-use Prim.Native.Nat.{ℕ, zero, suc, _+_, _-_, _*_, _≤_, _<_, min}
-use native.Mathlib.Omega.{arith}
-use lib.ListN.{length, length-append, length-drop}
-use borrow.Author.Tests.{lt-ltb, le-ltb, eq-eqb, ne-eqb}
+use Rattle.rows.proofs.Prelude.{_≡_, refl, ap, _∙_, cond, List, [], _∷_, _++_, append-assoc, append-nil, ℕ, zero, suc, _+_, _-_, _*_, _≤_, _<_, min, arith}
+use Rattle.rows.proofs.Prelude.{length, length-append, length-drop, eq-eqb, le-ltb, lt-ltb, ne-eqb}
 use Rattle.rules.specs.declared.Tables.{Tables}
 use Rattle.rules.specs.Defaults.{noDefaults, fresh}
 use Rattle.rules.specs.Outcome.{tablesAfter}

@@ -8,9 +8,9 @@ use lib.ListN.{length, take, drop}
 use Rattle.text.specs.Text.{ascii, decimal}
 use Rattle.rules.specs.declared.Tables.{Tables}
 use Rattle.rules.specs.Bits.{bits}
-use Rattle.rules.specs.Record.{Request, asked}
+use Rattle.rules.specs.Record.{Request, received}
 use Rattle.rules.specs.Defaults.{noDefaults, fresh}
-use Rattle.rules.specs.Outcome.{replyTo, tablesAfter}
+use Rattle.rules.specs.Outcome.{toldTo, tablesAfter}
 
 unfoldable pub header : List ℕ
 header = ascii "n answer perm state\n"
@@ -22,11 +22,11 @@ line place answer permission state =
 
 -- each record is lent a buffer that fits any reply
 abbrev pub lent : ℕ → List ℕ → Request
-lent clock r = asked clock r 1168
+lent clock r = received clock r 1168
 
 -- of a record that is judged on the tables t
 abbrev pub lineFor : Tables → ℕ → Request → List ℕ
-lineFor t place q = line place (replyTo noDefaults t q .answer) (replyTo noDefaults t q .permission) (tablesAfter noDefaults t q .state)
+lineFor t place q = line place (toldTo noDefaults t q .answer) (toldTo noDefaults t q .permission) (tablesAfter noDefaults t q .state)
 
 unfoldable pub cut : List ℕ
 cut = ascii "cut\n"

@@ -4,6 +4,7 @@ use fields::after;
 use fields::double_word;
 use fields::word;
 use rules::Tables;
+use rules_waiting::MEMORY;
 use terminal::tillerclover_judge;
 use text::put;
 use text::put_byte;
@@ -47,7 +48,7 @@ fn put_cut(out: &mut [u8], at: usize) -> usize
 fn start_tables() -> Tables
     ensures { λ r. ⌜ r ≡ fresh noDefaults ⌝ }
 {
-    tables::defaults::fresh(b"", b"")
+    effect_fresh::defaults::fresh(b"", b"")
 }
 
 // What a line tells of a record, and the tables for the next one.
@@ -61,7 +62,7 @@ struct Judged {
 fn judge_one(t: Tables, clock: u32, record: &[u8]) -> Judged
     ensures { λ r. ⌜ r ≡ judgedAs t (lent clock (now («record» .entry))) ⌝ }
 {
-    let mut memory = [0u8; 6504];
+    let mut memory = [0u8; MEMORY];
     let mut reply = [0u8; 1168];
     let o = tillerclover_judge(t, &mut memory, b"", b"", clock, record, &mut reply);
     let next = o.tables;

@@ -1,18 +1,13 @@
 -- The bytes of the roles in force, and of those after one is asserted, from each place on.
 -- The row afterwards is its body and these, and zeros behind them.
-use Prim.Native.Nat.{ℕ, _+_, _-_, _≤_}
-use native.Mathlib.Omega.{arith}
-use mathlib.Core.Path.{_≡_, refl, sym, ap, _∙_}
-use mathlib.Core.Bool.{Bool, true, false, not, _&&_}
-use mathlib.Core.List.{List, [], _∷_, _++_, append-nil, append-assoc}
-use lib.ListN.{length, take, drop, replicate, length-append, length-replicate}
-use borrow.Author.Tests.{not-true, not-false}
-use Rattle.text.specs.Buffer.{written, Puts}
+use Rattle.rows.proofs.Prelude.{_≡_, sym, ap, _∙_, true, false, not, _&&_, List, [], _∷_, _++_, append-assoc, append-nil, ℕ, _+_, _-_, _≤_, arith, length}
+use Rattle.rows.proofs.Prelude.{replicate, length-append, not-false, not-true}
+use Rattle.text.specs.Buffer.{Puts}
 use Rattle.text.proofs.Buffers.{written-start, puts-then}
 use Rattle.rows.specs.Rows.{Row, joined, packed, without}
 use Rattle.rows.proofs.Laws.{drop-replicate}
 use Rattle.rules.specs.Roles.{noRole, free, sameRole, bodyOf, firstRole, secondRole, rolesInForce, credHeld, withRole, bothTaken, asserted}
-use Rattle.rules.proofs.Bools.{and-left, and-right, and-false-right, bool-cases, contradiction}
+use Rattle.rules.proofs.Bools.{and-left, and-right, and-false-right, bool-cases}
 use Rattle.rules.proofs.RoleLaws.{held-parts, body-long, asserted-short}
 use Rattle.rules.proofs.RolePlaces.{from-free, from-taken, renewed, passed-over}
 
@@ -59,11 +54,13 @@ module _ (clock : ℕ) (w p q : Row) (first : p ≡ firstRole w) (second : q ≡
   pub with-free : (new : Row) → free clock p ≡ true → joined (withRole new (rolesInForce clock w)) ≡ joined (withRole new (without (free clock) (q ∷ [])))
   with-free new e = ap (λ (ps : List Row). joined (withRole new ps)) (both ∙ from-free clock new p (q ∷ []) e)
 
-  pub with-same : (new : Row) → free clock p ≡ false → sameRole new p ≡ true → joined (withRole new (rolesInForce clock w)) ≡ new ++ joined (without (free clock) (q ∷ []))
+  pub with-same : (new : Row) → free clock p ≡ false → sameRole new p ≡ true
+      → joined (withRole new (rolesInForce clock w)) ≡ new ++ joined (without (free clock) (q ∷ []))
   unfolding joined
   with-same new e f = ap (λ (ps : List Row). joined (withRole new ps)) both ∙ ap joined (renewed clock new p (q ∷ []) e f)
 
-  pub with-other : (new : Row) → free clock p ≡ false → sameRole new p ≡ false → joined (withRole new (rolesInForce clock w)) ≡ p ++ joined (withRole new (without (free clock) (q ∷ [])))
+  pub with-other : (new : Row) → free clock p ≡ false → sameRole new p ≡ false
+      → joined (withRole new (rolesInForce clock w)) ≡ p ++ joined (withRole new (without (free clock) (q ∷ [])))
   unfolding joined
   with-other new e f = ap (λ (ps : List Row). joined (withRole new ps)) both ∙ ap joined (passed-over clock new p (q ∷ []) e f)
 

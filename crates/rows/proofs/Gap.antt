@@ -1,17 +1,12 @@
 -- What closing up leaves where: rows before the first that goes stay, and each place from there on gets a later row or none.
 -- Over the row's length.
-use mathlib.Core.Path.{_≡_, refl, sym, ap, _∙_}
-use mathlib.Core.Bool.{Bool, true, false, cond, not, _&&_, _||_, true≢false, false≢true}
-use mathlib.Core.List.{List, [], _∷_, _++_, append-assoc}
-use Prim.Native.Nat.{ℕ, zero, suc, _+_, _*_, _-_, _≤_, _<_}
-use native.Mathlib.Nat.{zero-mul, suc-mul, add-comm, mul-le-mul-right}
-use native.Mathlib.Omega.{arith}
-use lib.ListN.{length, take, drop, getD, replicate}
+use Rattle.rows.proofs.Prelude.{_≡_, refl, sym, ap, _∙_, Bool, true, false, not, _&&_, _||_, cond, false≢true, true≢false, List, [], _∷_, _++_}
+use Rattle.rows.proofs.Prelude.{append-assoc, ℕ, zero, suc, _+_, _-_, _*_, _≤_, _<_, add-comm, mul-le-mul-right, suc-mul, zero-mul, arith, length, take}
+use Rattle.rows.proofs.Prelude.{drop, getD, replicate, leb, leb-false, leb-true}
 use lib.Seq.{take-append-le, take-append-add, drop-append-add}
-use lib.Dec.{leb}
-use borrow.Author.Tests.{leb-true, leb-false}
 use Rattle.rows.specs.declared.Found.the-variants.{At}
-use Rattle.rows.specs.Rows.{Row, placeFrom, same, numberedAs, numberAt, some, without, rowsBefore, distinctNumbers, joined, packed}
+use Rattle.rows.specs.Rows.{Row, same, numberedAs, numberAt, some, without, rowsBefore, distinctNumbers, joined, packed}
+use Rattle.rows.specs.Contracts.{placeFrom}
 use Rattle.rows.proofs.Laws.{drop-replicate, isAt}
 use Rattle.rows.proofs.Kept.{AllLong, length-joined, length-without, same-refl}
 
@@ -122,7 +117,8 @@ module _ (goes : Row → Bool) where
   before-kept [] = omega arith
   before-kept (w ∷ ws) = go (goes w) (before-kept ws)
     where
-      go : (t : Bool) → rowsBefore goes ws ≤ length (without goes ws) → cond t 0 (suc (rowsBefore goes ws)) ≤ length (cond t (without goes ws) (w ∷ without goes ws))
+      go : (t : Bool) → rowsBefore goes ws ≤ length (without goes ws)
+          → cond t 0 (suc (rowsBefore goes ws)) ≤ length (cond t (without goes ws) (w ∷ without goes ws))
       go true ih = omega arith
       go false ih = omega (arith, ih)
 
@@ -143,7 +139,8 @@ unfolding some
 not-some p [] j h l = absurd (omega arith)
 not-some p (w ∷ ws) j h l = go (p w) refl h j l (not-some p ws)
   where
-    go : (t : Bool) → p w ≡ t → (t || some p ws) ≡ false → (j : ℕ) → j < suc (length ws) → ((j : ℕ) → some p ws ≡ false → j < length ws → p (getD ws j []) ≡ false) → p (getD (w ∷ ws) j []) ≡ false
+    go : (t : Bool) → p w ≡ t → (t || some p ws) ≡ false → (j : ℕ) → j < suc (length ws)
+        → ((j : ℕ) → some p ws ≡ false → j < length ws → p (getD ws j []) ≡ false) → p (getD (w ∷ ws) j []) ≡ false
     go true e h j l ih = absurd (true≢false h)
     go false e h zero l ih = e
     go false e h (suc j) l ih = ih j h (omega arith)
@@ -178,7 +175,8 @@ by-test true f g = f refl
 by-test false f g = g refl
 
 module _ (goes : Row → Bool) (s size : ℕ) (ws : List Row) (two : 2 ≤ s) (long : AllLong s ws) (long′ : AllLong s (without goes ws)) where
-  moved : (i : ℕ) → distinctNumbers ws ≡ true → i < length ws → From (suc i) i (length (without goes ws)) ws (getD (without goes ws) i []) → i < length (without goes ws)
+  moved : (i : ℕ) → distinctNumbers ws ≡ true → i < length ws → From (suc i) i (length (without goes ws)) ws (getD (without goes ws) i [])
+      → i < length (without goes ws)
       → numberAt s i (packed size (without goes ws)) ≡ numberAt s i (packed size ws) → ⊥
   moved i d l f k e =
       numbers-apart ws i (f .place) d (f .behind) (f .inside k)
@@ -198,14 +196,16 @@ module _ (goes : Row → Bool) (s size : ℕ) (ws : List Row) (two : 2 ≤ s) (l
       (λ k. gone i n l room (omega (arith, leb-false (suc i) (length (without goes ws)) k)) e)
 
   -- before it, each place has the same
-  pub gap-before : (i : ℕ) → rowsBefore goes ws ≤ length ws → i < rowsBefore goes ws → numberAt s i (packed size (without goes ws)) ≡ numberAt s i (packed size ws)
+  pub gap-before : (i : ℕ) → rowsBefore goes ws ≤ length ws → i < rowsBefore goes ws
+      → numberAt s i (packed size (without goes ws)) ≡ numberAt s i (packed size ws)
   gap-before i few h =
       number-held s size i (without goes ws) long′ two (omega (arith, before-kept goes ws))
       ∙ ap (take 2) (before-stay goes ws i h)
       ∙ sym (number-held s size i ws long two (omega arith))
 
   -- and after it
-  pub gap-after : (i : ℕ) → length (without goes ws) ≤ length ws → length ws ≤ i → i * s + s ≤ size → numberAt s i (packed size (without goes ws)) ≡ numberAt s i (packed size ws)
+  pub gap-after : (i : ℕ) → length (without goes ws) ≤ length ws → length ws ≤ i → i * s + s ≤ size
+      → numberAt s i (packed size (without goes ws)) ≡ numberAt s i (packed size ws)
   gap-after i few h room =
       number-unused s size i (without goes ws) long′ two (omega arith) room ∙ sym (number-unused s size i ws long two h room)
 
@@ -254,6 +254,7 @@ unfolding placeFrom rowsBefore
 place-before goes n i [] p = absurd (true≢false (sym (ap isAt p)))
 place-before goes n i (w ∷ ws) p = go (goes w) p (place-before goes (n + 1) i ws)
   where
-    go : (t : Bool) → cond t (At n) (placeFrom (n + 1) goes ws) ≡ At i → (placeFrom (n + 1) goes ws ≡ At i → i ≡ n + 1 + rowsBefore goes ws) → i ≡ n + cond t 0 (suc (rowsBefore goes ws))
+    go : (t : Bool) → cond t (At n) (placeFrom (n + 1) goes ws) ≡ At i → (placeFrom (n + 1) goes ws ≡ At i → i ≡ n + 1 + rowsBefore goes ws)
+        → i ≡ n + cond t 0 (suc (rowsBefore goes ws))
     go true p ih = let q : n ≡ i = cc in omega arith
     go false p ih = omega (arith, ih p)

@@ -1,11 +1,8 @@
 -- Rows one after the other, each looked for among those before it: a row with a number of its own is one more distinct row.
 -- Assumes nothing.
-use mathlib.Core.Path.{_≡_, refl, sym, ap, _∙_}
-use mathlib.Core.Bool.{Bool, true, false, cond, _||_, true≢false}
-use mathlib.Core.List.{List, [], _∷_, _++_, append-assoc, append-nil}
-use Prim.Native.Nat.{suc}
-use lib.ListN.{length, take}
-use lib.Dec.{eqb, eqb·zero-suc, eqb·suc-suc}
+use Rattle.rows.proofs.Prelude.{_≡_, refl, sym, ap, _∙_, Bool, true, false, _||_, cond, true≢false, List, [], _∷_, _++_, append-assoc, append-nil, suc}
+use Rattle.rows.proofs.Prelude.{length, take, eqb}
+use lib.Dec.{eqb·zero-suc, eqb·suc-suc}
 use Rattle.rows.specs.Rows.{Row, numberedAs, some, distinctNumbers, beforeRepeat}
 use Rattle.rows.proofs.Laws.{some-append}
 use Rattle.rows.proofs.Kept.{same-sym, distinct-stored}

@@ -1,10 +1,8 @@
 -- Rows with distinct numbers, stored one after the other in an empty table, are the same rows again.
 -- Assumes nothing.
-use mathlib.Core.Path.{_≡_, refl, sym, ap, _∙_}
-use mathlib.Core.Bool.{Bool, true, false, cond, not, _&&_, _||_, true≢false, false≢true}
-use mathlib.Core.List.{List, [], _∷_, _++_, append-assoc, append-nil}
-use lib.ListN.{take}
-use Rattle.rows.specs.Rows.{Row, same, numberedAs, some, distinctNumbers, stored, storedAll}
+use Rattle.rows.proofs.Prelude.{_≡_, refl, sym, ap, _∙_, Bool, true, false, not, _&&_, _||_, cond, false≢true, true≢false, List, [], _∷_, _++_}
+use Rattle.rows.proofs.Prelude.{append-assoc, append-nil, take}
+use Rattle.rows.specs.Rows.{Row, numberedAs, some, distinctNumbers, stored, storedAll}
 use Rattle.rows.proofs.Laws.{some-append}
 use Rattle.rows.proofs.Kept.{same-sym}
 

@@ -1,16 +1,10 @@
 -- Bytes that are all 0: a union of bytes is 0 where each is, and the bytes of a list are where those of its parts are.
 -- Assumes nothing.
-use mathlib.Core.Path.{_≡_, refl, sym, ap, _∙_}
-use mathlib.Core.Bool.{Bool, true, false, _&&_, and-assoc}
-use mathlib.Core.List.{List, [], _∷_, _++_}
-use Prim.Native.Nat.{ℕ, zero, suc, _+_, _<_, _≤_}
-use native.Mathlib.Numerals.{add-one}
-use native.Mathlib.Omega.{arith}
-use borrow.Author.Tests.{ne-eqb}
-use lib.Bits.{bitOr, or-add-and, and-le-r}
-use lib.Dec.{eqb, eqb·suc-zero}
-use lib.ListN.{length, take, drop, getD, take-append-drop, drop-of-length-le}
-use lib.Seq.{drop-cons, drop-drop}
+use Rattle.rows.proofs.Prelude.{_≡_, refl, sym, ap, _∙_, Bool, true, false, _&&_, List, [], _∷_, _++_, ℕ, zero, suc, _+_, _≤_, _<_, add-one, arith}
+use Rattle.rows.proofs.Prelude.{length, take, drop, getD, drop-of-length-le, take-append-drop, drop-cons, drop-drop, eqb, bitOr, ne-eqb}
+use mathlib.Core.Bool.{and-assoc}
+use lib.Bits.{or-add-and, and-le-r}
+use lib.Dec.{eqb·suc-zero}
 use Rattle.rows.specs.Rows.{allZero}
 
 -- ---- unions

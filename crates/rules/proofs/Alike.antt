@@ -1,28 +1,22 @@
 -- Two sound tables that differ in the asserted roles of the chosen partners alone give a record of the others the same answer, permission, reply, places and links.
 -- Afterwards they still differ in these roles alone.
-use Prim.Native.Nat.{ℕ, _+_, _-_, _/_, _^_, _≤_, _<_}
-use native.Mathlib.Omega.{arith}
-use mathlib.Core.Path.{_≡_, refl, sym, ap, ap₂, _∙_}
-use mathlib.Core.Bool.{Bool, true, false, not, _&&_, _||_, cond}
-use mathlib.Core.List.{List, [], _∷_, _++_, map}
-use lib.Count.{ones}
-use lib.Dec.{eqb, leb}
-use lib.ListN.{length, take, length-append, length-take, length-replicate, length-map}
+use Rattle.rows.proofs.Prelude.{_≡_, refl, sym, ap, ap₂, _∙_, Bool, true, false, not, _&&_, _||_, cond, List, [], _∷_, _++_, map, ℕ, _+_, _/_, _^_, _≤_, _<_}
+use Rattle.rows.proofs.Prelude.{arith, length, take, length-append, length-map, length-replicate, length-take, eqb, leb, ones}
 use Rattle.rows.specs.Rows.{Row, packed, same, hasKey, numberedAs, firstRow, rowsBefore, some, without, stored}
 use Rattle.rows.proofs.Laws.{length-rowsOf, kept}
-use Rattle.rows.proofs.Kept.{AllLong, every-long, rowsOf-packed}
+use Rattle.rows.proofs.Kept.{AllLong, every-long}
 use Rattle.rules.specs.declared.Tables.{Tables}
 use Rattle.rules.specs.declared.Table.the-variants.{Creds, Aces}
 use Rattle.rules.specs.declared.Check.{Check}
 use Rattle.rules.specs.declared.Check.the-variants.{Pass, Refuse}
 use Rattle.rules.specs.declared.Action.{Action}
 use Rattle.rules.specs.declared.Action.the-variants.{Serve, Read, SetRowOwner, SetOwner, SetState, Store, Remove, Assert, Malformed}
-use Rattle.rules.specs.Record.{Request, asked, Sender, unauthenticated, partner, sender, connection, credential, resource, body}
+use Rattle.rules.specs.Record.{Request, received, Sender, unauthenticated, partner, sender, connection, credential, resource, body}
 use Rattle.rules.specs.Bits.{word}
 use Rattle.rules.specs.Directory.{links, someSecurity}
 use Rattle.rules.specs.Bodies.{isNil, newOwner, rowNumber, credSubject}
 use Rattle.rules.specs.Roles.{bodyOf, withoutRoles, asserted}
-use Rattle.rules.specs.Tables.{storable, rowOf, bytes, rows, withRows, rowOwner, sound, withState, withOwner, withRowOwner}
+use Rattle.rules.specs.Tables.{storable, rowOf, rows, withRows, rowOwner, sound, withState, withOwner, withRowOwner}
 use Rattle.rules.specs.Permission.{numbered, credentialIn, ownRow, connectionOf, isRow, subjectIs, names, isOwner, byOwner, byNoOwner, effectiveOf, permission}
 use Rattle.rules.specs.States.{stateAllows, moveAllowed}
 use Rattle.rules.specs.Places.{gapOf, placesOf}
@@ -31,11 +25,11 @@ use Rattle.rules.specs.Action.{action}
 use Rattle.rules.specs.Checks.{noRow, noCredential, badTarget, missing, full, checks, verdict}
 use Rattle.rules.specs.Links.{ownRecord, permits, setOf, asksLinks, linkSet, linksOf}
 use Rattle.rules.specs.Defaults.{Defaults, fresh}
-use Rattle.rules.specs.Outcome.{Outcome, entered, effect, outcomeOf, outcomeAt, outcome, replyTo, tablesAfter}
+use Rattle.rules.specs.Outcome.{Outcome, entered, effect, outcomeOf, outcomeAt, outcome, toldTo, tablesAfter}
 use Rattle.rules.specs.Isolation.{namesOwner, mayFit, mayAlter, Harmless, hidden, hiddenIn, compared}
 use Rattle.rules.proofs.Bools.{cond-cases, bool-cases, contradiction}
 use Rattle.rules.proofs.BitLaws.{bits-small}
-use Rattle.rules.proofs.Answers.{long-enough, table-parts, rows-are, rows-counted}
+use Rattle.rules.proofs.Answers.{long-enough, table-parts, rows-are}
 use Rattle.rules.proofs.BodyLaws.{Valid, action-valid, sized}
 use Rattle.rules.proofs.TableLaws.{table-is, few-rows, rows-long, rows-with}
 use Rattle.rules.proofs.SoundKept.{SoundRows, Passed, passed-all, stored-sound, removed-sound, asserted-sound}
@@ -272,7 +266,7 @@ module _ (chosen : Sender → Bool) where
     -- ---- the links
     permits-alike : (clock : ℕ) (r : List ℕ) → chosen (sender r) ≡ false → permits clock s r ≡ permits clock t r
     unfolding permits
-    permits-alike clock r c = rw (permission-alike r c clock, checks-alike (asked clock r 0) c (permission clock t r))
+    permits-alike clock r c = rw (permission-alike r c clock, checks-alike (received clock r 0) c (permission clock t r))
 
     pub links-alike : (clock : ℕ) (r : List ℕ) → 4 ≤ length r → chosen (sender r) ≡ false → linksOf clock s r ≡ linksOf clock t r
     unfolding linkSet
@@ -303,7 +297,8 @@ module _ (chosen : Sender → Bool) where
         ∙ sym (without-map (hidden chosen) hidden-body p sees (rows Creds t)))
         ∙ sym (hidden-with t (without p (rows Creds t)) (removed-sound Creds t p ht))
 
-    effect-alike : (d : Defaults) (q : Request) (a : Action) → chosen (sender (q .bytes)) ≡ false → Passed s q a → Passed t q a → hiddenIn chosen (effect d (q .clock) s (q .bytes) a) ≡ hiddenIn chosen (effect d (q .clock) t (q .bytes) a)
+    effect-alike : (d : Defaults) (q : Request) (a : Action) → chosen (sender (q .bytes)) ≡ false → Passed s q a → Passed t q a
+        → hiddenIn chosen (effect d (q .clock) s (q .bytes) a) ≡ hiddenIn chosen (effect d (q .clock) t (q .bytes) a)
     unfolding entered
     effect-alike d q Serve c x y = e
     effect-alike d q Read c x y = e
@@ -325,7 +320,7 @@ module _ (chosen : Sender → Bool) where
     module _ (d : Defaults) (q : Request) (c : chosen (sender (q .bytes)) ≡ false) where
       -- where one verdict is given
       verdict-alike : (p : ℕ) (v : Check) → verdict (checks t p q) ≡ v
-          → (outcomeOf d s p q v .reply ≡ outcomeOf d t p q v .reply) × (hiddenIn chosen (outcomeOf d s p q v .tables) ≡ hiddenIn chosen (outcomeOf d t p q v .tables))
+          → (outcomeOf d s p q v .told ≡ outcomeOf d t p q v .told) × (hiddenIn chosen (outcomeOf d s p q v .tables) ≡ hiddenIn chosen (outcomeOf d t p q v .tables))
       verdict-alike p Pass v =
           let x = passed-all s p q (ap verdict (checks-alike q c p) ∙ v) in
           let y = passed-all t p q v in
@@ -340,12 +335,12 @@ module _ (chosen : Sender → Bool) where
           ∙ ap (λ (es : List (ℕ × Bool)). outcomeOf d s p q (verdict es)) (checks-alike q c p)
 
       -- the same for the sender, and afterwards the same but for what is hidden
-      pub outcome-alike : (replyTo d s q ≡ replyTo d t q) × (hiddenIn chosen (tablesAfter d s q) ≡ hiddenIn chosen (tablesAfter d t q))
+      pub outcome-alike : (toldTo d s q ≡ toldTo d t q) × (hiddenIn chosen (tablesAfter d s q) ≡ hiddenIn chosen (tablesAfter d t q))
       unfolding outcome outcomeAt
       outcome-alike =
           let p = permission (q .clock) t (q .bytes) in
           let both = verdict-alike p (verdict (checks t p q)) refl in
-          (ap (λ (o : Outcome). o .reply) outcome-is ∙ both .0, ap (λ (o : Outcome). hiddenIn chosen (o .tables)) outcome-is ∙ both .1)
+          (ap (λ (o : Outcome). o .told) outcome-is ∙ both .0, ap (λ (o : Outcome). hiddenIn chosen (o .tables)) outcome-is ∙ both .1)
 
     -- ---- the premise: a chosen partner's row has the same body in both
 

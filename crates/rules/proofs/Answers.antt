@@ -1,19 +1,12 @@
 -- What a verdict says of each check, and what soundness says of each part.
 -- A permitted record passed every check: cited by number, so an added check moves nothing.
-use Prim.Native.Nat.{ℕ, _*_, _≤_}
-use native.Mathlib.Nat.{min-eq-left}
-use native.Mathlib.Omega.{arith}
-use mathlib.Core.Path.{_≡_, refl, ap}
-use mathlib.Core.Bool.{Bool, true, false, cond}
-use mathlib.Core.List.{List, [], _∷_}
-use lib.Dec.{eqb, ltb}
-use lib.ListN.{length, drop}
-use borrow.Author.Tests.{ltb-false, le-ltb, leb-true}
+use Rattle.rows.proofs.Prelude.{_≡_, refl, ap, Bool, true, false, cond, List, [], _∷_, ℕ, _*_, _≤_, min-eq-left, arith, length, drop, eqb, ltb, le-ltb}
+use Rattle.rows.proofs.Prelude.{leb-true, ltb-false}
 use Rattle.rows.specs.Rows.{rowsOf, every, allZero, distinctNumbers}
 use Rattle.rules.specs.declared.Tables.{Tables}
 use Rattle.rules.specs.declared.Table.{Table}
 use Rattle.rules.specs.declared.Table.the-variants.{Creds, Aces}
-use Rattle.rules.specs.declared.Check.the-variants.{Pass, Refuse}
+use Rattle.rules.specs.declared.Check.the-variants.{Pass}
 use Rattle.rules.specs.Record.{Request}
 use Rattle.rules.specs.Reading.{reads, replyOf, tooShort}
 use Rattle.rules.specs.Tables.{stride, capacity, storable, count, bytes, rows, rowsIn, rowsSound, headSound, sound}

@@ -1,23 +1,17 @@
 -- Theorem: the body of a record for an application resource decides nothing, as long as the record has a length that is allowed.
 -- So a link's own record, which has none, speaks for every record with its header (U9).
-use Prim.Native.Nat.{ℕ, _≤_}
-use native.Mathlib.Omega.{arith}
-use mathlib.Core.Path.{_≡_, refl, sym, ap, _∙_}
-use mathlib.Core.Bool.{false, not, and-false}
-use mathlib.Core.List.{List, [], _∷_}
-use lib.ListN.{length}
-use borrow.Author.Tests.{le-ltb, le-leb}
+use Rattle.rows.proofs.Prelude.{_≡_, refl, sym, ap, _∙_, false, not, and-false, List, [], _∷_, ℕ, _≤_, arith, length, le-leb, le-ltb}
 use Rattle.rules.specs.declared.Tables.{Tables}
 use Rattle.rules.specs.declared.Action.the-variants.{Serve}
 use Rattle.rules.specs.Bits.{bit, bits}
 use Rattle.rules.specs.Directory.{isSecurity}
-use Rattle.rules.specs.Record.{Sender, asked, verb, resource, sender}
+use Rattle.rules.specs.Record.{Sender, received, verb, resource, sender}
 use Rattle.rules.specs.Defaults.{Defaults}
 use Rattle.rules.specs.Permission.{permission, effective, has, neededBit}
 use Rattle.rules.specs.Action.{action}
 use Rattle.rules.specs.Reading.{reads}
 use Rattle.rules.specs.Checks.{checks, verdict, numberOf, badLength, noVerb, zeroBitSet, mismatch, unknownResource, noRow, noCredential, noEndpoint, notPermitted, notOffered}
-use Rattle.rules.specs.Outcome.{replyTo}
+use Rattle.rules.specs.Outcome.{toldTo}
 use Rattle.rules.proofs.Answers.{no-reply-fits}
 use Rattle.rules.proofs.Refusals.{answer-is}
 
@@ -80,9 +74,9 @@ module _ (h i j k : ℕ) (b : List ℕ) (few : length b ≤ 252) where
     unread = (rw (plain, and-false), rw (plain, and-false))
 
     pub any-body : (d : Defaults) (t : Tables) (clock room : ℕ)
-        → replyTo d t (asked clock whole room) .answer ≡ replyTo d t (asked clock bare room) .answer
+        → toldTo d t (received clock whole room) .answer ≡ toldTo d t (received clock bare room) .answer
     any-body d t clock room =
-        let e : verdict (checks t (permission clock t whole) (asked clock whole room)) ≡ verdict (checks t (permission clock t bare) (asked clock bare room)) =
+        let e : verdict (checks t (permission clock t whole) (received clock whole room)) ≡ verdict (checks t (permission clock t bare) (received clock bare room)) =
         rw (
           long-same,
           verb-same,
@@ -95,7 +89,7 @@ module _ (h i j k : ℕ) (b : List ℕ) (few : length b ≤ 252) where
           offered-same,
           served .0,
           served .1,
-          no-reply-fits t (asked clock whole room) (unread .0),
-          no-reply-fits t (asked clock bare room) (unread .1),
+          no-reply-fits t (received clock whole room) (unread .0),
+          no-reply-fits t (received clock bare room) (unread .1),
         ) in
-        answer-is d t (asked clock whole room) ∙ ap numberOf e ∙ sym (answer-is d t (asked clock bare room))
+        answer-is d t (received clock whole room) ∙ ap numberOf e ∙ sym (answer-is d t (received clock bare room))

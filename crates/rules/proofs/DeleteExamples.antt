@@ -1,9 +1,6 @@
 -- Examples of rows that go and come back: deletes by subject (U3), the places that deletes report (U4), default rows (U5).
 -- All on the same table, two rows of a haulier between others.
-use Prim.Native.Nat.{ℕ}
-use mathlib.Core.Path.{_≡_, refl}
-use mathlib.Core.List.{List, [], _∷_, _++_}
-use lib.ListN.{replicate}
+use Rattle.rows.proofs.Prelude.{_≡_, refl, List, [], _∷_, _++_, ℕ, replicate}
 use Rattle.rules.specs.declared.Tables.{Tables}
 use Rattle.rules.specs.declared.Table.the-variants.{Creds, Aces}
 use Rattle.rules.specs.Record.{Request}
@@ -12,7 +9,7 @@ use Rattle.rules.specs.Tables.{withRows, empty}
 use Rattle.rules.specs.Defaults.{Defaults, noDefaults, defaultRows, fresh}
 use Rattle.rules.specs.declared.Places.{Places}
 use Rattle.rules.specs.Places.{nowhere}
-use Rattle.rules.specs.Outcome.{replyTo, tablesAfter}
+use Rattle.rules.specs.Outcome.{toldTo, tablesAfter}
 use Rattle.rules.proofs.Examples.{definitions, lent, answer, uuid, credRow, withCreds, owned5, aceBody, aceRow, weight, haulierRow}
 
 -- ---- delete by subject (U3): two rows of a haulier between others; the order of the rest is kept
@@ -31,9 +28,9 @@ subject-deleted = refl
 
 -- a haulier's rows; nobody's; nil; and of acl2, which takes no subject
 pub subject-answers :
-    replyTo noDefaults several (deletes (replicate 16 0x22)) .answer
-    ∷ replyTo noDefaults several (deletes (replicate 16 0x33)) .answer
-    ∷ replyTo noDefaults several (deletes nil) .answer
+    toldTo noDefaults several (deletes (replicate 16 0x22)) .answer
+    ∷ toldTo noDefaults several (deletes (replicate 16 0x33)) .answer
+    ∷ toldTo noDefaults several (deletes nil) .answer
     ∷ answer several (0x70 ∷ 0xc0 ∷ 0x00 ∷ 0x05 ∷ replicate 16 0x22)
     ∷ []
     ≡ 0 ∷ 13 ∷ 10 ∷ 10 ∷ []
@@ -46,12 +43,12 @@ pub at-places : ℕ → ℕ → Places
 at-places first many = record { first = first; many = many }
 
 pub places-told :
-    replyTo noDefaults several (deletes (replicate 16 0x22)) .places
-    ∷ replyTo noDefaults several (deletes (0x00 ∷ 0x04 ∷ [])) .places
-    ∷ replyTo noDefaults several (deletes (0x00 ∷ 0x06 ∷ [])) .places
-    ∷ replyTo noDefaults several (deletes []) .places
-    ∷ replyTo noDefaults several (lent (0x70 ∷ 0xc0 ∷ 0x00 ∷ 0x05 ∷ [])) .places
-    ∷ replyTo noDefaults several (deletes (0x00 ∷ 0x09 ∷ [])) .places
+    toldTo noDefaults several (deletes (replicate 16 0x22)) .places
+    ∷ toldTo noDefaults several (deletes (0x00 ∷ 0x04 ∷ [])) .places
+    ∷ toldTo noDefaults several (deletes (0x00 ∷ 0x06 ∷ [])) .places
+    ∷ toldTo noDefaults several (deletes []) .places
+    ∷ toldTo noDefaults several (lent (0x70 ∷ 0xc0 ∷ 0x00 ∷ 0x05 ∷ [])) .places
+    ∷ toldTo noDefaults several (deletes (0x00 ∷ 0x09 ∷ [])) .places
     ∷ []
     ≡ at-places 0 4 ∷ at-places 2 2 ∷ at-places 3 1 ∷ at-places 0 4 ∷ nowhere ∷ nowhere ∷ []
 unfolding definitions several deletes haulierRow owned5 uuid credRow at-places withCreds

@@ -1,13 +1,6 @@
 -- What a DELETE of rows asks for, and what a permitted one leaves and reports. No other record reports places.
 -- Of a record at any clock, with any buffer and for any default lists.
-use Prim.Native.Nat.{ℕ, _-_}
-use native.Mathlib.Omega.{arith}
-use mathlib.Core.Path.{_≡_, refl, sym, ap, ap₂, _∙_}
-use mathlib.Core.Bool.{Bool, true, false, not, _||_, cond}
-use mathlib.Core.List.{List, [], _∷_}
-use lib.Dec.{eqb}
-use lib.ListN.{length}
-use borrow.Author.Tests.{eqb-true, not-false}
+use Rattle.rows.proofs.Prelude.{_≡_, refl, sym, ap, ap₂, _∙_, Bool, true, false, not, _||_, cond, List, [], _∷_, ℕ, arith, length, eqb, eqb-true, not-false}
 use Rattle.rows.specs.Rows.{Row, same, some, without, hasKey}
 use Rattle.rules.specs.declared.Tables.{Tables}
 use Rattle.rules.specs.declared.Table.{Table}
@@ -24,7 +17,7 @@ use Rattle.rules.specs.Action.{ifAllowed, updateDoxm, updatePstat, store
 use Rattle.rules.specs.Places.{nowhere, gapOf, placesOf, deletes}
 use Rattle.rules.specs.Permission.{permission}
 use Rattle.rules.specs.Checks.{checks, isMalformed, missing}
-use Rattle.rules.specs.Outcome.{Outcome, effect, replyTo, tablesAfter}
+use Rattle.rules.specs.Outcome.{Outcome, effect, toldTo, tablesAfter}
 use Rattle.rules.proofs.Bools.{cond-cases, bool-cases, contradiction, and-left, and-right, and-both}
 use Rattle.rules.proofs.Answers.{passed}
 use Rattle.rules.proofs.Refusals.{permitted-passes, permitted-outcome}
@@ -96,9 +89,9 @@ module _ (d : Defaults) (t : Tables) (q : Request) (k : Table) where
     pub sound : sound t ≡ true
     pub none : some (hasKey at (body (q .bytes))) (rows k t) ≡ false → rows k t ≡ []
     pub tables : tablesAfter d t q ≡ withRows k t (without (hasKey at (body (q .bytes))) (rows k t))
-    pub places : replyTo d t q .places ≡ gapOf (hasKey at (body (q .bytes))) (rows k t)
+    pub places : toldTo d t q .places ≡ gapOf (hasKey at (body (q .bytes))) (rows k t)
 
-  pub deleted : deletes k (q .bytes) ≡ true → replyTo d t q .answer ≡ 0 → Deleted
+  pub deleted : deletes k (q .bytes) ≡ true → toldTo d t q .answer ≡ 0 → Deleted
   deleted h z =
       let r = q .bytes in
       let p = permission (q .clock) t r in
@@ -113,7 +106,7 @@ module _ (d : Defaults) (t : Tables) (q : Request) (k : Table) where
         sound = not-false (sound t) (passed (checks t p q) e 1);
         none = found k (m .0) t (body r) (ap (missing t (body r)) (sym a) ∙ passed (checks t p q) e 13);
         tables = ap (λ (x : Outcome). x .tables) o ∙ ap (effect d (q .clock) t r) a;
-        places = ap (λ (x : Outcome). x .reply .places) o ∙ ap (placesOf t (body r)) a;
+        places = ap (λ (x : Outcome). x .told .places) o ∙ ap (placesOf t (body r)) a;
       }
 
 -- ---- any other

@@ -1,17 +1,13 @@
 -- The paper's own examples as theorems: the fourteen rows of 'Why a record is turned away', the worked run, the readings to guard against, full tables.
 -- Before them the rows and tables that the examples of all requests are made of.
-use Prim.Native.Nat.{ℕ, zero, suc, _+_, _*_, _/_, _%_}
-use mathlib.Core.Path.{_≡_, refl}
-use mathlib.Core.Bool.{false}
-use mathlib.Core.List.{List, [], _∷_, _++_, map}
-use lib.ListN.{replicate}
-use lib.Count.{ones, onesIn}
-use Rattle.rows.specs.Rows.{Row, rowsBefore, rowsOf, joined, packed, allZero, same, hasKey, numberedAs, placeFrom, firstRow, some, every, without, distinctNumbers, stored, unionOf, withRow}
+use Rattle.rows.proofs.Prelude.{_≡_, refl, false, List, [], _∷_, _++_, map, ℕ, zero, suc, _+_, _*_, _/_, _%_, replicate, ones, onesIn}
+use Rattle.rows.specs.Rows.{Row, rowsBefore, rowsOf, joined, packed, allZero, same, hasKey, numberedAs, firstRow, some, every, without, distinctNumbers, stored, unionOf, withRow}
+use Rattle.rows.specs.Contracts.{placeFrom}
 use Rattle.rules.specs.declared.Tables.{Tables}
 use Rattle.rules.specs.declared.Table.the-variants.{Creds, Aces}
 use Rattle.rules.specs.Bits.{bit, bits, word}
 use Rattle.rules.specs.Directory.{resourceOf}
-use Rattle.rules.specs.Record.{Request, asked, unauthenticated, partner, sender, payloadOf}
+use Rattle.rules.specs.Record.{Request, received, unauthenticated, partner, sender, payloadOf}
 use Rattle.rules.specs.Bodies.{nil, isNil, ownerBody, stateBody, credStorable, credRowOf, setKnown, subjectStorable, aceStorable, everySecond, aceRowOf}
 use Rattle.rules.specs.Roles.{noRole, free, sameRole, unasserted, rolesInForce, rolesSound, credHeld, withRole, bothTaken, asserted}
 use Rattle.rules.specs.Tables.{rowsIn, withRows, rowsSound, headSound, sound, empty, rowOwner, withOwner, withState}
@@ -23,7 +19,7 @@ use Rattle.rules.specs.Places.{nowhere, gapOf}
 use Rattle.rules.specs.Links.{asksLinks, linkSet, noLinks}
 use Rattle.rules.specs.Reading.{ownBody, rowBytes, contents, reads, replyOf, tooShort}
 use Rattle.rules.specs.Checks.{badLength, noVerb, zeroBitSet, mismatch, unknownResource, noCredential, noEndpoint, notPermitted, offered, notOffered, verdict}
-use Rattle.rules.specs.Outcome.{outcomeAt, outcome, entered, replyTo, tablesAfter}
+use Rattle.rules.specs.Outcome.{outcomeAt, outcome, entered, toldTo, tablesAfter}
 use Rattle.rules.specs.Run.{replies}
 
 -- `unfolding definitions` opens all that its own line names
@@ -33,10 +29,10 @@ definitions = tt
 
 -- a record at clock 0, with a buffer that fits any reply
 abbrev pub lent : List ℕ → Request
-lent r = asked 0 r 1168
+lent r = received 0 r 1168
 
 abbrev pub answer : Tables → List ℕ → ℕ
-answer t r = replyTo noDefaults t (lent r) .answer
+answer t r = toldTo noDefaults t (lent r) .answer
 
 -- sixteen bytes 11
 unfoldable pub uuid : List ℕ
@@ -150,7 +146,7 @@ workedRun =
 
 -- a line of the run: answer, permission, state afterwards
 pub line : Tables → Request → List ℕ
-line t q = replyTo noDefaults t q .answer ∷ replyTo noDefaults t q .permission ∷ tablesAfter noDefaults t q .state ∷ []
+line t q = toldTo noDefaults t q .answer ∷ toldTo noDefaults t q .permission ∷ tablesAfter noDefaults t q .state ∷ []
 
 pub worked : replies line (tablesAfter noDefaults) (fresh noDefaults) (map lent workedRun) ≡ (0 ∷ 31 ∷ 1 ∷ []) ∷ (0 ∷ 31 ∷ 1 ∷ []) ∷ (8 ∷ 0 ∷ 1 ∷ []) ∷ (0 ∷ 31 ∷ 2 ∷ []) ∷ (12 ∷ 0 ∷ 2 ∷ []) ∷ []
 unfolding definitions line workedRun uuid credBody credRow withCreds
@@ -196,6 +192,6 @@ pub crowded : Tables
 crowded = withState (withOwner (withCreds (withRows Aces (fresh noDefaults) (aceRows 32)) (credRows 24)) 1 uuid) 3
 
 -- RETRIEVE of resource 8 by the owner's credential 5
-pub crowded-read : replyTo noDefaults crowded (lent (0x32 ∷ 0x00 ∷ 0x00 ∷ 0x05 ∷ 0x77 ∷ [])) ≡ record { answer = 0; permission = 2; payload = 0x77 ∷ []; contents = []; places = nowhere; links = noLinks }
+pub crowded-read : toldTo noDefaults crowded (lent (0x32 ∷ 0x00 ∷ 0x00 ∷ 0x05 ∷ 0x77 ∷ [])) ≡ record { answer = 0; permission = 2; payload = 0x77 ∷ []; contents = []; places = nowhere; links = noLinks }
 unfolding definitions crowded aceRows aceBody aceRow weight credRows credRow uuid withCreds
 crowded-read = refl

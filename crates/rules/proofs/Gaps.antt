@@ -1,16 +1,10 @@
 -- Theorems, U4: after a DELETE each reported place holds another row number than before, 0 when unused, and no other place does.
 -- No byte before the first place is another, nor one behind the last, so that the old bytes with the places overwritten are the new ones.
 -- Over the rows that go; of a record in Wear.antt. The bytes' lengths are those that the struct's types give.
-use Prim.Native.Nat.{ℕ, _+_, _*_, _-_, _≤_, _<_}
-use native.Mathlib.Nat.{mul-le-mul-right, suc-mul, add-mul, le-trans}
-use native.Mathlib.Omega.{arith}
-use mathlib.Core.Path.{_≡_, refl, sym, ap, ap₂, _∙_}
-use mathlib.Core.Bool.{Bool, true, false, not, cond}
-use mathlib.Core.List.{List, [], _∷_, _++_}
-use lib.Dec.{eqb}
-use lib.ListN.{length, take, drop, getD, take-append-drop}
-use lib.Seq.{getD-take, take-take, drop-drop}
-use borrow.Author.Tests.{eq-eqb, not-true}
+use Rattle.rows.proofs.Prelude.{_≡_, refl, sym, ap, ap₂, _∙_, Bool, true, false, not, cond, List, [], _∷_, _++_, ℕ, _+_, _-_, _*_, _≤_, _<_, le-trans}
+use Rattle.rows.proofs.Prelude.{mul-le-mul-right, suc-mul, arith, length, take, drop, getD, take-append-drop, drop-drop, getD-take, take-take, eqb, eq-eqb}
+use Rattle.rows.proofs.Prelude.{not-true}
+use native.Mathlib.Nat.{add-mul}
 use Rattle.rows.specs.Rows.{Row, packed, every, some, without, numberAt, rowsBefore}
 use Rattle.rows.proofs.Laws.{kept}
 use Rattle.rows.proofs.Kept.{AllLong, every-long, every-without, length-without}
@@ -129,11 +123,13 @@ module _ (k : Table) (t : Tables) (goes : Row → Bool) (h : sound t ≡ true) (
       go false m = absurd (omega arith)
 
   -- nor after the last
-  pub places-after : (i : ℕ) → gapOf goes (rows k t) .first + gapOf goes (rows k t) .many ≤ i → i < capacity k → numberAt (stride k) i (bytes k after) ≡ numberAt (stride k) i (bytes k t)
+  pub places-after : (i : ℕ) → gapOf goes (rows k t) .first + gapOf goes (rows k t) .many ≤ i → i < capacity k
+      → numberAt (stride k) i (bytes k after) ≡ numberAt (stride k) i (bytes k t)
   unfolding gapOf
   places-after i m c = go (some goes (rows k t)) refl m
     where
-      go : (b : Bool) → some goes (rows k t) ≡ b → cond b found nowhere .first + cond b found nowhere .many ≤ i → numberAt (stride k) i (bytes k after) ≡ numberAt (stride k) i (bytes k t)
+      go : (b : Bool) → some goes (rows k t) ≡ b → cond b found nowhere .first + cond b found nowhere .many ≤ i
+          → numberAt (stride k) i (bytes k after) ≡ numberAt (stride k) i (bytes k t)
       go true s m =
           ap (numberAt (stride k) i) (with-bytes k t (without goes (rows k t)))
           ∙ gap.gap-after goes (stride k) (capacity k * stride k) (rows k t) (two-long k) long long′ i (length-without goes (rows k t)) (omega (arith, gap.before-all goes (rows k t))) (place-room k i c)
@@ -152,7 +148,8 @@ module _ (k : Table) (t : Tables) (goes : Row → Bool) (h : sound t ≡ true) (
   unfolding gapOf
   bytes-kept = go (some goes (rows k t)) refl
     where
-      go : (b : Bool) → some goes (rows k t) ≡ b → take (cond b found nowhere .first * stride k) (bytes k after) ≡ take (cond b found nowhere .first * stride k) (bytes k t)
+      go : (b : Bool) → some goes (rows k t) ≡ b
+          → take (cond b found nowhere .first * stride k) (bytes k after) ≡ take (cond b found nowhere .first * stride k) (bytes k t)
       go true s =
           ap (take (rowsBefore goes (rows k t) * stride k)) (with-bytes k t (without goes (rows k t)))
           ∙ gap.bytes-before goes (stride k) (capacity k * stride k) (rows k t) long long′ (gap.before-all goes (rows k t))

@@ -1,19 +1,15 @@
 -- Examples of what an access row gives: to the role of an authority (U7), in a season (U8), and of the whole yard at once (U9).
 -- Each beside a sender, a second or a resource that the row gives nothing.
-use Prim.Native.Nat.{ℕ}
-use mathlib.Core.Path.{_≡_, refl}
-use mathlib.Core.Bool.{true}
-use mathlib.Core.List.{List, [], _∷_, _++_, map}
-use lib.ListN.{replicate}
+use Rattle.rows.proofs.Prelude.{_≡_, refl, true, List, [], _∷_, _++_, map, ℕ, replicate}
 use Rattle.rows.specs.Rows.{Row}
 use Rattle.rules.specs.declared.Tables.{Tables}
 use Rattle.rules.specs.Directory.{someSecurity}
-use Rattle.rules.specs.Record.{asked, partner}
+use Rattle.rules.specs.Record.{received, partner}
 use Rattle.rules.specs.Bodies.{credRowOf, aceRowOf}
 use Rattle.rules.specs.Defaults.{noDefaults}
 use Rattle.rules.specs.Permission.{effective}
 use Rattle.rules.specs.Links.{ownRecord, permits, setOf}
-use Rattle.rules.specs.Outcome.{replyTo, tablesAfter}
+use Rattle.rules.specs.Outcome.{toldTo, tablesAfter}
 use Rattle.rules.specs.Run.{replies}
 use Rattle.rules.specs.Isolation.{rowAlters, mayFit, mayAlter}
 use Rattle.rules.proofs.Examples.{definitions, answer, uuid, credRow, withCreds, owned5, aceBody, aceRow, weight, serving, haulierRow}
@@ -77,7 +73,7 @@ unfolding definitions harvest seasonRow haulierRow owned5 serving aceBody aceRow
 periods-owner = refl
 
 -- a run in which each record has its own clock: the contractor reads resource 8
-pub season-run : replies (λ t q. replyTo noDefaults t q .answer) (tablesAfter noDefaults) harvest (map (λ clock. asked clock (0x32 ∷ 0x00 ∷ 0x00 ∷ 0x07 ∷ []) 0) (9 ∷ 10 ∷ 20 ∷ 21 ∷ 15 ∷ [])) ≡ 8 ∷ 0 ∷ 0 ∷ 8 ∷ 0 ∷ []
+pub season-run : replies (λ t q. toldTo noDefaults t q .answer) (tablesAfter noDefaults) harvest (map (λ clock. received clock (0x32 ∷ 0x00 ∷ 0x00 ∷ 0x07 ∷ []) 0) (9 ∷ 10 ∷ 20 ∷ 21 ∷ 15 ∷ [])) ≡ 8 ∷ 0 ∷ 0 ∷ 8 ∷ 0 ∷ []
 unfolding definitions harvest seasonRow haulierRow owned5 serving aceBody aceRow weight uuid credRow withCreds
 season-run = refl
 
@@ -107,7 +103,7 @@ polled = withCreds (serving (seasonRow 1 ∷ aceRow 2 0 6 0 (0 ∷ 0x06 ∷ 0x80
 
 -- the set that a record is answered
 pub told : ℕ → List ℕ → ℕ
-told clock r = replyTo noDefaults polled (asked clock r 0) .links .set
+told clock r = toldTo noDefaults polled (received clock r 0) .links .set
 
 -- RETRIEVE in and out of the season, UPDATE and OBSERVE of /yard by the contractor, and RETRIEVE of 13: 13 has the secure endpoint, 14 has not
 pub links-told :
@@ -122,6 +118,6 @@ unfolding definitions permits ownRecord setOf told polled seasonRow haulierRow o
 links-told = refl
 
 -- and /yard itself is answered
-pub yard-answered : map (λ clock. replyTo noDefaults polled (asked clock (0x34 ∷ 0x00 ∷ 0x00 ∷ 0x07 ∷ []) 0) .answer) (15 ∷ 21 ∷ []) ≡ 0 ∷ 0 ∷ []
+pub yard-answered : map (λ clock. toldTo noDefaults polled (received clock (0x34 ∷ 0x00 ∷ 0x00 ∷ 0x07 ∷ []) 0) .answer) (15 ∷ 21 ∷ []) ≡ 0 ∷ 0 ∷ []
 unfolding definitions polled seasonRow haulierRow owned5 serving aceBody aceRow weight uuid credRow withCreds
 yard-answered = refl

@@ -1,12 +1,6 @@
 -- Theorem, demand 3 over the rules: what the chosen senders send changes nothing for the others, nor the tables at the end but for the roles that chosen partners asserted.
 -- One claim over the whole list, from 'The others alone'; the premise is read along the others' run. Each request has its clock and its buffer's length.
-use Prim.Native.Nat.{ℕ}
-use mathlib.Core.Path.{_≡_, refl, sym, ap, _∙_}
-use mathlib.Core.Bool.{Bool, true, false, not, _||_, true≢false}
-use mathlib.Core.List.{List}
-use lib.Dec.{eqb}
-use lib.ListN.{length}
-use borrow.Author.Tests.{eqb-true, not-true, not-false}
+use Rattle.rows.proofs.Prelude.{_≡_, refl, sym, ap, _∙_, Bool, true, false, not, _||_, true≢false, List, ℕ, length, eqb, eqb-true, not-false, not-true}
 use Rattle.rows.specs.Rows.{stored}
 use Rattle.rules.specs.declared.Tables.{Tables}
 use Rattle.rules.specs.declared.Table.the-variants.{Creds}
@@ -21,7 +15,7 @@ use Rattle.rules.specs.Tables.{rows, withRows, sound}
 use Rattle.rules.specs.Action.{action, securityAction, ifAllowed, updateRoles, updateAction, deleteAction, readAction}
 use Rattle.rules.specs.Checks.{checks, verdict, notPermitted}
 use Rattle.rules.specs.Permission.{C, U, has, neededBit, ownRow, permission}
-use Rattle.rules.specs.Outcome.{Outcome, outcome, outcomeAt, outcomeOf, effect, replyTo, tablesAfter}
+use Rattle.rules.specs.Outcome.{Outcome, outcome, outcomeAt, outcomeOf, effect, toldTo, tablesAfter}
 use Rattle.rules.specs.Run.{replies, final, Along, kept, keptOf}
 use Rattle.rules.specs.Defaults.{Defaults}
 use Rattle.rules.specs.Isolation.{Harmless, Premise, isOthers, alters, hidden, hiddenIn, compared}
@@ -80,7 +74,8 @@ roles-still v c b =
     (λ _. cond-cases Still (eqb v 3) (λ _. tt)
     (λ _. cond-cases Still (eqb v 4) (λ _. read-still b) (λ _. tt))))
 
-action-still : (r : List ℕ) (p : ℕ) → (isSecurity (resource r) ≡ true → eqb (resource r) roles ≡ false → alters p ≡ false) → has p (neededBit (verb r)) ≡ true → Still (action r)
+action-still : (r : List ℕ) (p : ℕ) → (isSecurity (resource r) ≡ true → eqb (resource r) roles ≡ false → alters p ≡ false)
+    → has p (neededBit (verb r)) ≡ true → Still (action r)
 unfolding action
 action-still r p lacks h =
     cond-cases Still (isSecurity (resource r))
@@ -108,7 +103,8 @@ module _ (d : Defaults) (chosen : Sender → Bool) where
       hidden-with chosen t (stored new (rows Creds t)) (asserted-sound c t q h x)
       ∙ ap (withRows Creds t) (stored-over (hidden chosen) (hidden-body chosen) new (rows Creds t) (asserted-number t r h a (q .clock) b) (same ∙ ap (hidden chosen) (sym (asserted-first t r h a (q .clock) b))))
 
-  still-hidden : (t : Tables) (q : Request) (a : Action) → Still a → chosen (sender (q .bytes)) ≡ true → sound t ≡ true → Passed t q a → hiddenIn chosen (effect d (q .clock) t (q .bytes) a) ≡ hiddenIn chosen t
+  still-hidden : (t : Tables) (q : Request) (a : Action) → Still a → chosen (sender (q .bytes)) ≡ true → sound t ≡ true → Passed t q a
+      → hiddenIn chosen (effect d (q .clock) t (q .bytes) a) ≡ hiddenIn chosen t
   still-hidden t q Serve s c h x = refl
   still-hidden t q Read s c h x = refl
   still-hidden t q (SetRowOwner n) s c h x = absurd s
@@ -122,7 +118,8 @@ module _ (d : Defaults) (chosen : Sender → Bool) where
   -- ---- a record of the chosen
 
   -- sound tables are the same afterwards but for what is hidden
-  unchanged : (t : Tables) (q : Request) → chosen (sender (q .bytes)) ≡ true → sound t ≡ true → Harmless chosen t → hiddenIn chosen (tablesAfter d t q) ≡ hiddenIn chosen t
+  unchanged : (t : Tables) (q : Request) → chosen (sender (q .bytes)) ≡ true → sound t ≡ true → Harmless chosen t
+      → hiddenIn chosen (tablesAfter d t q) ≡ hiddenIn chosen t
   unfolding outcome outcomeAt permission notPermitted
   unchanged t q c h safe = go (verdict (checks t p q)) refl
     where
@@ -154,7 +151,8 @@ module _ (d : Defaults) (chosen : Sender → Bool) where
   whole-same : (s b : Tables) → Related s b → sound s ≡ false → s ≡ b
   whole-same s b e h = sym (compared-unsound chosen s h) ∙ e .same ∙ compared-unsound chosen b (sym (e .sound) ∙ h)
 
-  compared-after : (t u : Tables) (q : Request) → sound t ≡ true → sound u ≡ true → hiddenIn chosen (tablesAfter d t q) ≡ hiddenIn chosen u → compared chosen (tablesAfter d t q) ≡ compared chosen u
+  compared-after : (t u : Tables) (q : Request) → sound t ≡ true → sound u ≡ true → hiddenIn chosen (tablesAfter d t q) ≡ hiddenIn chosen u
+      → compared chosen (tablesAfter d t q) ≡ compared chosen u
   compared-after t u q h k e = compared-sound chosen (tablesAfter d t q) (sound-kept d t q h) ∙ e ∙ sym (compared-sound chosen u k)
 
   pub silent : (s b : Tables) (q : Request) → isOthers chosen q ≡ false → Premise chosen b → Related s b → Related (tablesAfter d s q) b
@@ -169,7 +167,8 @@ module _ (d : Defaults) (chosen : Sender → Bool) where
     sound = sound-same d s q ∙ e .sound;
   }
 
-  pub alike : (s b : Tables) (q : Request) → isOthers chosen q ≡ true → Premise chosen b → Related s b → (replyTo d s q ≡ replyTo d b q) × Related (tablesAfter d s q) (tablesAfter d b q)
+  pub alike : (s b : Tables) (q : Request) → isOthers chosen q ≡ true → Premise chosen b → Related s b
+      → (toldTo d s q ≡ toldTo d b q) × Related (tablesAfter d s q) (tablesAfter d b q)
   alike s b q o p e =
       bool-cases (sound s)
       (λ h.
@@ -178,7 +177,7 @@ module _ (d : Defaults) (chosen : Sender → Bool) where
       (both .0, record { same = compared-after s (tablesAfter d b q) q h (sound-kept d b q k) (both .1); sound = sounds }))
       (λ h.
       let same = whole-same s b e h in
-      (ap (λ (x : Tables). replyTo d x q) same, record { same = ap (λ (x : Tables). compared chosen (tablesAfter d x q)) same; sound = sounds }))
+      (ap (λ (x : Tables). toldTo d x q) same, record { same = ap (λ (x : Tables). compared chosen (tablesAfter d x q)) same; sound = sounds }))
     where
       sounds : sound (tablesAfter d s q) ≡ sound (tablesAfter d b q)
       sounds = sound-same d s q ∙ e .sound ∙ sym (sound-same d b q)
@@ -187,8 +186,8 @@ module _ (d : Defaults) (chosen : Sender → Bool) where
   pub isolation :
       (t : Tables) (qs : List Request)
       → Along (tablesAfter d) (Premise chosen) t (kept (isOthers chosen) qs)
-      → (keptOf (isOthers chosen) qs (replies (replyTo d) (tablesAfter d) t qs) ≡ replies (replyTo d) (tablesAfter d) t (kept (isOthers chosen) qs))
+      → (keptOf (isOthers chosen) qs (replies (toldTo d) (tablesAfter d) t qs) ≡ replies (toldTo d) (tablesAfter d) t (kept (isOthers chosen) qs))
       × (compared chosen (final (tablesAfter d) t qs) ≡ compared chosen (final (tablesAfter d) t (kept (isOthers chosen) qs)))
   isolation t qs premise =
-      let both = simulation (replyTo d) (tablesAfter d) (isOthers chosen) (Premise chosen) Related silent alike t t qs premise (record { same = refl; sound = refl }) in
+      let both = simulation (toldTo d) (tablesAfter d) (isOthers chosen) (Premise chosen) Related silent alike t t qs premise (record { same = refl; sound = refl }) in
       (both .0, both .1 .same)

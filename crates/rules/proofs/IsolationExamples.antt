@@ -1,15 +1,11 @@
 -- Demand 3 is not empty: a run for which the premise of 'The others alone' holds, though the chosen senders do write.
 -- What everybody is answered, and what the theorem says of it.
-use mathlib.Core.Path.{_≡_, refl}
-use mathlib.Core.Bool.{Bool, true, false, not, _&&_}
-use mathlib.Core.List.{List, [], _∷_, map}
-use lib.Dec.{eqb}
-use borrow.Author.Tests.{eqb-true, not-true}
+use Rattle.rows.proofs.Prelude.{_≡_, refl, Bool, true, false, not, _&&_, List, [], _∷_, map, eqb, eqb-true, not-true}
 use Rattle.rules.specs.declared.Tables.{Tables}
 use Rattle.rules.specs.Directory.{someSecurity}
 use Rattle.rules.specs.Record.{Request, Sender, unauthenticated, partner}
 use Rattle.rules.specs.Defaults.{noDefaults}
-use Rattle.rules.specs.Outcome.{replyTo, tablesAfter}
+use Rattle.rules.specs.Outcome.{toldTo, tablesAfter}
 use Rattle.rules.specs.Run.{replies, final, Along, kept, keptOf}
 use Rattle.rules.specs.Isolation.{Harmless, Premise, isOthers, namesOwner, rowAlters, mayFit, mayAlter, compared}
 use Rattle.rules.proofs.Examples.{definitions, lent, uuid, credRow, withCreds, owned5, aceBody, aceRow, weight, none, connected, serving, haulier, yard}
@@ -36,7 +32,7 @@ yardRun =
     ∷ [])
 
 -- everybody's answers: the chosen get 8 for each write, and their read is served
-pub yard-answers : replies (λ t q. replyTo noDefaults t q .answer) (tablesAfter noDefaults) yard yardRun ≡ 8 ∷ 0 ∷ 8 ∷ 0 ∷ 8 ∷ 0 ∷ 0 ∷ []
+pub yard-answers : replies (λ t q. toldTo noDefaults t q .answer) (tablesAfter noDefaults) yard yardRun ≡ 8 ∷ 0 ∷ 8 ∷ 0 ∷ 8 ∷ 0 ∷ 0 ∷ []
 unfolding definitions owned5 serving aceBody aceRow weight none connected uuid credRow haulier yard yardRun withCreds
 yard-answers = refl
 
@@ -73,6 +69,6 @@ yard-premise = (λ _. calm-harmless _ refl, (λ _. calm-harmless _ refl, (λ _. 
 
 -- so the owner's answers, and the tables at the end, are those of the owner's records alone
 pub yard-isolated :
-    (keptOf (isOthers chosen7) yardRun (replies (replyTo noDefaults) (tablesAfter noDefaults) yard yardRun) ≡ replies (replyTo noDefaults) (tablesAfter noDefaults) yard (kept (isOthers chosen7) yardRun))
+    (keptOf (isOthers chosen7) yardRun (replies (toldTo noDefaults) (tablesAfter noDefaults) yard yardRun) ≡ replies (toldTo noDefaults) (tablesAfter noDefaults) yard (kept (isOthers chosen7) yardRun))
     × (compared chosen7 (final (tablesAfter noDefaults) yard yardRun) ≡ compared chosen7 (final (tablesAfter noDefaults) yard (kept (isOthers chosen7) yardRun)))
 yard-isolated = isolation noDefaults chosen7 yard yardRun yard-premise

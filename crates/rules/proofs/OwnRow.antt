@@ -1,14 +1,7 @@
 -- Laws of the sender's own credential row, the first with its number.
 -- A permitted assertion has one: it came over connection 1, and check 7 found the row.
-use Prim.Native.Nat.{ℕ, _/_, _%_, _<_}
-use native.Mathlib.Omega.{arith}
-use mathlib.Core.Path.{_≡_, refl, sym, ap, _∙_}
-use mathlib.Core.Bool.{Bool, true, false, _||_, cond}
-use mathlib.Core.List.{List, [], _∷_}
-use lib.Dec.{eqb}
-use lib.ListN.{length, take, getD}
-use lib.Seq.{getD-take, take-take}
-use borrow.Author.Tests.{eqb-true, not-false}
+use Rattle.rows.proofs.Prelude.{_≡_, refl, sym, ap, _∙_, Bool, true, false, _||_, cond, List, [], _∷_, ℕ, _/_, _%_, _<_, arith, length, take, getD, getD-take}
+use Rattle.rows.proofs.Prelude.{take-take, eqb, eqb-true, not-false}
 use Rattle.rows.specs.Rows.{Row, same, hasKey, numberedAs, firstRow, some, every, stored}
 use Rattle.rows.proofs.Kept.{same-true, length-stored}
 use Rattle.rules.specs.declared.Tables.{Tables}
@@ -76,7 +69,8 @@ pub record Asserts (t : Tables) (r : List ℕ) : Type 0 where
   pub is : sender r ≡ partner number
   pub held : some (numbered number) (rows Creds t) ≡ true
 
-pub asserts : (t : Tables) (r : List ℕ) (c : ℕ) → Valid (connection r) (body r) (Assert c) → stateAllows (t .state) (Assert c) ≡ true → badLength r ≡ false → noCredential t r ≡ false → Asserts t r
+pub asserts : (t : Tables) (r : List ℕ) (c : ℕ) → Valid (connection r) (body r) (Assert c) → stateAllows (t .state) (Assert c) ≡ true
+    → badLength r ≡ false → noCredential t r ≡ false → Asserts t r
 unfolding noCredential
 asserts t r c v s l n =
     let one : connection r ≡ 1 = sym (v .0) ∙ eqb-true c 1 (and-right (eqb (t .state) 3) _ s) in

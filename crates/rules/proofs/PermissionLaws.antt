@@ -1,15 +1,9 @@
 -- A permission bit of a union comes from a member.
 -- So a chosen sender's effective permission on a security resource other than roles has none of C, U and D.
-use Prim.Native.Nat.{ℕ, zero, suc, _<_, _≤_, _/_, _%_, _^_}
+use Rattle.rows.proofs.Prelude.{_≡_, refl, ap, ap₂, _∙_, Bool, true, false, _&&_, _||_, cond, and-false, or-false, List, [], _∷_, ℕ, zero, suc, _/_, _%_, _^_}
+use Rattle.rows.proofs.Prelude.{_<_, arith, length, eqb, bitOr, eq-eqb, eqb-true}
 use native.Mathlib.Nat.{zero-div}
-use native.Mathlib.Omega.{arith}
-use mathlib.Core.Path.{_≡_, refl, ap, ap₂, _∙_, sym}
-use mathlib.Core.Bool.{Bool, true, false, not, _&&_, _||_, cond, and-false, or-false}
-use mathlib.Core.List.{List, [], _∷_}
-use lib.Dec.{eqb}
-use lib.Bits.{bitOr, or-shr, or-mod}
-use lib.ListN.{length}
-use borrow.Author.Tests.{eqb-true, eq-eqb}
+use lib.Bits.{or-shr, or-mod}
 use Rattle.rows.specs.Rows.{Row, some, unionOf}
 use Rattle.rules.specs.declared.Tables.{Tables}
 use Rattle.rules.specs.declared.Table.the-variants.{Aces}
@@ -17,7 +11,7 @@ use Rattle.rules.specs.Directory.{isSecurity, roles, someBelow, someSecu
 use Rattle.rules.specs.Record.{Sender, unauthenticated, partner}
 use Rattle.rules.specs.Bodies.{aceKind, acePermission, inSet}
 use Rattle.rules.specs.Tables.{rows}
-use Rattle.rules.specs.Permission.{C, U, D, has, isRow, ownRow, connectionOf, roleFits, subjectIs, subjectFits, resourceFits, inForce, rowFits, gives, isOwner, byOwner, byNoOwner, byRoles, effectiveOf, effective}
+use Rattle.rules.specs.Permission.{C, U, has, isRow, ownRow, connectionOf, roleFits, subjectIs, subjectFits, resourceFits, inForce, rowFits, gives, isOwner, byOwner, byNoOwner, byRoles, effectiveOf, effective}
 use Rattle.rules.specs.Isolation.{Harmless, alters, namesOwner, rowAlters, mayFit, mayAlter}
 use Rattle.rules.proofs.Bools.{cond-cases, contradiction, and-left, and-right, and-both, and-false-right, or-neither, or-left, or-right, bool-cases}
 use Rattle.rules.proofs.BodyLaws.{security-number}
@@ -44,7 +38,8 @@ has-or x y k =
     ∙ one-bit (x / 2 ^ k % 2) (y / 2 ^ k % 2) (omega arith) (omega arith)
 
 -- no row that passes a test gives the bit, so the union has not
-union-lacks : (give : Row → ℕ) (p : Row → Bool) (k : ℕ) → ((a : Row) → p a ≡ false → has (give a) (2 ^ k) ≡ false) → (ws : List Row) → some p ws ≡ false → has (unionOf give ws) (2 ^ k) ≡ false
+union-lacks : (give : Row → ℕ) (p : Row → Bool) (k : ℕ) → ((a : Row) → p a ≡ false → has (give a) (2 ^ k) ≡ false) → (ws : List Row)
+    → some p ws ≡ false → has (unionOf give ws) (2 ^ k) ≡ false
 unfolding some unionOf
 union-lacks give p k f [] h = has-zero (2 ^ k)
 union-lacks give p k f (a ∷ ws) h =
@@ -70,7 +65,8 @@ unfolding someSecurity
 security-lacks p n h l = and-false-right (isSecurity n) (p n) (below-lacks (length directory) n (λ m. isSecurity m && p m) (omega (arith, security-number n h)) l) h
 
 -- tests that agree at each security resource
-below-same : (p q : ℕ → Bool) → ((n : ℕ) → isSecurity n ≡ true → p n ≡ q n) → (m : ℕ) → someBelow m (λ n. isSecurity n && p n) ≡ someBelow m (λ n. isSecurity n && q n)
+below-same : (p q : ℕ → Bool) → ((n : ℕ) → isSecurity n ≡ true → p n ≡ q n) → (m : ℕ)
+    → someBelow m (λ n. isSecurity n && p n) ≡ someBelow m (λ n. isSecurity n && q n)
 below-same p q f zero = refl
 below-same p q f (suc m) = ap₂ (λ (a b : Bool). a || b) (here (isSecurity m) (f m)) (below-same p q f m)
   where
@@ -109,7 +105,8 @@ fits-may clock w c a one = pick (eqb (aceKind a) 0) (eqb (aceKind a) 1) _ _ _ _ 
     pick false false x r r′ y f h = h
 
 -- a row that may not alter a security resource gives nothing to alter resource n by
-gives-lacks : (clock : ℕ) (w : Row) (c n k : ℕ) (a : Row) → (isRow w ≡ true → eqb c 1 ≡ true) → isSecurity n ≡ true → ((p : ℕ) → alters p ≡ false → has p (2 ^ k) ≡ false)
+gives-lacks : (clock : ℕ) (w : Row) (c n k : ℕ) (a : Row) → (isRow w ≡ true → eqb c 1 ≡ true) → isSecurity n ≡ true
+    → ((p : ℕ) → alters p ≡ false → has p (2 ^ k) ≡ false)
     → (mayFit w c a && rowAlters a) ≡ false → has (gives clock w c n a) (2 ^ k) ≡ false
 unfolding gives rowFits rowAlters
 gives-lacks clock w c n k a one sec sub e =

@@ -1,20 +1,13 @@
 -- Theorems: each part of the premise of 'The others alone' is needed. For each part a run, and tables in which it alone fails:
 -- what is compared of the tables at the end is then not the same.
-use Prim.Native.Nat.{ℕ, _≤_}
-use native.Mathlib.Omega.{arith}
-use mathlib.Core.Path.{_≡_, refl, ap}
-use mathlib.Core.Bool.{Bool, true, false, not, false≢true}
-use mathlib.Core.List.{List, [], _∷_, map}
-use lib.Dec.{eqb}
-use lib.ListN.{replicate}
-use borrow.Author.Tests.{eqb-true, not-true}
+use Rattle.rows.proofs.Prelude.{_≡_, refl, ap, Bool, true, false, not, false≢true, List, [], _∷_, map, ℕ, _≤_, arith, replicate, eqb, eqb-true, not-true}
 use Rattle.rules.specs.declared.Tables.{Tables}
 use Rattle.rules.specs.declared.Table.the-variants.{Aces}
 use Rattle.rules.specs.Directory.{someSecurity}
-use Rattle.rules.specs.Record.{Request, asked, Sender, unauthenticated, partner}
+use Rattle.rules.specs.Record.{Request, received, Sender, unauthenticated, partner}
 use Rattle.rules.specs.Tables.{sound, withRows, withRowOwner}
 use Rattle.rules.specs.Defaults.{noDefaults, fresh}
-use Rattle.rules.specs.Outcome.{replyTo, tablesAfter}
+use Rattle.rules.specs.Outcome.{toldTo, tablesAfter}
 use Rattle.rules.specs.Run.{replies, final, Along, kept}
 use Rattle.rules.specs.Isolation.{Harmless, isOthers, namesOwner, rowAlters, mayFit, mayAlter, compared}
 use Rattle.rules.proofs.Examples.{definitions, uuid, credRow, withCreds, owned5, serving, aceBody, aceRow, haulierRow, haulier}
@@ -52,7 +45,7 @@ parts-harmless t e = record { hasOwner = owned; notOwner = owner; notGranted = g
 -- ---- the runs: the owner, partner 5, reads pstat; partner 7 sends a record; partner 5 reads again
 
 pub around : List ℕ → List Request
-around r = let reads : List ℕ = 0x30 ∷ 0x40 ∷ 0x00 ∷ 0x05 ∷ [] in map (λ b. asked 0 b 17) (reads ∷ r ∷ reads ∷ [])
+around r = let reads : List ℕ = 0x30 ∷ 0x40 ∷ 0x00 ∷ 0x05 ∷ [] in map (λ b. received 0 b 17) (reads ∷ r ∷ reads ∷ [])
 
 -- partner 7 resets the terminal
 pub resetRun : List Request
@@ -76,7 +69,7 @@ rows-gone a b few two e = let z = ap (λ (x : Tables). x .ncreds) e in omega ari
 
 -- everybody's answers
 pub answers : List Request → Tables → List ℕ
-answers run t = replies (λ x q. replyTo noDefaults x q .answer) (tablesAfter noDefaults) t run
+answers run t = replies (λ x q. toldTo noDefaults x q .answer) (tablesAfter noDefaults) t run
 
 -- `unfolding the-runs` opens all that these examples say
 the-runs : Unit {0}

@@ -1,15 +1,9 @@
 -- Theorems, U1: the rows that a reply tells, sent as bodies one after the other, make the table again, but for asserted roles; and how long a reply gets.
 -- The lengths of the owners' fields are those that the struct's types give.
-use Prim.Native.Nat.{ℕ, zero, suc, _+_, _*_, _-_, _/_, _≤_, _<_}
+use Rattle.rows.proofs.Prelude.{_≡_, refl, sym, ap, ap₂, _∙_, Bool, true, false, cond, List, [], _∷_, _++_, map, append-nil, ℕ, zero, suc, _+_, _-_, _*_, _/_}
+use Rattle.rows.proofs.Prelude.{_≤_, _<_, arith, length, take, drop, drop-of-length-le, length-append, length-drop, length-map, length-take, drop-at}
+use Rattle.rows.proofs.Prelude.{length-take-le, ltb, le-ltb, ne-eqb}
 use native.Mathlib.Nat.{mul-div-cancel}
-use native.Mathlib.Omega.{arith}
-use mathlib.Core.Path.{_≡_, refl, sym, ap, ap₂, _∙_}
-use mathlib.Core.Bool.{Bool, true, false, cond}
-use mathlib.Core.List.{List, [], _∷_, _++_, map, append-nil}
-use lib.Dec.{ltb}
-use lib.ListN.{length, take, drop, length-append, length-drop, length-take, length-map, drop-of-length-le}
-use lib.Seq.{length-take-le, drop-at}
-use borrow.Author.Tests.{ne-eqb, le-ltb}
 use Rattle.rows.specs.Rows.{Row, rowsOf, joined, every, distinctNumbers, storedAll}
 use Rattle.rows.proofs.Kept.{AllLong, every-long, length-joined, rowsOf-joined}
 use Rattle.rows.proofs.Restore.{restored}
@@ -17,7 +11,7 @@ use Rattle.rules.specs.declared.Tables.{Tables}
 use Rattle.rules.specs.declared.Table.{Table}
 use Rattle.rules.specs.declared.Table.the-variants.{Creds, Aces}
 use Rattle.rules.specs.Directory.{roles}
-use Rattle.rules.specs.Record.{Sender, asked, resource, sender}
+use Rattle.rules.specs.Record.{Sender, received, resource, sender}
 use Rattle.rules.specs.Tables.{stride, longest, storable, rowOf, rows, rowOwner, sound}
 use Rattle.rules.specs.Bodies.{credRowOf, aceRowOf}
 use Rattle.rules.specs.Roles.{bodyOf, withoutRoles, rolesInForce}
@@ -113,7 +107,8 @@ rows-short Creds t h =
     omega (arith, l, length-map (rows Creds t) bodyOf, few-rows Creds t h)
 rows-short Aces t h = let l = length-joined 36 (rows Aces t) (long-rows Aces t h) in omega (arith, l, few-rows Aces t h)
 
-parts-short : (clock : ℕ) (t : Tables) (s : Sender) (n : ℕ) → sound t ≡ true → length (t .devowner) ≡ 16 → length (ownBody t n) + length (rowBytes clock t s n) ≤ 1152
+parts-short : (clock : ℕ) (t : Tables) (s : Sender) (n : ℕ) → sound t ≡ true → length (t .devowner) ≡ 16
+    → length (ownBody t n) + length (rowBytes clock t s n) ≤ 1152
 unfolding ownBody rowBytes
 parts-short clock t s zero h l = omega (arith, l)
 parts-short clock t s (suc zero) h l = omega arith
@@ -140,7 +135,7 @@ reply-short clock t s n h l =
     simp length-append (omega (arith, parts-short clock t s n h l, owner-short t n))
 
 -- so a record with a buffer of that length never gets 15
-pub room-enough : (clock : ℕ) (t : Tables) (r : List ℕ) → sound t ≡ true → length (t .devowner) ≡ 16 → tooShort t (asked clock r 1168) ≡ false
+pub room-enough : (clock : ℕ) (t : Tables) (r : List ℕ) → sound t ≡ true → length (t .devowner) ≡ 16 → tooShort t (received clock r 1168) ≡ false
 unfolding tooShort replyOf
 room-enough clock t r h l = go (reads r)
   where

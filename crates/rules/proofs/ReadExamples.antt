@@ -1,19 +1,17 @@
 -- Examples of what is read, and over which connection: the replies of U1, and the endpoints of U2.
 -- Each is computed from the definitions.
-use Prim.Native.Nat.{ℕ, _+_, _*_, _/_, _%_}
-use mathlib.Core.Path.{_≡_, refl}
-use mathlib.Core.List.{List, [], _∷_, _++_, map}
+use Rattle.rows.proofs.Prelude.{_≡_, refl, List, [], _∷_, _++_, map, ℕ, _+_, _*_, _/_, _%_}
 use Rattle.rules.specs.declared.Tables.{Tables}
-use Rattle.rules.specs.Record.{asked}
+use Rattle.rules.specs.Record.{received}
 use Rattle.rules.specs.Bodies.{nil}
 use Rattle.rules.specs.Defaults.{noDefaults, fresh}
-use Rattle.rules.specs.Outcome.{replyTo}
+use Rattle.rules.specs.Outcome.{toldTo}
 use Rattle.rules.proofs.Examples.{definitions, answer, uuid, credRow, withCreds, owned5, aceBody, aceRow, none, connected, serving}
 
 -- ---- reading back (U1): the replies of the four security resources to the owner, and the length that just fits
 
 pub reply : ℕ → List ℕ → List ℕ
-reply room r = let o = replyTo noDefaults owned5 (asked 0 r room) in o .answer ∷ o .contents
+reply room r = let o = toldTo noDefaults owned5 (received 0 r room) in o .answer ∷ o .contents
 
 pub replies-read :
     reply 33 (0x30 ∷ 0x00 ∷ 0x00 ∷ 0x05 ∷ [])

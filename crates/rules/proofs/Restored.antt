@@ -1,13 +1,7 @@
 -- Theorems, U1 over whole outcomes: the rows of the reply to a permitted RETRIEVE make the table again, but for asserted roles.
 -- As rows that are stored; and judged, as records one straight after the other, from tables without rows of that kind.
 -- The length of the row owners' field is what the struct's type gives.
-use Prim.Native.Nat.{ℕ}
-use mathlib.Core.Path.{_≡_, refl, sym, ap, _∙_, subst}
-use mathlib.Core.Bool.{Bool, true, _||_, or-false}
-use mathlib.Core.List.{List, [], _∷_, map}
-use lib.Dec.{eqb}
-use lib.ListN.{length, length-map}
-use borrow.Author.Tests.{eqb-true, not-false}
+use Rattle.rows.proofs.Prelude.{_≡_, refl, sym, ap, subst, _∙_, Bool, true, _||_, or-false, List, [], _∷_, map, ℕ, length, length-map, eqb, eqb-true, not-false}
 use Rattle.rows.specs.Rows.{Row, every, storedAll}
 use Rattle.rules.specs.declared.Tables.{Tables}
 use Rattle.rules.specs.declared.Table.{Table}
@@ -24,7 +18,7 @@ use Rattle.rules.specs.Permission.{U, has, ownRow, connectionOf, byOwner
 use Rattle.rules.specs.States.{writeAllowed}
 use Rattle.rules.specs.Reading.{contents, reads, replyOf, holder, bare, rowsOfReply}
 use Rattle.rules.specs.Checks.{badLength, noVerb, zeroBitSet, mismatch, unknownResource, noCredential, senderChecks, checks, verdict}
-use Rattle.rules.specs.Outcome.{outcome, outcomeAt, outcomeOf, replyTo}
+use Rattle.rules.specs.Outcome.{outcome, outcomeAt, outcomeOf, toldTo}
 use Rattle.rules.specs.Storing.{Retrieves, TakesRows, MayStore, AllMayStore, inClear, AllStored}
 use Rattle.rules.proofs.Bools.{and-left, and-right, and-both, or-true-right}
 use Rattle.rules.proofs.Answers.{passed, sound-parts, table-parts}
@@ -45,21 +39,21 @@ module _ (d : Defaults) (k : Table) (t : Tables) (q : Request) (p : Retrieves d 
   pub retrieved-sound : sound t ≡ true
   retrieved-sound = not-false _ (passed (checks t (permission (q .clock) t (q .bytes)) q) passes-all 1)
 
-  reply-told : replyTo d t q .contents ≡ contents (q .clock) t (sender (q .bytes)) (holder k)
+  reply-told : toldTo d t q .contents ≡ contents (q .clock) t (sender (q .bytes)) (holder k)
   unfolding outcome outcomeAt replyOf reads
   reply-told =
-      ap (λ (c : Check). outcomeOf d t (permission (q .clock) t (q .bytes)) q c .reply .contents) passes-all
+      ap (λ (c : Check). outcomeOf d t (permission (q .clock) t (q .bytes)) q c .told .contents) passes-all
       ∙ rw (p .retrieves, p .on, holder-security k)
 
   module _ (l : length (t .rowners) ≡ 64) where
     -- it tells each row's body
-    pub rows-told : rowsOfReply k (replyTo d t q .contents) ≡ bodies k (rows k t)
+    pub rows-told : rowsOfReply k (toldTo d t q .contents) ≡ bodies k (rows k t)
     rows-told =
         ap (rowsOfReply k) (reply-told ∙ reply-is (q .clock) k t (sender (q .bytes)))
         ∙ read-rows k (rowOwner t (holder k)) (bodies k (rows k t)) (owner-long k t l) (long-bodies k t retrieved-sound)
 
     -- stored as bodies in an empty table they are the table's rows, without what is asserted
-    pub reply-restored : storedAll (map (rowOf k) (rowsOfReply k (replyTo d t q .contents))) [] ≡ bare k (rows k t)
+    pub reply-restored : storedAll (map (rowOf k) (rowsOfReply k (toldTo d t q .contents))) [] ≡ bare k (rows k t)
     reply-restored =
         ap (λ (c : List ℕ). storedAll (map (rowOf k) (rowsOfReply k c)) []) reply-told
         ∙ same-rows (q .clock) k t (sender (q .bytes)) retrieved-sound l
@@ -92,7 +86,7 @@ pub reply-judged : (d : Defaults) (k : Table) (t u : Tables) (q : Request) (qs :
     → length (t .rowners) ≡ 64
     → Retrieves d k t q
     → TakesRows k u
-    → AllMayStore k u qs (rowsOfReply k (replyTo d t q .contents))
+    → AllMayStore k u qs (rowsOfReply k (toldTo d t q .contents))
     → AllStored d k u qs (bare k (rows k t))
 reply-judged d k t u q qs l p takes m =
     let h = retrieved-sound d k t q p in
@@ -144,9 +138,9 @@ pub reply-judged-clear : (d : Defaults) (k : Table) (t u : Tables) (q : Request)
     → length (t .rowners) ≡ 64
     → Retrieves d k t q
     → sound u ≡ true → u .owned ≡ 0 → count k u ≡ 0
-    → map (λ (x : Request). x .bytes) qs ≡ map (inClear k) (rowsOfReply k (replyTo d t q .contents))
+    → map (λ (x : Request). x .bytes) qs ≡ map (inClear k) (rowsOfReply k (toldTo d t q .contents))
     → AllStored d k u qs (bare k (rows k t))
 reply-judged-clear d k t u q qs l p h o z e =
     reply-judged d k t u q qs l p (unowned-takes k u h o z)
-    (all-may k u (inClear k) (clear-may k u o) (rowsOfReply k (replyTo d t q .contents)) qs
+    (all-may k u (inClear k) (clear-may k u o) (rowsOfReply k (toldTo d t q .contents)) qs
     (rw (rows-told d k t q p l) (long-bodies k t (retrieved-sound d k t q p))) e)

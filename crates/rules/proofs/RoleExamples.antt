@@ -1,22 +1,18 @@
 -- Theorems over examples of U11: roles asserted on the day, withRole, over, and dropped; who may assert, where and when; what is read, and what the links see.
 -- And a run in which a chosen partner asserts: what is compared is the same, and more is not.
-use Prim.Native.Nat.{ℕ}
-use mathlib.Core.Path.{_≡_, refl}
-use mathlib.Core.Bool.{true, false}
-use mathlib.Core.List.{List, [], _∷_, _++_, map}
-use lib.ListN.{take, replicate}
+use Rattle.rows.proofs.Prelude.{_≡_, refl, true, false, List, [], _∷_, _++_, map, ℕ, take, replicate}
 use Rattle.rows.specs.Rows.{Row}
 use Rattle.rules.specs.declared.Tables.{Tables}
 use Rattle.rules.specs.declared.Table.the-variants.{Creds, Aces}
 use Rattle.rules.specs.Directory.{someSecurity}
-use Rattle.rules.specs.Record.{Request, asked, unauthenticated, partner}
+use Rattle.rules.specs.Record.{Request, received, unauthenticated, partner}
 use Rattle.rules.specs.Bodies.{nil}
 use Rattle.rules.specs.Roles.{unasserted, withoutRoles, rolesInForce, credHeld}
 use Rattle.rules.specs.Tables.{rows, withRows, withState}
 use Rattle.rules.specs.Defaults.{noDefaults, fresh}
 use Rattle.rules.specs.Permission.{ownRow, effective}
 use Rattle.rules.specs.Links.{ownRecord, permits, setOf}
-use Rattle.rules.specs.Outcome.{replyTo, tablesAfter}
+use Rattle.rules.specs.Outcome.{toldTo, tablesAfter}
 use Rattle.rules.specs.Run.{replies, final, Along, kept, keptOf}
 use Rattle.rules.specs.Storing.{inClear, AllStored}
 use Rattle.rules.specs.Isolation.{Premise, isOthers, namesOwner, rowAlters, mayFit, mayAlter, compared}
@@ -36,10 +32,10 @@ role authority n last = 0 ∷ authority ∷ 0 ∷ n ∷ 0 ∷ 0 ∷ 0 ∷ last �
 
 -- UPDATE of roles by the haulier, and RETRIEVE of /tare, at a clock
 pub asserts : ℕ → List ℕ → Request
-asserts clock b = asked clock (0x51 ∷ 0x00 ∷ 0x00 ∷ 0x07 ∷ b) 0
+asserts clock b = received clock (0x51 ∷ 0x00 ∷ 0x00 ∷ 0x07 ∷ b) 0
 
 pub tare : ℕ → Request
-tare clock = asked clock (0x32 ∷ 0x40 ∷ 0x00 ∷ 0x07 ∷ []) 0
+tare clock = received clock (0x32 ∷ 0x40 ∷ 0x00 ∷ 0x07 ∷ []) 0
 
 -- the haulier's row with these roles
 pub haulierWith : List ℕ → Row
@@ -49,7 +45,7 @@ pub rolesAfter : List Request → List Row
 rolesAfter qs = rows Creds (final (tablesAfter noDefaults) today qs)
 
 pub answers : List Request → List ℕ
-answers qs = replies (λ t q. replyTo noDefaults t q .answer) (tablesAfter noDefaults) today qs
+answers qs = replies (λ t q. toldTo noDefaults t q .answer) (tablesAfter noDefaults) today qs
 
 -- `unfolding the-day` opens all that these examples say
 the-day : Unit {0}
@@ -84,7 +80,7 @@ renewed-in-place = refl
 
 -- ---- a third gets 22 while both are in force, their last seconds included; then what is over goes first, and the order is that of arrival
 
-pub third : map (λ clock. replyTo noDefaults two-roles (asserts clock (role 0 4 200)) .answer) (90 ∷ 91 ∷ 101 ∷ []) ≡ 22 ∷ 0 ∷ 0 ∷ []
+pub third : map (λ clock. toldTo noDefaults two-roles (asserts clock (role 0 4 200)) .answer) (90 ∷ 91 ∷ 101 ∷ []) ≡ 22 ∷ 0 ∷ 0 ∷ []
 unfolding the-day two-roles
 third = refl
 
@@ -113,7 +109,7 @@ already-over = refl
 
 -- outside RFNOP; over connection 0 while there is no owner, in RFOTM; role 0; 16 bytes; 7 bytes; DELETE, by a partner and by the owner; UPDATE over connection 0; a partner without a row
 pub refused-today :
-    map (λ (e : Tables × List ℕ). replyTo noDefaults (e .0) (asked 50 (e .1) 0) .answer)
+    map (λ (e : Tables × List ℕ). toldTo noDefaults (e .0) (received 50 (e .1) 0) .answer)
     ((withState today 2, 0x51 ∷ 0x00 ∷ 0x00 ∷ 0x07 ∷ role 1 7 100)
     ∷ (fresh noDefaults, 0x41 ∷ 0x00 ∷ 0x00 ∷ 0x00 ∷ role 1 7 100)
     ∷ (today, 0x51 ∷ 0x00 ∷ 0x00 ∷ 0x07 ∷ role 1 0 100)
@@ -136,7 +132,7 @@ permitted-today = refl
 -- ---- reading
 
 pub read-as : ℕ → ℕ → List ℕ → List ℕ
-read-as clock room r = let o = replyTo noDefaults two-roles (asked clock r room) in o .answer ∷ o .contents
+read-as clock room r = let o = toldTo noDefaults two-roles (received clock r room) in o .answer ∷ o .contents
 
 -- both; one; none; another partner; a buffer that is too short; OBSERVE; connection 0 while there is no owner; and the reply of cred, in which no role stands
 pub read-today :
@@ -146,7 +142,7 @@ pub read-today :
     ∷ read-as 90 16 (0x31 ∷ 0x00 ∷ 0x00 ∷ 0x05 ∷ [])
     ∷ read-as 90 15 (0x31 ∷ 0x00 ∷ 0x00 ∷ 0x07 ∷ [])
     ∷ read-as 90 0 (0x91 ∷ 0x00 ∷ 0x00 ∷ 0x07 ∷ [])
-    ∷ (replyTo noDefaults (fresh noDefaults) (asked 90 (0x21 ∷ 0x00 ∷ 0x00 ∷ 0x00 ∷ []) 0) .answer ∷ replyTo noDefaults (fresh noDefaults) (asked 90 (0x21 ∷ 0x00 ∷ 0x00 ∷ 0x00 ∷ []) 0) .contents)
+    ∷ (toldTo noDefaults (fresh noDefaults) (received 90 (0x21 ∷ 0x00 ∷ 0x00 ∷ 0x00 ∷ []) 0) .answer ∷ toldTo noDefaults (fresh noDefaults) (received 90 (0x21 ∷ 0x00 ∷ 0x00 ∷ 0x00 ∷ []) 0) .contents)
     ∷ read-as 90 62 (0x30 ∷ 0x80 ∷ 0x00 ∷ 0x05 ∷ [])
     ∷ []
     ≡ (0 ∷ (role 1 7 100 ++ role 0 3 90)) ∷ (0 ∷ role 1 7 100) ∷ (0 ∷ []) ∷ (0 ∷ []) ∷ (15 ∷ []) ∷ (0 ∷ []) ∷ (0 ∷ []) ∷ (0 ∷ (nil ++ credRow 5 ++ haulierRow 7)) ∷ []
@@ -156,19 +152,19 @@ read-today = refl
 -- U1: the rows of that reply, sent over connection 0 to a fresh terminal, are stored, without the roles
 pub read-back :
     AllStored noDefaults Creds (fresh noDefaults)
-    (map (λ b. asked 0 (inClear Creds b) 0) (credRow 5 ∷ haulierRow 7 ∷ []))
+    (map (λ b. received 0 (inClear Creds b) 0) (credRow 5 ∷ haulierRow 7 ∷ []))
     (unasserted (credRow 5) ∷ unasserted (haulierRow 7) ∷ [])
 unfolding the-day two-roles withoutRoles
 read-back =
-    reply-judged-clear noDefaults Creds two-roles (fresh noDefaults) (asked 90 (0x30 ∷ 0x80 ∷ 0x00 ∷ 0x05 ∷ []) 62)
-    (map (λ b. asked 0 (inClear Creds b) 0) (credRow 5 ∷ haulierRow 7 ∷ []))
+    reply-judged-clear noDefaults Creds two-roles (fresh noDefaults) (received 90 (0x30 ∷ 0x80 ∷ 0x00 ∷ 0x05 ∷ []) 62)
+    (map (λ b. received 0 (inClear Creds b) 0) (credRow 5 ∷ haulierRow 7 ∷ []))
     refl (record { retrieves = refl; on = refl; permitted = refl }) refl refl refl refl
 
 -- ---- replacing or deleting the credential row drops them, and RESET
 
 -- records of the owner, in RFPRO
 pub owner-does : List ℕ → List ℕ → Tables
-owner-does header b = tablesAfter noDefaults (withState two-roles 2) (asked 60 (header ++ b) 0)
+owner-does header b = tablesAfter noDefaults (withState two-roles 2) (received 60 (header ++ b) 0)
 
 -- the same body again; by number; by subject; all rows; a body for another row keeps them
 pub dropped :
@@ -205,7 +201,7 @@ roles-held = refl
 -- ---- the links of /yard: /tare while the role holds; RETRIEVE of /yard itself is permitted by the same role
 
 pub yard-today :
-    map (λ clock. let o = replyTo noDefaults two-roles (asked clock (0x34 ∷ 0x00 ∷ 0x00 ∷ 0x07 ∷ []) 0) in o .answer ∷ o .links .set ∷ []) (100 ∷ 101 ∷ [])
+    map (λ clock. let o = toldTo noDefaults two-roles (received clock (0x34 ∷ 0x00 ∷ 0x00 ∷ 0x07 ∷ []) 0) in o .answer ∷ o .links .set ∷ []) (100 ∷ 101 ∷ [])
     ≡ (0 ∷ 0x0040000000000000 ∷ []) ∷ (8 ∷ 0 ∷ []) ∷ []
 unfolding the-day two-roles
 yard-today = refl
@@ -222,7 +218,7 @@ every-role = refl
 -- without this part of the premise the claim is false: role 7 may update pstat, and partner 7 asserts it and leaves RFNOP; what the owner reads then is another state
 pub openedRun : List Request
 openedRun =
-    map (λ r. asked 50 r 17)
+    map (λ r. received 50 r 17)
     ((0x51 ∷ 0x00 ∷ 0x00 ∷ 0x07 ∷ role 1 7 100)
     ∷ (0x50 ∷ 0x40 ∷ 0x00 ∷ 0x07 ∷ 0x40 ∷ [])
     ∷ (0x30 ∷ 0x40 ∷ 0x00 ∷ 0x05 ∷ [])
@@ -232,8 +228,8 @@ pub opened : Tables
 opened = withRows Aces today (aceRow 1 1 4 0 (0x40 ∷ replicate 7 0) (foreman 1) ∷ [])
 
 pub role-opens :
-    replies (λ t q. let o = replyTo noDefaults t q in o .answer ∷ take 1 (o .contents)) (tablesAfter noDefaults) opened openedRun
-    ∷ replies (λ t q. let o = replyTo noDefaults t q in o .answer ∷ take 1 (o .contents)) (tablesAfter noDefaults) opened (kept (isOthers chosen7) openedRun)
+    replies (λ t q. let o = toldTo noDefaults t q in o .answer ∷ take 1 (o .contents)) (tablesAfter noDefaults) opened openedRun
+    ∷ replies (λ t q. let o = toldTo noDefaults t q in o .answer ∷ take 1 (o .contents)) (tablesAfter noDefaults) opened (kept (isOthers chosen7) openedRun)
     ∷ []
     ≡ ((0 ∷ []) ∷ (0 ∷ []) ∷ (0 ∷ 0x40 ∷ []) ∷ []) ∷ ((0 ∷ 0x60 ∷ []) ∷ []) ∷ []
 unfolding the-day openedRun opened
@@ -248,7 +244,7 @@ opened-ruled-out = refl
 
 pub roleRun : List Request
 roleRun =
-    map (λ r. asked 50 r 1168)
+    map (λ r. received 50 r 1168)
     ((0x51 ∷ 0x00 ∷ 0x00 ∷ 0x07 ∷ role 1 7 100)
     ∷ (0x30 ∷ 0x80 ∷ 0x00 ∷ 0x05 ∷ [])
     ∷ (0x31 ∷ 0x00 ∷ 0x00 ∷ 0x07 ∷ [])
@@ -256,7 +252,7 @@ roleRun =
     ∷ (0x50 ∷ 0x40 ∷ 0x00 ∷ 0x05 ∷ 0x40 ∷ [])
     ∷ [])
 
-pub role-answers : replies (λ t q. replyTo noDefaults t q .answer) (tablesAfter noDefaults) yard roleRun ≡ 0 ∷ 0 ∷ 0 ∷ 0 ∷ 0 ∷ []
+pub role-answers : replies (λ t q. toldTo noDefaults t q .answer) (tablesAfter noDefaults) yard roleRun ≡ 0 ∷ 0 ∷ 0 ∷ 0 ∷ 0 ∷ []
 unfolding the-day roleRun
 role-answers = refl
 
@@ -265,7 +261,7 @@ unfolding the-day calm namesOwner roleRun
 role-premise = (λ _. calm-harmless _ refl, (λ _. calm-harmless _ refl, (λ _. calm-harmless _ refl, λ _. calm-harmless _ refl)))
 
 pub role-isolated :
-    (keptOf (isOthers chosen7) roleRun (replies (replyTo noDefaults) (tablesAfter noDefaults) yard roleRun) ≡ replies (replyTo noDefaults) (tablesAfter noDefaults) yard (kept (isOthers chosen7) roleRun))
+    (keptOf (isOthers chosen7) roleRun (replies (toldTo noDefaults) (tablesAfter noDefaults) yard roleRun) ≡ replies (toldTo noDefaults) (tablesAfter noDefaults) yard (kept (isOthers chosen7) roleRun))
     × (compared chosen7 (final (tablesAfter noDefaults) yard roleRun) ≡ compared chosen7 (final (tablesAfter noDefaults) yard (kept (isOthers chosen7) roleRun)))
 role-isolated = isolation noDefaults chosen7 yard roleRun role-premise
 

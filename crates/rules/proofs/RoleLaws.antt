@@ -1,14 +1,8 @@
 -- Laws of asserted roles: asserting one leaves a row that the table may hold, with the same body.
 -- A credential row has at most two roles in force, and they are different ones.
-use Prim.Native.Nat.{ℕ, _+_, _-_, _≤_}
-use native.Mathlib.Omega.{arith}
-use mathlib.Core.Path.{_≡_, refl, sym, ap, _∙_}
-use mathlib.Core.Bool.{Bool, true, false, not, _&&_, _||_, cond, and-true}
-use mathlib.Core.List.{List, [], _∷_, _++_, append-nil}
-use lib.Dec.{eqb}
-use lib.ListN.{length, take, drop, replicate, length-append, length-drop, length-take}
-use lib.Seq.{length-take-le, take-all, take-at, drop-at, drop-drop}
-use borrow.Author.Tests.{eqb-true, eq-eqb, not-true}
+use Rattle.rows.proofs.Prelude.{_≡_, refl, sym, ap, _∙_, Bool, true, false, not, _&&_, _||_, cond, and-true, List, [], _∷_, _++_, append-nil, ℕ, _≤_, arith}
+use Rattle.rows.proofs.Prelude.{length, take, drop, replicate, length-append, length-drop, length-take, drop-at, drop-drop, length-take-le, take-all, take-at}
+use Rattle.rows.proofs.Prelude.{eqb, eq-eqb, eqb-true, not-true}
 use Rattle.rows.specs.Rows.{Row, joined, packed, allZero, same, some, without}
 use Rattle.rows.proofs.Kept.{length-packed, same-true, same-sym}
 use Rattle.rules.specs.Bits.{bit, bits}
@@ -64,7 +58,8 @@ few-in-force clock w p = go (free clock (firstRole w)) refl (free clock (secondR
     role : (x : Row) → length x ≡ 8 → free clock x ≡ false → Role x
     role x l e = (l, or-left (noRole x) _ e)
 
-    go : (a : Bool) → free clock (firstRole w) ≡ a → (b : Bool) → free clock (secondRole w) ≡ b → Few (cond a (cond b [] (secondRole w ∷ [])) (firstRole w ∷ cond b [] (secondRole w ∷ [])))
+    go : (a : Bool) → free clock (firstRole w) ≡ a → (b : Bool) → free clock (secondRole w) ≡ b
+        → Few (cond a (cond b [] (secondRole w ∷ [])) (firstRole w ∷ cond b [] (secondRole w ∷ [])))
     go true e true f = tt
     go true e false f = role (secondRole w) (second-long w (p .long)) f
     go false e true f = role (firstRole w) (first-long w (p .long)) e
@@ -107,7 +102,8 @@ few-with-role new l v (p ∷ []) f n = go (sameRole new p) refl
     go false e = (f, (l, v), same-swap p new ∙ e)
 few-with-role new l v (p ∷ q ∷ []) f n = go (sameRole new p) refl (sameRole new q) refl n
   where
-    go : (a : Bool) → sameRole new p ≡ a → (b : Bool) → sameRole new q ≡ b → not (a || (b || false)) ≡ false → Few (cond a (new ∷ q ∷ []) (p ∷ cond b (new ∷ []) (q ∷ new ∷ [])))
+    go : (a : Bool) → sameRole new p ≡ a → (b : Bool) → sameRole new q ≡ b → not (a || (b || false)) ≡ false
+        → Few (cond a (new ∷ q ∷ []) (p ∷ cond b (new ∷ []) (q ∷ new ∷ [])))
     go true e b g m = ((l, v), f .1, same-as p q new e (f .2))
     go false e true g m = (f .0, (l, v), same-swap p new ∙ e)
     go false e false g m = contradiction refl m

@@ -1,10 +1,7 @@
 -- Laws of a credential row's two places, one beside the other: what code tests and writes of the roles in force.
 -- Each is a split by whether a place is free.
-use Prim.Native.Nat.{ℕ}
-use mathlib.Core.Path.{_≡_, refl, ap}
-use mathlib.Core.Bool.{Bool, true, false, not, _&&_, _||_, cond, or-false}
-use mathlib.Core.List.{List, [], _∷_, _++_, append-nil}
-use Rattle.rows.specs.Rows.{Row, joined, some, without}
+use Rattle.rows.proofs.Prelude.{_≡_, refl, ap, Bool, true, false, not, _&&_, _||_, cond, or-false, List, [], _∷_, ℕ}
+use Rattle.rows.specs.Rows.{Row, some, without}
 use Rattle.rules.specs.Roles.{free, sameRole, firstRole, secondRole, rolesInForce, withRole, bothTaken}
 
 module _ (clock : ℕ) (w : Row) where
@@ -16,7 +13,8 @@ module _ (clock : ℕ) (w : Row) where
   both a b = cond a (behind b) (firstRole w ∷ behind b)
 
   -- a test of the roles in force
-  pub some-in-force : (f : Row → Bool) → some f (rolesInForce clock w) ≡ ((not (free clock (firstRole w)) && f (firstRole w)) || (not (free clock (secondRole w)) && f (secondRole w)))
+  pub some-in-force : (f : Row → Bool)
+      → some f (rolesInForce clock w) ≡ ((not (free clock (firstRole w)) && f (firstRole w)) || (not (free clock (secondRole w)) && f (secondRole w)))
   unfolding rolesInForce without some
   some-in-force f = go (free clock (firstRole w)) (free clock (secondRole w))
     where
@@ -27,11 +25,13 @@ module _ (clock : ℕ) (w : Row) where
       go false false = ap (λ (y : Bool). f (firstRole w) || y) (or-false (f (secondRole w)))
 
   -- both places hold other roles than this one
-  pub both-taken : (new : Row) → bothTaken new (rolesInForce clock w) ≡ ((not (free clock (firstRole w)) && not (sameRole new (firstRole w))) && (not (free clock (secondRole w)) && not (sameRole new (secondRole w))))
+  pub both-taken : (new : Row)
+      → bothTaken new (rolesInForce clock w) ≡ ((not (free clock (firstRole w)) && not (sameRole new (firstRole w))) && (not (free clock (secondRole w)) && not (sameRole new (secondRole w))))
   unfolding rolesInForce without bothTaken some
   both-taken new = go (free clock (firstRole w)) (free clock (secondRole w)) (sameRole new (firstRole w)) refl (sameRole new (secondRole w)) refl
     where
-      go : (a b x : Bool) → sameRole new (firstRole w) ≡ x → (y : Bool) → sameRole new (secondRole w) ≡ y → bothTaken new (both a b) ≡ ((not a && not x) && (not b && not y))
+      go : (a b x : Bool) → sameRole new (firstRole w) ≡ x → (y : Bool) → sameRole new (secondRole w) ≡ y
+          → bothTaken new (both a b) ≡ ((not a && not x) && (not b && not y))
       go true true x e y f = refl
       go true false x e y f = refl
       go false true true e y f = refl

@@ -1,13 +1,8 @@
 -- Credential rows that change behind their bodies only: what finds, stores, removes or counts rows by their bodies does not see it.
 -- The change is any function of a row that keeps the row's body; `withoutRoles` is one.
-use Prim.Native.Nat.{ℕ, zero, suc, _+_, _-_, _≤_}
+use Rattle.rows.proofs.Prelude.{_≡_, refl, sym, ap, ap₂, _∙_, Bool, true, false, not, _&&_, _||_, cond, List, [], _∷_, _++_, map, ℕ, zero, suc, _+_, _-_, _≤_}
+use Rattle.rows.proofs.Prelude.{arith, length, take, drop, replicate, take-take}
 use native.Mathlib.Nat.{zero-sub, suc-sub-suc}
-use native.Mathlib.Omega.{arith}
-use mathlib.Core.Path.{_≡_, refl, sym, ap, ap₂, _∙_}
-use mathlib.Core.Bool.{Bool, true, false, not, _&&_, _||_, cond}
-use mathlib.Core.List.{List, [], _∷_, _++_, map}
-use lib.ListN.{length, take, drop, replicate}
-use lib.Seq.{take-take}
 use Rattle.rows.specs.Rows.{Row, same, hasKey, numberedAs, firstRow, rowsBefore, some, without, distinctNumbers, stored}
 use Rattle.rules.specs.Bits.{word}
 use Rattle.rules.specs.Roles.{bodyOf, withoutRoles}
@@ -75,7 +70,8 @@ module _ (f : Row → Row) (keeps : (w : Row) → bodyOf (f w) ≡ bodyOf w) whe
     without-map [] = refl
     without-map (w ∷ ws) = go (p w) refl (without-map ws)
       where
-        go : (a : Bool) → p w ≡ a → map f (without p ws) ≡ without p (map f ws) → map f (cond a (without p ws) (w ∷ without p ws)) ≡ cond (p (f w)) (without p (map f ws)) (f w ∷ without p (map f ws))
+        go : (a : Bool) → p w ≡ a → map f (without p ws) ≡ without p (map f ws)
+            → map f (cond a (without p ws) (w ∷ without p ws)) ≡ cond (p (f w)) (without p (map f ws)) (f w ∷ without p (map f ws))
         go true e ih = rw (sees w, e) ih
         go false e ih = rw (sees w, e) (ap (λ (l : List Row). f w ∷ l) ih)
 
@@ -94,7 +90,8 @@ module _ (f : Row → Row) (keeps : (w : Row) → bodyOf (f w) ≡ bodyOf w) whe
   stored-map new [] = refl
   stored-map new (w ∷ ws) = go (numberedAs new w) refl (stored-map new ws)
     where
-      go : (a : Bool) → numberedAs new w ≡ a → map f (stored new ws) ≡ stored (f new) (map f ws) → map f (cond a (new ∷ ws) (w ∷ stored new ws)) ≡ cond (numberedAs (f new) (f w)) (f new ∷ map f ws) (f w ∷ stored (f new) (map f ws))
+      go : (a : Bool) → numberedAs new w ≡ a → map f (stored new ws) ≡ stored (f new) (map f ws)
+          → map f (cond a (new ∷ ws) (w ∷ stored new ws)) ≡ cond (numberedAs (f new) (f w)) (f new ∷ map f ws) (f w ∷ stored (f new) (map f ws))
       go true e ih = rw (as-new new (f w) ∙ as-same new w ∙ e)
       go false e ih = rw (as-new new (f w) ∙ as-same new w ∙ e) (ap (λ (l : List Row). f w ∷ l) ih)
 
@@ -104,7 +101,9 @@ module _ (f : Row → Row) (keeps : (w : Row) → bodyOf (f w) ≡ bodyOf w) whe
   stored-over new [] h e = contradiction h refl
   stored-over new (w ∷ ws) h e = go (numberedAs new w) h e (stored-over new ws)
     where
-      go : (a : Bool) → (a || some (numberedAs new) ws) ≡ true → f new ≡ f (cond a w (firstRow (numberedAs new) ws)) → (some (numberedAs new) ws ≡ true → f new ≡ f (firstRow (numberedAs new) ws) → map f (stored new ws) ≡ map f ws) → map f (cond a (new ∷ ws) (w ∷ stored new ws)) ≡ f w ∷ map f ws
+      go : (a : Bool) → (a || some (numberedAs new) ws) ≡ true → f new ≡ f (cond a w (firstRow (numberedAs new) ws))
+          → (some (numberedAs new) ws ≡ true → f new ≡ f (firstRow (numberedAs new) ws) → map f (stored new ws) ≡ map f ws)
+          → map f (cond a (new ∷ ws) (w ∷ stored new ws)) ≡ f w ∷ map f ws
       go true h e ih = ap (λ (x : Row). x ∷ map f ws) e
       go false h e ih = ap (λ (l : List Row). f w ∷ l) (ih h e)
 

@@ -1,14 +1,7 @@
 -- Theorem, U1 and U10: records that may store are all permitted when they are judged one straight after the other, from tables without rows of their kind.
 -- The rows are then those of their bodies, in their order, and nothing else is changed. At any clocks and buffer lengths, for any default lists.
-use Prim.Native.Nat.{ℕ, suc, _<_}
-use native.Mathlib.Omega.{arith}
-use mathlib.Core.Path.{_≡_, refl, sym, ap, ap₂, _∙_, subst}
-use mathlib.Core.Bool.{Bool, true, false, not, _||_, true≢false}
-use mathlib.Core.List.{List, [], _∷_, _++_, map, append-assoc, append-nil}
-use lib.Bits.{bitOr}
-use lib.Dec.{leb}
-use lib.ListN.{length, drop, getD, length-append}
-use borrow.Author.Tests.{lt-leb, le-ltb}
+use Rattle.rows.proofs.Prelude.{_≡_, refl, sym, ap, ap₂, subst, _∙_, Bool, true, false, not, _||_, true≢false, List, [], _∷_, _++_, map, append-assoc}
+use Rattle.rows.proofs.Prelude.{append-nil, ℕ, suc, _<_, arith, length, drop, getD, length-append, leb, bitOr, le-ltb, lt-leb}
 use Rattle.rows.specs.Rows.{Row, rowsOf, numberedAs, some, every, stored, unionOf}
 use Rattle.rows.proofs.Laws.{length-rowsOf, every-append}
 use Rattle.rows.proofs.Kept.{AllLong}
@@ -30,7 +23,7 @@ use Rattle.rules.specs.Action.{ifAllowed, storeRow, updateRows, updateAc
 use Rattle.rules.specs.States.{writeAllowed}
 use Rattle.rules.specs.Reading.{reads, replyOf, tooShort, holder}
 use Rattle.rules.specs.Checks.{noRow, noCredential, noEndpoint, notPermitted, offered, notOffered, senderChecks, checks, verdict}
-use Rattle.rules.specs.Outcome.{outcome, outcomeAt, outcomeOf, effect, replyTo, tablesAfter}
+use Rattle.rules.specs.Outcome.{outcome, outcomeAt, outcomeOf, effect, toldTo, tablesAfter}
 use Rattle.rules.specs.Storing.{TakesRows, MayStore, AllMayStore, AllStored}
 use Rattle.rules.proofs.Bools.{and-left, and-right, or-true-right}
 use Rattle.rules.proofs.Answers.{passed, table-parts, rows-are}
@@ -207,9 +200,9 @@ module _ (d : Defaults) (k : Table) (t v : Tables) (held : List Row) (b : List �
         table-room,
       )
 
-  answer-0 : replyTo d v q .answer ≡ 0
+  answer-0 : toldTo d v q .answer ≡ 0
   unfolding outcome outcomeAt
-  answer-0 = ap (λ (c : Check). outcomeOf d v (permission (q .clock) v r) q c .reply .answer) row-permitted
+  answer-0 = ap (λ (c : Check). outcomeOf d v (permission (q .clock) v r) q c .told .answer) row-permitted
 
   -- the row is the last
   row-last : tablesAfter d v q ≡ withRows k v (held ++ (w ∷ []))
@@ -251,7 +244,7 @@ next-row k held b bs l x =
     }
 
 store-more : (d : Defaults) (k : Table) (v : Tables) (q : Request) (qs : List Request) (held ws : List Row)
-    → replyTo d v q .answer ≡ 0 → tablesAfter d v q ≡ withRows k v held → AllStored d k (tablesAfter d v q) qs ws → AllStored d k v (q ∷ qs) ws
+    → toldTo d v q .answer ≡ 0 → tablesAfter d v q ≡ withRows k v held → AllStored d k (tablesAfter d v q) qs ws → AllStored d k v (q ∷ qs) ws
 store-more d k v q qs held ws a e l = record {
   permitted = ap₂ (λ (x : ℕ) (xs : List ℕ). x ∷ xs) a (l .permitted);
   held = l .held;

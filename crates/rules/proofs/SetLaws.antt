@@ -1,18 +1,14 @@
 -- The set of an access row, a range of numbers at a time: known numbers may be in it, and unknown ones are a field of zeros.
 -- So the test of the whole set is a few fields, whatever the directory.
-use Prim.Native.Nat.{ℕ, zero, suc, _+_, _*_, _<_}
-use native.Mathlib.Nat.{add-zero, add-suc, add-assoc}
-use native.Mathlib.Omega.{arith}
-use mathlib.Core.Path.{_≡_, refl, sym, ap, ap₂, _∙_}
-use mathlib.Core.Bool.{Bool, true, false, not, _&&_, _||_}
-use lib.Dec.{eqb}
+use Rattle.rows.proofs.Prelude.{_≡_, refl, sym, ap, _∙_, Bool, true, false, not, _&&_, _||_, ℕ, zero, suc, _+_, _*_, _<_, add-assoc, add-zero, arith, eqb}
+use Rattle.rows.proofs.Prelude.{ne-eqb, not-true}
+use native.Mathlib.Nat.{add-suc}
 use Rattle.rows.specs.Rows.{Row}
 use Rattle.rules.specs.Bits.{bit, bits}
 use Rattle.rules.specs.Directory.{resourceOf, known, someBelow, someSecurity}
 use Rattle.rules.specs.Bodies.{inSet, setKnown}
 use Rattle.rules.proofs.Bools.{and-left, and-right}
 use Rattle.rules.proofs.BitLaws.{bit-small}
-use borrow.Author.Tests.{not-true, ne-eqb}
 
 -- each of the numbers from n on is known; each is unknown
 abbrev allKnown : ℕ → ℕ → Bool
@@ -51,7 +47,8 @@ unfolding setKnown bits
 unknown-part r n zero h = rw add-zero
 unknown-part r n (suc w) h = ap (setKnown r) (add-suc n w) ∙ split (unknown-part r n w (and-right (not (known (n + w))) (allUnknown n w) h)) ∙ ap (λ (b : Bool). b && setKnown r n) joined
   where
-    split : setKnown r (n + w) ≡ (eqb (bits r (32 + n) w) 0 && setKnown r n) → ((not (inSet r (n + w)) || known (n + w)) && setKnown r (n + w)) ≡ ((not (inSet r (n + w)) && eqb (bits r (32 + n) w) 0) && setKnown r n)
+    split : setKnown r (n + w) ≡ (eqb (bits r (32 + n) w) 0 && setKnown r n)
+        → ((not (inSet r (n + w)) || known (n + w)) && setKnown r (n + w)) ≡ ((not (inSet r (n + w)) && eqb (bits r (32 + n) w) 0) && setKnown r n)
     split ih =
         rw (not-true (known (n + w)) (and-left _ _ h), ih)
         (and-turn (not (inSet r (n + w))) (eqb (bits r (32 + n) w) 0) (setKnown r n))

@@ -1,16 +1,10 @@
 -- Theorem: a record leaves sound tables sound, so that a run meets answer 1 only where it began with it.
 -- 'Sound tables' are those of document 01, 'The tables'.
-use Prim.Native.Nat.{ℕ, zero, suc, _*_, _/_, _≤_, _<_}
-use native.Mathlib.Omega.{arith}
-use mathlib.Core.Path.{_≡_, refl, ap, _∙_, sym}
-use mathlib.Core.Bool.{Bool, true, false, not, _&&_, _||_, cond}
-use mathlib.Core.List.{List, [], _∷_}
-use lib.Dec.{eqb, leb}
-use lib.ListN.{length, drop, length-map}
-use borrow.Author.Tests.{eqb-true, leb-true, le-leb, eq-eqb, not-false}
-use Rattle.rows.specs.Rows.{Row, rowsOf, packed, allZero, same, every, distinctNumbers, stored, without, hasKey, IsTable}
+use Rattle.rows.proofs.Prelude.{_≡_, refl, sym, ap, _∙_, Bool, true, false, not, _&&_, _||_, cond, List, [], _∷_, ℕ, zero, suc, _*_, _/_, _≤_, arith, length}
+use Rattle.rows.proofs.Prelude.{length-map, eqb, eq-eqb, le-leb, leb-true, not-false}
+use Rattle.rows.specs.Rows.{Row, rowsOf, packed, allZero, same, every, distinctNumbers, stored, without, hasKey}
 use Rattle.rows.proofs.Laws.{length-rowsOf}
-use Rattle.rows.proofs.Kept.{AllLong, every-long, rowsOf-packed, packed-table, every-stored, every-without, distinct-stored, distinct-without}
+use Rattle.rows.proofs.Kept.{every-long, rowsOf-packed, packed-table, every-stored, every-without, distinct-stored, distinct-without}
 use Rattle.rules.specs.declared.Tables.{Tables}
 use Rattle.rules.specs.declared.Table.{Table}
 use Rattle.rules.specs.declared.Table.the-variants.{Creds, Aces}
@@ -22,7 +16,7 @@ use Rattle.rules.specs.Lookup.{lookup}
 use Rattle.rules.specs.Record.{Request, body, connection, sender}
 use Rattle.rules.specs.Bodies.{nil, isNil}
 use Rattle.rules.specs.Roles.{rolesInForce, asserted}
-use Rattle.rules.specs.Tables.{stride, longest, capacity, storable, rowFrom, rowOf, count, bytes, rows, rowsIn, withRows, rowsSound, headSound, sound, empty}
+use Rattle.rules.specs.Tables.{stride, longest, capacity, storable, rowFrom, rowOf, rows, rowsIn, withRows, rowsSound, headSound, sound, empty}
 use Rattle.rules.specs.Defaults.{Defaults, listed, goodList, defaultRows, fresh}
 use Rattle.rules.specs.Action.{action}
 use Rattle.rules.specs.Checks.{checks, verdict, badLength, noCredential, badTarget, full, rolesFull}
@@ -31,7 +25,7 @@ use Rattle.rules.specs.Outcome.{Outcome, outcome, outcomeAt, outcomeOf, 
 use Rattle.rules.specs.Permission.{permission, ownRow}
 use Rattle.rules.specs.Run.{final}
 use Rattle.rules.proofs.Bools.{cond-cases, bool-cases, contradiction, and-left, and-right, and-both, or-not-left, or-true-right}
-use Rattle.rules.proofs.Answers.{RowsSound, Sound, rows-parts, sound-parts, table-parts, rows-counted, passed}
+use Rattle.rules.proofs.Answers.{RowsSound, Sound, sound-parts, table-parts, rows-counted, passed}
 use Rattle.rules.proofs.BodyLaws.{Valid, action-valid, sized, two-long}
 use Rattle.rules.proofs.TableLaws.{few-rows, few-stored, few-without}
 use Rattle.rules.proofs.Refusals.{unsound-refused}
@@ -47,7 +41,8 @@ unfolding sound
 sound-whole t p = search (and-both)
 
 -- a row table with these rows
-rows-sound : (k : Table) (size : ℕ) (ws : List Row) → length ws * stride k ≤ size → length ws ≤ capacity k → every (storable k) ws ≡ true → distinctNumbers ws ≡ true → rowsSound k (length ws) (packed size ws) ≡ true
+rows-sound : (k : Table) (size : ℕ) (ws : List Row) → length ws * stride k ≤ size → length ws ≤ capacity k → every (storable k) ws ≡ true
+    → distinctNumbers ws ≡ true → rowsSound k (length ws) (packed size ws) ≡ true
 rows-sound k size ws room few all apart =
     let long = every-long (stride k) (storable k) (sized k) ws all in
     let is = rows-counted k (length ws) (packed size ws) few ∙ rowsOf-packed (stride k) size ws long in
@@ -179,7 +174,8 @@ removed-sound k t goes h =
     let s = table-parts k t h in
     record { few = few-without k t goes h; stores = every-without (storable k) goes (rows k t) (s .stores); apart = distinct-without goes (rows k t) (s .apart) }
 
-pub asserted-sound : (c : ℕ) (t : Tables) (q : Request) → sound t ≡ true → Passed t q (Assert c) → SoundRows Creds (stored (asserted (q .clock) (body (q .bytes)) (ownRow t (sender (q .bytes)))) (rows Creds t))
+pub asserted-sound : (c : ℕ) (t : Tables) (q : Request) → sound t ≡ true → Passed t q (Assert c)
+    → SoundRows Creds (stored (asserted (q .clock) (body (q .bytes)) (ownRow t (sender (q .bytes)))) (rows Creds t))
 asserted-sound c t q h x =
     let s = table-parts Creds t h in
     let b = body (q .bytes) in

@@ -1,11 +1,7 @@
 -- Theorems, U3: a permitted DELETE of cred with 16 bytes leaves exactly the rows without that subject, in their order, and all else as it was.
 -- 13 where no row has it. Of a record at any clock, with any buffer and for any default lists, and for every subject.
-use Prim.Native.Nat.{ℕ}
-use mathlib.Core.Path.{_≡_, refl, sym, ap, _∙_}
-use mathlib.Core.Bool.{Bool, true, false, not, _&&_, cond}
-use mathlib.Core.List.{List, [], _∷_, _++_, List·Memᴰ, Sublistᴰ}
-use lib.Dec.{eqb}
-use lib.ListN.{length, take, drop}
+use Rattle.rows.proofs.Prelude.{_≡_, refl, sym, ap, _∙_, Bool, true, false, not, _&&_, cond, List, [], _∷_, _++_, ℕ, length, take, drop, eqb}
+use mathlib.Core.List.{List·Memᴰ, Sublistᴰ}
 use Rattle.rows.specs.Rows.{Row, same, some, without, hasKey}
 use Rattle.rows.proofs.Kept.{same-true, same-refl}
 use Rattle.rows.proofs.Without.{without-order, without-gone, without-left}
@@ -17,14 +13,14 @@ use Rattle.rules.specs.declared.Check.{Check}
 use Rattle.rules.specs.declared.Check.the-variants.{Pass, Refuse}
 use Rattle.rules.specs.Record.{Request, verb, body}
 use Rattle.rules.specs.Bodies.{isNil, credSubject, hasSubject}
-use Rattle.rules.specs.Tables.{rows, withRows, sound}
+use Rattle.rules.specs.Tables.{rows, withRows}
 use Rattle.rules.specs.Defaults.{Defaults}
 use Rattle.rules.specs.Permission.{permission}
 use Rattle.rules.specs.Action.{ifAllowed, deleteCreds, action}
 use Rattle.rules.specs.Reading.{reads, tooShort}
 use Rattle.rules.specs.Places.{deletes}
 use Rattle.rules.specs.Checks.{checks, verdict, numberOf, isMalformed, missing, formChecks, requestChecks, stateChecks, rowChecks, roomChecks}
-use Rattle.rules.specs.Outcome.{replyTo, tablesAfter}
+use Rattle.rules.specs.Outcome.{toldTo, tablesAfter}
 use Rattle.rules.proofs.Bools.{cond-cases, contradiction}
 use Rattle.rules.proofs.Answers.{passed, no-reply-fits}
 use Rattle.rules.proofs.CheckLaws.{skip-all}
@@ -90,7 +86,7 @@ last-checks m short false e f = rw e
 -- ---- of a record
 
 module _ (d : Defaults) (t : Tables) (q : Request) (asks : deletes Creds (q .bytes) ≡ true) (long : length (body (q .bytes)) ≡ 16) where
-  pub subject-gone : replyTo d t q .answer ≡ 0 → SubjectGone (body (q .bytes)) t (tablesAfter d t q)
+  pub subject-gone : toldTo d t q .answer ≡ 0 → SubjectGone (body (q .bytes)) t (tablesAfter d t q)
   subject-gone z =
       let b = body (q .bytes) in
       let x = deleted d t q Creds asks z in
@@ -112,7 +108,7 @@ module _ (d : Defaults) (t : Tables) (q : Request) (asks : deletes Creds (q .byt
 
   -- where the earlier checks pass: 0 where a row has the subject, and else 13
   pub subject-answer : noneApplies (earlier t (permission (q .clock) t (q .bytes)) (q .bytes)) ≡ true
-      → replyTo d t q .answer ≡ cond (some (hasSubject (body (q .bytes))) (rows Creds t)) 0 13
+      → toldTo d t q .answer ≡ cond (some (hasSubject (body (q .bytes))) (rows Creds t)) 0 13
   subject-answer h =
       let r = q .bytes in
       let b = body r in

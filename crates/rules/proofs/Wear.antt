@@ -1,11 +1,6 @@
 -- Theorems, U4: what a permitted DELETE reports, and what it leaves in the memory that wears; everything else reports 0 and 0.
 -- Of a record at any clock, with any buffer and for any default lists. The bytes' length is that which the struct's type gives.
-use Prim.Native.Nat.{ℕ, _+_, _*_, _≤_, _<_}
-use native.Mathlib.Omega.{arith}
-use mathlib.Core.Path.{_≡_, refl, sym, ap, _∙_}
-use mathlib.Core.Bool.{Bool, true, false}
-use mathlib.Core.List.{List, [], _∷_}
-use lib.ListN.{length, take, drop}
+use Rattle.rows.proofs.Prelude.{_≡_, refl, sym, ap, _∙_, Bool, true, false, List, [], _∷_, ℕ, _+_, _*_, _≤_, _<_, arith, length, take, drop}
 use Rattle.rows.specs.Rows.{Row, some, without, hasKey, numberAt}
 use Rattle.rows.proofs.Laws.{length-rowsOf}
 use Rattle.rows.proofs.Gap as gap
@@ -16,7 +11,7 @@ use Rattle.rules.specs.Record.{Request, body}
 use Rattle.rules.specs.Tables.{stride, capacity, count, bytes, rows, withRows, sound}
 use Rattle.rules.specs.Defaults.{Defaults}
 use Rattle.rules.specs.Places.{nowhere, gapOf, deletes, overwritten}
-use Rattle.rules.specs.Outcome.{Reply, Outcome, replyTo, tablesAfter}
+use Rattle.rules.specs.Outcome.{Told, Outcome, toldTo, tablesAfter}
 use Rattle.rules.proofs.Bools.{cond-cases}
 use Rattle.rules.proofs.Answers.{rows-are}
 use Rattle.rules.proofs.TableLaws.{rows-with}
@@ -65,8 +60,8 @@ gap-none goes ws same = cond-cases (λ (p : Places). p ≡ nowhere) (some goes w
 -- ---- of a record
 
 pub delete-worn : (d : Defaults) (t : Tables) (q : Request) (k : Table)
-    → deletes k (q .bytes) ≡ true → replyTo d t q .answer ≡ 0 → length (bytes k t) ≡ capacity k * stride k
-    → Worn k t (tablesAfter d t q) (replyTo d t q .places)
+    → deletes k (q .bytes) ≡ true → toldTo d t q .answer ≡ 0 → length (bytes k t) ≡ capacity k * stride k
+    → Worn k t (tablesAfter d t q) (toldTo d t q .places)
 delete-worn d t q k h z l =
     let x = deleted d t q k h z in
     let goes = hasKey (x .at) (body (q .bytes)) in
@@ -86,17 +81,17 @@ delete-worn d t q k h z l =
 
 -- everything else: a record that is refused, one that is no DELETE of rows, and a DELETE after which as many rows are held
 pub record NoPlaces (d : Defaults) (t : Tables) (q : Request) : Type 0 where
-  pub refused : (replyTo d t q .answer ≡ 0 → ⊥) → replyTo d t q .places ≡ nowhere
-  pub no-delete : ((k : Table) → deletes k (q .bytes) ≡ false) → replyTo d t q .places ≡ nowhere
-  pub no-rows : (k : Table) → deletes k (q .bytes) ≡ true → count k (tablesAfter d t q) ≡ count k t → replyTo d t q .places ≡ nowhere
+  pub refused : (toldTo d t q .answer ≡ 0 → ⊥) → toldTo d t q .places ≡ nowhere
+  pub no-delete : ((k : Table) → deletes k (q .bytes) ≡ false) → toldTo d t q .places ≡ nowhere
+  pub no-rows : (k : Table) → deletes k (q .bytes) ≡ true → count k (tablesAfter d t q) ≡ count k t → toldTo d t q .places ≡ nowhere
 
-places-unless : (d : Defaults) (t : Tables) (q : Request) → (replyTo d t q .answer ≡ 0 → replyTo d t q .places ≡ nowhere) → replyTo d t q .places ≡ nowhere
-places-unless d t q = not-told (λ (x : Reply). x .places) nowhere d t q (λ n. refl)
+places-unless : (d : Defaults) (t : Tables) (q : Request) → (toldTo d t q .answer ≡ 0 → toldTo d t q .places ≡ nowhere) → toldTo d t q .places ≡ nowhere
+places-unless d t q = not-told (λ (x : Told). x .places) nowhere d t q (λ n. refl)
 
 pub no-places : (d : Defaults) (t : Tables) (q : Request) → NoPlaces d t q
 no-places d t q = record {
   refused = λ other. places-unless d t q (λ z. absurd (other z));
-  no-delete = λ other. places-unless d t q (λ z. ap (λ (o : Outcome). o .reply .places) (permitted-outcome d t q z) ∙ quiet t (q .bytes) other);
+  no-delete = λ other. places-unless d t q (λ z. ap (λ (o : Outcome). o .told .places) (permitted-outcome d t q z) ∙ quiet t (q .bytes) other);
   no-rows = λ k h same. places-unless d t q (λ z.
       let x = deleted d t q k h z in
       let ws = without (hasKey (x .at) (body (q .bytes))) (rows k t) in

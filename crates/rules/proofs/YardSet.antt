@@ -1,27 +1,20 @@
 -- Theorems, U9: the set that a permitted RETRIEVE or UPDATE of /yard answers holds exactly those of 8 to 14 whose own record gets answer 0.
 -- Every other record has the empty set and size 0. Of a record at any clock, with any buffer and for any default lists.
-use Prim.Native.Nat.{ℕ, _+_, _*_, _/_, _%_, _^_, _≤_, _<_}
-use native.Mathlib.Nat.{le-trans}
-use native.Mathlib.Omega.{arith}
-use mathlib.Core.Path.{_≡_, refl, sym, ap, ap₂, _∙_}
-use mathlib.Core.Bool.{Bool, true, false, _&&_, and-false}
-use mathlib.Core.List.{List, [], _∷_, _++_}
-use lib.Count.{ones, onesIn}
-use lib.Dec.{eqb, leb, ltb, leb·suc-suc}
-use lib.ListN.{length}
-use borrow.Author.Tests.{leb-true, le-leb}
+use Rattle.rows.proofs.Prelude.{_≡_, refl, sym, ap, ap₂, _∙_, Bool, true, false, _&&_, and-false, List, [], _∷_, _++_, ℕ, _+_, _*_, _/_, _%_, _^_, _≤_, _<_}
+use Rattle.rows.proofs.Prelude.{le-trans, arith, length, eqb, leb, ltb, ones, onesIn, le-leb, leb-true}
+use lib.Dec.{leb·suc-suc}
 use Rattle.rules.specs.declared.Tables.{Tables}
 use Rattle.rules.specs.declared.Links.{Links}
-use Rattle.rules.specs.Directory.{isSecurity, links}
+use Rattle.rules.specs.Directory.{isSecurity}
 use Rattle.rules.specs.Bits.{word}
-use Rattle.rules.specs.Record.{Request, asked, verb, connection, resource, credential}
+use Rattle.rules.specs.Record.{Request, received, verb, connection, resource, credential}
 use Rattle.rules.specs.Defaults.{Defaults}
 use Rattle.rules.specs.Permission.{permission}
 use Rattle.rules.specs.Action.{action}
 use Rattle.rules.specs.Reading.{reads}
 use Rattle.rules.specs.Links.{ownRecord, permits, setOf, asksLinks, linkSet, linksOf, noLinks, inLinks, countBelow}
 use Rattle.rules.specs.Checks.{checks, formChecks, askedChecks, verdict, isPass}
-use Rattle.rules.specs.Outcome.{Reply, Outcome, replyTo}
+use Rattle.rules.specs.Outcome.{Told, Outcome, toldTo}
 use Rattle.rules.proofs.Answers.{passed, long-enough, no-reply-fits}
 use Rattle.rules.proofs.BodyLaws.{security-number}
 use Rattle.rules.proofs.Refusals.{zero-passes, not-told, permitted-passes, permitted-outcome}
@@ -33,14 +26,14 @@ pub record YardSet (d : Defaults) (t : Tables) (q : Request) : Type 0 where
   -- a resource is in the set exactly where it is one of 8 to 14, and its own record gets answer 0,
   -- at the same clock and on the same tables, with any buffer and for any default lists
   pub member : (n : ℕ) → n < 64 → (d′ : Defaults) (room : ℕ)
-      → inLinks (replyTo d t q .links .set) n ≡ (leb 8 n && leb n 14 && eqb (replyTo d′ t (asked (q .clock) (ownRecord (q .bytes) n) room) .answer) 0)
+      → inLinks (toldTo d t q .links .set) n ≡ (leb 8 n && leb n 14 && eqb (toldTo d′ t (received (q .clock) (ownRecord (q .bytes) n) room) .answer) 0)
   -- that record has the verb and the sender of the one that asks, and no body; with any body that has room it gets the same answer
   pub own : (n : ℕ) → n < 64 → Own (q .bytes) n
   pub with-body : (n : ℕ) → n < 64 → 8 ≤ n → (b : List ℕ) → length b ≤ 252 → (d′ : Defaults) (room : ℕ)
-      → replyTo d′ t (asked (q .clock) (ownRecord (q .bytes) n ++ b) room) .answer ≡ replyTo d′ t (asked (q .clock) (ownRecord (q .bytes) n) room) .answer
+      → toldTo d′ t (received (q .clock) (ownRecord (q .bytes) n ++ b) room) .answer ≡ toldTo d′ t (received (q .clock) (ownRecord (q .bytes) n) room) .answer
   -- the set has 64 bits, and the size is the number of its members
-  pub fits : replyTo d t q .links .set < 2 ^ 64
-  pub size : replyTo d t q .links .size ≡ countBelow 64 (inLinks (replyTo d t q .links .set))
+  pub fits : toldTo d t q .links .set < 2 ^ 64
+  pub size : toldTo d t q .links .size ≡ countBelow 64 (inLinks (toldTo d t q .links .set))
 
 -- ---- a link's own record
 
@@ -53,19 +46,19 @@ link-plain n h = go (isSecurity n) refl
 
 -- a record that is not read gets answer 0 where it is permitted with no buffer, whatever its buffer
 permits-zero : (clock : ℕ) (t : Tables) (r : List ℕ) → reads r ≡ false → (d : Defaults) (room : ℕ)
-    → permits clock t r ≡ eqb (replyTo d t (asked clock r room) .answer) 0
+    → permits clock t r ≡ eqb (toldTo d t (received clock r room) .answer) 0
 unfolding permits
 permits-zero clock t r unread d room =
     ap (λ (b : Bool). isPass (verdict (formChecks t r ++ askedChecks clock t (permission clock t r) r (action r) ++ (15, b) ∷ [])))
-    (no-reply-fits t (asked clock r 0) unread ∙ sym (no-reply-fits t (asked clock r room) unread))
-    ∙ sym (zero-passes d t (asked clock r room))
+    (no-reply-fits t (received clock r 0) unread ∙ sym (no-reply-fits t (received clock r room) unread))
+    ∙ sym (zero-passes d t (received clock r room))
 
 served-unread : (r : List ℕ) → isSecurity (resource r) ≡ false → reads r ≡ false
 unfolding reads
 served-unread r a = rw (a, and-false)
 
 own-any-body : (r : List ℕ) (n : ℕ) (b : List ℕ) → length b ≤ 252 → isSecurity (resource (ownRecord r n)) ≡ false → (d : Defaults) (t : Tables) (clock room : ℕ)
-    → replyTo d t (asked clock (ownRecord r n ++ b) room) .answer ≡ replyTo d t (asked clock (ownRecord r n) room) .answer
+    → toldTo d t (received clock (ownRecord r n ++ b) room) .answer ≡ toldTo d t (received clock (ownRecord r n) room) .answer
 unfolding ownRecord word
 own-any-body r n b few plain = any-body (verb r * 32 + connection r * 16 + n / 4) (n % 4 * 64) (credential r / 256) (credential r % 256) b few plain
 
@@ -84,16 +77,16 @@ asked-set : (clock : ℕ) (t : Tables) (r : List ℕ) → asksLinks r ≡ true �
 unfolding linkSet
 asked-set clock t r a = rw a
 
-pub yard-set : (d : Defaults) (t : Tables) (q : Request) → asksLinks (q .bytes) ≡ true → replyTo d t q .answer ≡ 0 → YardSet d t q
+pub yard-set : (d : Defaults) (t : Tables) (q : Request) → asksLinks (q .bytes) ≡ true → toldTo d t q .answer ≡ 0 → YardSet d t q
 yard-set d t q asks z =
     let r = q .bytes in
     let passes : ℕ → Bool = λ n. permits (q .clock) t (ownRecord r n) in
     let e = permitted-passes d t q z in
     let l = long-enough r (passed (checks t (permission (q .clock) t r) q) e 2) in
     let plain : (n : ℕ) → n < 64 → leb 8 n ≡ true → isSecurity (resource (ownRecord r n)) ≡ false = λ n h m. ap (λ (i : ℕ). isSecurity i) (own r n l h .resource-is) ∙ link-plain n m in
-    let are : replyTo d t q .links ≡ linksOf (q .clock) t r = ap (λ (o : Outcome). o .reply .links) (permitted-outcome d t q z) in
-    let is : replyTo d t q .links .set ≡ setOf passes (from 8 7) = ap (λ (x : Links). x .set) are ∙ asked-set (q .clock) t r asks in
-    let small : replyTo d t q .links .set < 2 ^ 64 = rw is (le-trans (set-below passes 7 7 (omega arith)) (omega arith)) in
+    let are : toldTo d t q .links ≡ linksOf (q .clock) t r = ap (λ (o : Outcome). o .told .links) (permitted-outcome d t q z) in
+    let is : toldTo d t q .links .set ≡ setOf passes (from 8 7) = ap (λ (x : Links). x .set) are ∙ asked-set (q .clock) t r asks in
+    let small : toldTo d t q .links .set < 2 ^ 64 = rw is (le-trans (set-below passes 7 7 (omega arith)) (omega arith)) in
     record {
       member = λ n h d′ room.
           ap (λ (x : ℕ). inLinks x n) is
@@ -102,23 +95,23 @@ yard-set d t q asks z =
       own = λ n h. own r n l h;
       with-body = λ n h m b few d′ room. own-any-body r n b few (plain n h (le-leb 8 n m)) d′ t (q .clock) room;
       fits = small;
-      size = ap (λ (x : Links). x .size) are ∙ ap (λ (x : Links). ones (x .set)) (sym are) ∙ ones-held (replyTo d t q .links .set) small;
+      size = ap (λ (x : Links). x .size) are ∙ ap (λ (x : Links). ones (x .set)) (sym are) ∙ ones-held (toldTo d t q .links .set) small;
     }
 
 -- every other record: one that is refused, and one that is no RETRIEVE or UPDATE of /yard
 pub record NoSet (d : Defaults) (t : Tables) (q : Request) : Type 0 where
-  pub refused : (replyTo d t q .answer ≡ 0 → ⊥) → replyTo d t q .links ≡ noLinks
-  pub other : asksLinks (q .bytes) ≡ false → replyTo d t q .links ≡ noLinks
+  pub refused : (toldTo d t q .answer ≡ 0 → ⊥) → toldTo d t q .links ≡ noLinks
+  pub other : asksLinks (q .bytes) ≡ false → toldTo d t q .links ≡ noLinks
 
 not-asked : (clock : ℕ) (t : Tables) (r : List ℕ) → asksLinks r ≡ false → linksOf clock t r ≡ noLinks
 unfolding linkSet ones onesIn
 not-asked clock t r a = rw a
 
-links-unless : (d : Defaults) (t : Tables) (q : Request) → (replyTo d t q .answer ≡ 0 → replyTo d t q .links ≡ noLinks) → replyTo d t q .links ≡ noLinks
-links-unless d t q = not-told (λ (x : Reply). x .links) noLinks d t q (λ n. refl)
+links-unless : (d : Defaults) (t : Tables) (q : Request) → (toldTo d t q .answer ≡ 0 → toldTo d t q .links ≡ noLinks) → toldTo d t q .links ≡ noLinks
+links-unless d t q = not-told (λ (x : Told). x .links) noLinks d t q (λ n. refl)
 
 pub no-set : (d : Defaults) (t : Tables) (q : Request) → NoSet d t q
 no-set d t q = record {
   refused = λ other. links-unless d t q (λ z. absurd (other z));
-  other = λ a. links-unless d t q (λ z. ap (λ (o : Outcome). o .reply .links) (permitted-outcome d t q z) ∙ not-asked (q .clock) t (q .bytes) a);
+  other = λ a. links-unless d t q (λ z. ap (λ (o : Outcome). o .told .links) (permitted-outcome d t q z) ∙ not-asked (q .clock) t (q .bytes) a);
 }

@@ -9,7 +9,7 @@ use Rattle.rules.specs.declared.Tables.{Tables}
 use Rattle.rules.specs.declared.Links.{Links}
 use Rattle.rules.specs.Bits.{word}
 use Rattle.rules.specs.Directory.{yard, links}
-use Rattle.rules.specs.Record.{asked, verb, connection, resource, credential}
+use Rattle.rules.specs.Record.{received, verb, connection, resource, credential}
 use Rattle.rules.specs.Permission.{permission}
 use Rattle.rules.specs.Checks.{checks, verdict, isPass}
 
@@ -19,7 +19,7 @@ ownRecord r n = (verb r * 32 + connection r * 16 + n / 4) ∷ (n % 4 * 64) ∷ w
 
 -- the record is permitted, with no buffer lent
 unfoldable pub permits : ℕ → Tables → List ℕ → Bool
-permits clock t r = isPass (verdict (checks t (permission clock t r) (asked clock r 0)))
+permits clock t r = isPass (verdict (checks t (permission clock t r) (received clock r 0)))
 
 -- a set of resources as a number of 64 bits: the top bit is resource 0
 unfoldable pub setOf : (ℕ → Bool) → List ℕ → ℕ

@@ -77,7 +77,9 @@ forRole a role authority = eqb (aceRole a) role && eqb (aceAuthority a) authorit
 
 -- the credential row w has the role, stored or asserted and in force (U11)
 unfoldable pub roleFits : ℕ → Row → Row → Bool
-roleFits clock w a = isRow w && (forRole a (credRole w) (credAuthority w) || some (λ p. forRole a (assertedRole p) (assertedAuthority p)) (rolesInForce clock w))
+roleFits clock w a =
+    isRow w
+    && (forRole a (credRole w) (credAuthority w) || some (λ p. forRole a (assertedRole p) (assertedAuthority p)) (rolesInForce clock w))
 
 -- a UUID fits the credential row w with that subject, a connection the same bit, a role where it is had
 unfoldable pub subjectIs : Bool → Row → ℕ → Row → Bool
@@ -136,7 +138,8 @@ byRoles connection n = cond (eqb n roles && eqb connection 1) 6 0
 -- ---- the union
 
 unfoldable pub effectiveOf : ℕ → Tables → Row → ℕ → ℕ → ℕ
-effectiveOf clock t w connection n = bitOr (bitOr (bitOr (unionOf (gives clock w connection n) (rows Aces t)) (byOwner t w n)) (byNoOwner t n)) (byRoles connection n)
+effectiveOf clock t w connection n =
+    bitOr (bitOr (bitOr (unionOf (gives clock w connection n) (rows Aces t)) (byOwner t w n)) (byNoOwner t n)) (byRoles connection n)
 
 abbrev pub effective : ℕ → Tables → Sender → ℕ → ℕ
 effective clock t s n = effectiveOf clock t (ownRow t s) (connectionOf s) n

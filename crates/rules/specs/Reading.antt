@@ -22,7 +22,13 @@ ownBody t n = lookup n ((doxm, t .owned % 2 * 128 ∷ t .devowner) ∷ (pstat, t
 
 -- the rows of a table, each as the longest body that stores it, without what is asserted; of roles those of the sender
 unfoldable pub rowBytes : ℕ → Tables → Sender → ℕ → List ℕ
-rowBytes clock t s n = lookup n ((cred, joined (map bodyOf (rows Creds t))) ∷ (acl2, joined (rows Aces t)) ∷ (roles, joined (rolesInForce clock (ownRow t s))) ∷ []) []
+rowBytes clock t s n =
+    lookup n (
+    (cred, joined (map bodyOf (rows Creds t)))
+    ∷ (acl2, joined (rows Aces t))
+    ∷ (roles, joined (rolesInForce clock (ownRow t s)))
+    ∷ []
+    ) []
 
 unfoldable pub contents : ℕ → Tables → Sender → ℕ → List ℕ
 contents clock t s n = ownBody t n ++ rowOwner t n ++ rowBytes clock t s n

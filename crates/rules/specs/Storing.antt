@@ -15,14 +15,14 @@ use Rattle.rules.specs.Permission.{U, has, permission}
 use Rattle.rules.specs.States.{writeAllowed}
 use Rattle.rules.specs.Reading.{holder}
 use Rattle.rules.specs.Checks.{senderChecks, verdict}
-use Rattle.rules.specs.Outcome.{Reply, replyTo, tablesAfter}
+use Rattle.rules.specs.Outcome.{Told, toldTo, tablesAfter}
 use Rattle.rules.specs.Run.{replies, final}
 
 -- a permitted RETRIEVE of the table's resource
 pub record Retrieves (d : Defaults) (k : Table) (t : Tables) (q : Request) : Type 0 where
   pub retrieves : verb (q .bytes) ≡ 1
   pub on : resource (q .bytes) ≡ holder k
-  pub permitted : replyTo d t q .answer ≡ 0
+  pub permitted : toldTo d t q .answer ≡ 0
 
 -- sound tables without rows of this kind, in a state that takes them
 pub record TakesRows (k : Table) (t : Tables) : Type 0 where
@@ -51,6 +51,6 @@ inClear k b = 0x40 ∷ (holder k * 64) ∷ 0x00 ∷ 0x00 ∷ b
 
 -- each record is permitted; the rows are then these, in their order, and nothing else is changed
 pub record AllStored (d : Defaults) (k : Table) (t : Tables) (qs : List Request) (ws : List Row) : Type 0 where
-  pub permitted : map (λ (p : Reply). p .answer) (replies (replyTo d) (tablesAfter d) t qs) ≡ map (λ (q : Request). 0) qs
+  pub permitted : map (λ (p : Told). p .answer) (replies (toldTo d) (tablesAfter d) t qs) ≡ map (λ (q : Request). 0) qs
   pub held : rows k (final (tablesAfter d) t qs) ≡ ws
   pub others : withRows k (final (tablesAfter d) t qs) [] ≡ withRows k t []

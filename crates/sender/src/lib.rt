@@ -3,8 +3,10 @@
 use fields::held;
 use fields::record::connection_of;
 use rows::part;
+use rules::ACE_ROWS;
 use rules::CRED_ROW;
 use rules::CRED_ROWS;
+use rules::CREDS;
 use rules::Check;
 use rules::Head;
 ghost use mathlib.Core.Path.{_≡_};
@@ -26,7 +28,7 @@ pub fn own_row<'a>(count: u8, creds: &'a [u8; CRED_ROWS], record: &[u8]) -> &'a 
     if connection_of(record) != 1 {
         return part(creds, 0, 0);
     }
-    let n = held(count, 24);
+    let n = held(count, CREDS);
     rows::row_with(creds, CRED_ROW, n, 0, &record[2..4])
 }
 
@@ -46,7 +48,7 @@ pub fn sender_connection(record: &[u8]) -> u16
 pub fn check_credential<'a>(
     h: Head,
     creds: &'a [u8; CRED_ROWS],
-    aces: &'a [u8; 1152],
+    aces: &'a [u8; ACE_ROWS],
     cred: &[u8],
     record: &[u8],
 ) -> Check

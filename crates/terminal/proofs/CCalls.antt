@@ -1,19 +1,15 @@
 -- Theorem, demand 3 of C calls: what the C functions give, by the very equations that their contracts promise, and the payload read at its start and length
--- are calls as `built-isolation` takes them (waiting/proofs/Built.antt), each on the tables and the memory handed back last.
-use Prim.Native.Nat.{ℕ}
-use mathlib.Core.Path.{_≡_, sym, ap, _∙_}
-use mathlib.Core.Bool.{Bool}
-use mathlib.Core.List.{List, [], _∷_}
-use lib.ListN.{length, take}
+-- are calls as `built-isolation` takes them (rules_waiting/proofs/Built.antt), each on the tables and the memory handed back last.
+use Rattle.rows.proofs.Prelude.{_≡_, sym, ap, _∙_, Bool, List, [], _∷_, ℕ, length, take}
 use Rattle.rules.specs.Record.{Request, Sender}
 use Rattle.rules.specs.Defaults.{Defaults}
 use Rattle.rules.specs.Outcome.{Said, payloadAt}
 use Rattle.rules.specs.Run.{kept}
-use Rattle.waiting.specs.Terminal.{Terminal, terminal, handedIn, taken, judged}
-use Rattle.waiting.specs.Calls.{Leaves}
-use Rattle.waiting.specs.Inputs.{Input, handIn, takeAt, direct, othersTurn}
-use Rattle.waiting.proofs.Isolated.{Premises, AsTheBook}
-use Rattle.waiting.proofs.Built.{Call, Meets, Built, handedBack, callTurns, record-back, built-isolation}
+use Rattle.rules_waiting.specs.Terminal.{Terminal, terminal, handedIn, taken, judged}
+use Rattle.rules_waiting.specs.Calls.{Leaves}
+use Rattle.rules_waiting.specs.Inputs.{Input, handIn, takeAt, direct, othersTurn}
+use Rattle.rules_waiting.proofs.Isolated.{Premises, AsTheBook}
+use Rattle.rules_waiting.proofs.Built.{Call, Meets, Built, handedBack, callTurns, record-back, built-isolation}
 use Rattle.terminal.specs.declared.Outcome.{Outcome}
 use Rattle.terminal.specs.declared.Turn.{Turn}
 use Rattle.terminal.specs.Interface.{exported, turnOf}
@@ -52,7 +48,7 @@ abbrev pub saidIn : Outcome → Said
 saidIn o = record {
   answer = o .answer;
   permission = o .permission;
-  length = o .reply;
+  reply = o .reply;
   places = record { first = o .first; many = o .many };
   links = record { set = o .set; size = o .size };
   tables = o .tables;

@@ -1,23 +1,16 @@
 -- Theorem: the start and the length that C gets are those of the outcome's payload within the record.
-use Prim.Native.Nat.{ℕ, zero, suc, _≤_}
-use native.Mathlib.Omega.{arith}
-use mathlib.Core.Path.{_≡_, refl, sym, ap, _∙_}
-use mathlib.Core.Bool.{Bool, true, false, cond, true≢false}
-use mathlib.Core.List.{List, [], _∷_}
-use lib.Dec.{eqb}
-use lib.ListN.{length, take, drop}
-use lib.Seq.{take-all}
-use borrow.Author.Tests.{ne-eqb}
+use Rattle.rows.proofs.Prelude.{_≡_, refl, sym, ap, _∙_, Bool, true, false, cond, true≢false, List, [], _∷_, ℕ, arith, length, take, drop, take-all, eqb}
+use Rattle.rows.proofs.Prelude.{ne-eqb}
 use Rattle.rules.specs.declared.Check.{Check}
 use Rattle.rules.specs.declared.Check.the-variants.{Pass, Refuse}
 use Rattle.rules.specs.Directory.{isSecurity}
-use Rattle.rules.specs.Record.{Request, asked, resource, payloadOf}
+use Rattle.rules.specs.Record.{Request, received, resource, payloadOf}
 use Rattle.rules.specs.Defaults.{Defaults}
 use Rattle.rules.specs.Checks.{verdict}
 use Rattle.rules.specs.Outcome.{payloadAt}
 use Rattle.rules.proofs.Refusals.{payload-is}
-use Rattle.waiting.specs.Terminal.{Terminal, takeChecks, due, takeOf, taken, directChecks, directOf, judged}
-use Rattle.waiting.proofs.Refused.{among, refused-among}
+use Rattle.rules_waiting.specs.Terminal.{Terminal, takeChecks, due, takeOf, taken, directChecks, directOf, judged}
+use Rattle.rules_waiting.proofs.Refused.{among, refused-among}
 use Rattle.terminal.specs.Interface.{startOf, exported}
 
 -- the part with this start and length
@@ -52,31 +45,32 @@ module _ (r : List ℕ) where
 
 -- ---- the payload goes with the answer
 
-pub judged-payload : (d : Defaults) (x : Terminal) (q : Request) → payloadAt (judged d x q .reply .answer) (q .bytes) ≡ judged d x q .reply .payload
+pub judged-payload : (d : Defaults) (x : Terminal) (q : Request) → payloadAt (judged d x q .told .answer) (q .bytes) ≡ judged d x q .told .payload
 unfolding judged payloadAt
 judged-payload d x q = go (verdict (directChecks x)) refl
   where
-    go : (c : Check) → verdict (directChecks x) ≡ c → payloadAt (directOf d x q c .reply .answer) (q .bytes) ≡ directOf d x q c .reply .payload
+    go : (c : Check) → verdict (directChecks x) ≡ c → payloadAt (directOf d x q c .told .answer) (q .bytes) ≡ directOf d x q c .told .payload
     go Pass e = payload-is d (x .tables) q
     go (Refuse n) e = rw (not-0 (directChecks x) n refl e)
 
-pub taken-payload : (d : Defaults) (x : Terminal) (clock room : ℕ) → payloadAt (taken d x clock room .reply .answer) (taken d x clock room .bytes) ≡ taken d x clock room .reply .payload
+pub taken-payload : (d : Defaults) (x : Terminal) (clock room : ℕ)
+    → payloadAt (taken d x clock room .told .answer) (taken d x clock room .bytes) ≡ taken d x clock room .told .payload
 unfolding taken payloadAt
 taken-payload d x clock room = go (verdict (takeChecks x)) refl
   where
     q : Request
-    q = asked clock (due x) room
+    q = received clock (due x) room
 
-    go : (c : Check) → verdict (takeChecks x) ≡ c → payloadAt (takeOf d x q c .reply .answer) (takeOf d x q c .bytes) ≡ takeOf d x q c .reply .payload
+    go : (c : Check) → verdict (takeChecks x) ≡ c → payloadAt (takeOf d x q c .told .answer) (takeOf d x q c .bytes) ≡ takeOf d x q c .told .payload
     go Pass e = payload-is d (x .tables) q
     go (Refuse n) e = rw (not-0 (takeChecks x) n refl e)
 
 -- ---- so it is found: of a record judged at once, and of a record taken in the bytes that are handed out
 
-pub payload-found : (d : Defaults) (x : Terminal) (q : Request) → let o = exported (judged d x q) in partAt (o .start) (o .length) (q .bytes) ≡ judged d x q .reply .payload
+pub payload-found : (d : Defaults) (x : Terminal) (q : Request) → let o = exported (judged d x q) in partAt (o .start) (o .length) (q .bytes) ≡ judged d x q .told .payload
 unfolding payloadAt
-payload-found d x q = rw (← judged-payload d x q) (of-answer (q .bytes) (eqb (judged d x q .reply .answer) 0))
+payload-found d x q = rw (← judged-payload d x q) (of-answer (q .bytes) (eqb (judged d x q .told .answer) 0))
 
-pub payload-taken : (d : Defaults) (x : Terminal) (clock room : ℕ) → let o = exported (taken d x clock room) in partAt (o .start) (o .length) (taken d x clock room .bytes) ≡ taken d x clock room .reply .payload
+pub payload-taken : (d : Defaults) (x : Terminal) (clock room : ℕ) → let o = exported (taken d x clock room) in partAt (o .start) (o .length) (taken d x clock room .bytes) ≡ taken d x clock room .told .payload
 unfolding payloadAt
-payload-taken d x clock room = rw (← taken-payload d x clock room) (of-answer (taken d x clock room .bytes) (eqb (taken d x clock room .reply .answer) 0))
+payload-taken d x clock room = rw (← taken-payload d x clock room) (of-answer (taken d x clock room .bytes) (eqb (taken d x clock room .told .answer) 0))

@@ -5,8 +5,8 @@ use mathlib.Core.Bool.{cond}
 use lib.Dec.{eqb}
 use lib.ListN.{length}
 use Rattle.rules.specs.Outcome.{Said}
-use Rattle.waiting.specs.Slots.{padded}
-use Rattle.waiting.specs.Terminal.{Answered, said}
+use Rattle.rules_waiting.specs.Slots.{padded}
+use Rattle.rules_waiting.specs.Terminal.{Answered, said}
 use Rattle.terminal.specs.declared.Outcome.{Outcome}
 use Rattle.terminal.specs.declared.Turn.{Turn}
 
@@ -20,7 +20,7 @@ outcomeIn j n = record {
   permission = j .permission;
   start = startOf n;
   length = n;
-  reply = j .length;
+  reply = j .reply;
   first = j .places .first;
   many = j .places .many;
   set = j .links .set;
@@ -29,7 +29,7 @@ outcomeIn j n = record {
 }
 
 abbrev pub exported : Answered → Outcome
-exported a = outcomeIn (said a) (length (a .reply .payload))
+exported a = outcomeIn (said a) (length (a .told .payload))
 
 -- of a take: with it the record, and zeros behind it
 abbrev pub turnOf : Answered → Turn

@@ -1,24 +1,26 @@
 // The C interface: one call each of the library, declared in include/tillerclover.h.
 // Tables pass by value, a record and a buffer as a pointer and a length each, the memory of waiting records as a pointer;
 // the payload goes out as a start and a length within the record.
-use conversion::Converted;
-use listing::Listed;
-use lists::Tested;
+use list_convert::Converted;
+use office_list::Listed;
+use rules::ACE_ROWS;
 use rules::CRED_ROWS;
 use rules::Judgement;
 use rules::Tables;
+use rules_lists::Tested;
+use rules_waiting::MEMORY;
 ghost use mathlib.Core.Path.{_≡_};
 ghost use Rattle.rules.specs.Defaults.{defaults};
 ghost use lib.ListN.{length};
-ghost use Rattle.rules.specs.Record.{asked};
+ghost use Rattle.rules.specs.Record.{received};
 ghost use Rattle.rules.specs.Reading.{filled};
 ghost use Rattle.rules.specs.Checks.{numberOf};
 ghost use Rattle.rules.specs.Outcome.{saidOf};
-ghost use Rattle.waiting.specs.Terminal.{terminal, freshTerminal, clearedTerminal, handedIn, taken, judged};
-ghost use Rattle.waiting.specs.Calls.{Leaves};
-ghost use Rattle.office.specs.Office.{officeVerdict, officeReply};
-ghost use Rattle.lists.specs.Lists.{listTested};
-ghost use Rattle.legacy.specs.Conversion.{conversionVerdict, conversionReply};
+ghost use Rattle.rules_waiting.specs.Terminal.{terminal, freshTerminal, clearedTerminal, handedIn, taken, judged};
+ghost use Rattle.rules_waiting.specs.Calls.{Leaves};
+ghost use Rattle.rules_office.specs.Office.{officeVerdict, officeReply};
+ghost use Rattle.rules_lists.specs.Lists.{listTested};
+ghost use Rattle.rules_legacy.specs.Conversion.{conversionVerdict, conversionReply};
 ghost use Rattle.terminal.specs.Interface.{startOf, outcomeIn, exported, turnOf};
 
 // What becomes of a record. Without a payload both its start and its length are 0; `reply` is the length written to the lent buffer;
@@ -49,12 +51,12 @@ pub struct Turn {
 // The tables of a new terminal of a build with these default rows; nothing waits.
 // Rules out: tables that are not sound; tables with an owner; a byte left in the memory.
 #[no_mangle]
-pub extern "C" fn tillerclover_fresh(memory: &mut [u8; 6504], creds: &[u8], aces: &[u8]) -> Tables
+pub extern "C" fn tillerclover_fresh(memory: &mut [u8; MEMORY], creds: &[u8], aces: &[u8]) -> Tables
     ensures tables { λ r. ⌜ r ≡ freshTerminal (defaults (now (creds .entry)) (now (aces .entry))) .tables ⌝ }
     ensures memory { λ _. ⌜ now (memory .exit) ≡ freshTerminal (defaults (now (creds .entry)) (now (aces .entry))) .memory ⌝ }
 {
     queue::clear(memory);
-    tables::defaults::fresh(creds, aces)
+    effect_fresh::defaults::fresh(creds, aces)
 }
 
 // The clear button: tables and memory of any content.
@@ -62,7 +64,7 @@ pub extern "C" fn tillerclover_fresh(memory: &mut [u8; 6504], creds: &[u8], aces
 #[no_mangle]
 pub extern "C" fn tillerclover_clear(
     t: Tables,
-    memory: &mut [u8; 6504],
+    memory: &mut [u8; MEMORY],
     creds: &[u8],
     aces: &[u8],
 ) -> Tables
@@ -70,7 +72,7 @@ pub extern "C" fn tillerclover_clear(
     ensures memory { λ _. ⌜ now (memory .exit) ≡ clearedTerminal (defaults (now (creds .entry)) (now (aces .entry))) (terminal t (now (memory .entry))) .memory ⌝ }
 {
     queue::clear(memory);
-    tables::defaults::clear(t, creds, aces)
+    effect_fresh::defaults::clear(t, creds, aces)
 }
 
 // Where a payload of this length starts in its record.
@@ -81,7 +83,7 @@ fn start_of(length: usize) -> usize
 }
 
 // What C gets of a judgement with these rows beside it, whose payload has this length.
-fn export(j: Judgement, creds: [u8; CRED_ROWS], aces: [u8; 1152], length: usize) -> Outcome
+fn export(j: Judgement, creds: [u8; CRED_ROWS], aces: [u8; ACE_ROWS], length: usize) -> Outcome
     ensures { λ r. ⌜ r ≡ outcomeIn (saidOf j creds aces) length ⌝ }
 {
     let places = j.places;
@@ -94,7 +96,7 @@ fn export(j: Judgement, creds: [u8; CRED_ROWS], aces: [u8; 1152], length: usize)
         permission: j.permission,
         start: start_of(length),
         length: length,
-        reply: j.length,
+        reply: j.reply,
         first: places.first,
         many: places.many,
         set: links.set,
@@ -117,15 +119,15 @@ fn export(j: Judgement, creds: [u8; CRED_ROWS], aces: [u8; 1152], length: usize)
 #[no_mangle]
 pub extern "C" fn tillerclover_judge(
     t: Tables,
-    memory: &mut [u8; 6504],
+    memory: &mut [u8; MEMORY],
     creds: &[u8],
     aces: &[u8],
     clock: u32,
     record: &[u8],
     reply: &mut [u8],
 ) -> Outcome
-    ensures said { λ r. ⌜ r ≡ exported (judged (defaults (now (creds .entry)) (now (aces .entry))) (terminal t (now (memory .entry))) (asked clock (now («record» .entry)) (length (now (reply .entry))))) ⌝ }
-    ensures left { λ _. ⌜ Leaves (judged (defaults (now (creds .entry)) (now (aces .entry))) (terminal t (now (memory .entry))) (asked clock (now («record» .entry)) (length (now (reply .entry))))) (now (reply .entry)) (now (memory .exit)) (now (reply .exit)) ⌝ }
+    ensures said { λ r. ⌜ r ≡ exported (judged (defaults (now (creds .entry)) (now (aces .entry))) (terminal t (now (memory .entry))) (received clock (now («record» .entry)) (length (now (reply .entry))))) ⌝ }
+    ensures left { λ _. ⌜ Leaves (judged (defaults (now (creds .entry)) (now (aces .entry))) (terminal t (now (memory .entry))) (received clock (now («record» .entry)) (length (now (reply .entry))))) (now (reply .entry)) (now (memory .exit)) (now (reply .exit)) ⌝ }
 {
     let mut cred_rows = t.creds;
     let mut ace_rows = t.aces;
@@ -140,18 +142,22 @@ pub extern "C" fn tillerclover_judge(
         record,
         reply,
     );
-    let length = outcome::payload(record, j.answer).len();
+    let length = payload::payload(record, j.answer).len();
     export(j, cred_rows, ace_rows, length)
 }
 
 // Hands a record in.
 // Rules out: a payload, or a permission, of a record that is only kept; a byte of the memory changed on a refusal.
 #[no_mangle]
-pub extern "C" fn tillerclover_hand_in(t: Tables, memory: &mut [u8; 6504], record: &[u8]) -> Outcome
+pub extern "C" fn tillerclover_hand_in(
+    t: Tables,
+    memory: &mut [u8; MEMORY],
+    record: &[u8],
+) -> Outcome
     ensures said { λ r. ⌜ r ≡ exported (handedIn (terminal t (now (memory .entry))) (now («record» .entry))) ⌝ }
     ensures memory { λ _. ⌜ now (memory .exit) ≡ handedIn (terminal t (now (memory .entry))) (now («record» .entry)) .terminal .memory ⌝ }
 {
-    let j = intake::hand_in(t.head(), &t.creds, &t.aces, memory, record);
+    let j = queue_intake::hand_in(t.head(), &t.creds, &t.aces, memory, record);
     export(j, t.creds, t.aces, 0)
 }
 
@@ -160,7 +166,7 @@ pub extern "C" fn tillerclover_hand_in(t: Tables, memory: &mut [u8; 6504], recor
 #[no_mangle]
 pub extern "C" fn tillerclover_take(
     t: Tables,
-    memory: &mut [u8; 6504],
+    memory: &mut [u8; MEMORY],
     creds: &[u8],
     aces: &[u8],
     clock: u32,
@@ -184,7 +190,7 @@ pub extern "C" fn tillerclover_take(
     let j = u.judgement;
     let size = u.size;
     let bytes = u.bytes;
-    let length = outcome::payload(&bytes[..size], j.answer).len();
+    let length = payload::payload(&bytes[..size], j.answer).len();
     Turn {
         outcome: export(j, cred_rows, ace_rows, length),
         size: size,
@@ -197,14 +203,14 @@ pub extern "C" fn tillerclover_take(
 #[no_mangle]
 pub extern "C" fn tillerclover_access_list(
     t: Tables,
-    memory: &[u8; 6504],
+    memory: &[u8; MEMORY],
     text: &mut [u8],
 ) -> Listed
     ensures answer { λ r. ⌜ r .answer ≡ numberOf (officeVerdict (terminal t (now (memory .entry))) (length (now (text .entry)))) ⌝ }
     ensures length { λ r. ⌜ r .length ≡ length (officeReply (terminal t (now (memory .entry))) (length (now (text .entry)))) ⌝ }
     ensures buffer { λ _. ⌜ now (text .exit) ≡ filled (now (text .entry)) (officeReply (terminal t (now (memory .entry))) (length (now (text .entry)))) ⌝ }
 {
-    listing::access_list(t, memory, text)
+    office_list::access_list(t, memory, text)
 }
 
 // Tests a list of access rows that the provisioning program writes.
@@ -213,7 +219,7 @@ pub extern "C" fn tillerclover_access_list(
 pub extern "C" fn tillerclover_test_list(rows: &[u8]) -> Tested
     ensures { λ r. ⌜ r ≡ listTested (now (rows .entry)) ⌝ }
 {
-    provisioning::test_list(rows)
+    list_test::test_list(rows)
 }
 
 // An access list of an older terminal as access rows.
@@ -224,5 +230,5 @@ pub extern "C" fn tillerclover_convert_list(file: &[u8], rows: &mut [u8]) -> Con
     ensures length { λ r. ⌜ r .length ≡ length (conversionReply (now (file .entry)) (length (now (rows .entry)))) ⌝ }
     ensures buffer { λ _. ⌜ now (rows .exit) ≡ filled (now (rows .entry)) (conversionReply (now (file .entry)) (length (now (rows .entry)))) ⌝ }
 {
-    conversion::convert(file, rows)
+    list_convert::convert(file, rows)
 }

@@ -1,10 +1,11 @@
 // Judges the records of vectors.bin, which the second model wrote, and compares what comes of each.
 // The file's form stands in model/src/vectors.rs: tables to take, records with their outcome, tables that must be reached, default lists, lists to load, older lists, what waits, hand-ins and takes.
-use conversion::Converted;
 use fields::after;
 use fields::double_word;
 use fields::word;
+use list_convert::Converted;
 use rows::part;
+use rules::ACE_ROWS;
 use rules::CRED_ROWS;
 use rules::Tables;
 use terminal::Outcome;
@@ -261,7 +262,7 @@ fn reached(p: Progress, bytes: &[u8]) -> Progress {
 fn tested(p: Progress, s: &[u8]) -> Progress {
     let length = word(s) as usize;
     let expected = after(after(s, 2), length);
-    let found = provisioning::test_list(part(s, 2, length));
+    let found = list_test::test_list(part(s, 2, length));
     let mut next = p;
     next.tested = more(p.tested);
     if (found.answer == byte_at(expected, 0)) & (found.row == byte_at(expected, 1) as usize) {
@@ -291,7 +292,7 @@ fn converted(p: Progress, s: &[u8]) -> Progress {
 // Converts an older list with the first `room` bytes of the buffer, or all where it has fewer.
 fn convert_within(file: &[u8], buffer: &mut [u8], room: usize) -> Converted {
     let n = smaller(room, buffer.len());
-    conversion::convert(file, &mut buffer[..n])
+    list_convert::convert(file, &mut buffer[..n])
 }
 
 // Goes on with the memory that begins with the bytes behind their length.
@@ -503,7 +504,7 @@ fn tables_of(bytes: &[u8]) -> Tables {
     let mut devowner = [0u8; 16];
     let mut rowners = [0u8; 64];
     let mut creds = [0u8; CRED_ROWS];
-    let mut aces = [0u8; 1152];
+    let mut aces = [0u8; ACE_ROWS];
     fill(&mut devowner, after(bytes, 4));
     fill(&mut rowners, after(bytes, 20));
     fill(&mut creds, part(bytes, 86, n));

@@ -1,17 +1,15 @@
 -- `decide`: the header, the sender, and what is left to check.
-use mathlib.Core.Path.{_≡_, refl, sym, ap, _∙_}
-use denote.Ref.{now}
+use Rattle.rows.proofs.Prelude.{_≡_, refl, ap, _∙_, now, needs}
 use Rattle.rules.specs.declared.Tables.{Tables}
 use Rattle.rules.specs.declared.Check.{Check}
 use Rattle.rules.specs.declared.Check.the-variants.{Pass}
 use Rattle.rules.specs.Directory.{resourceOf}
-use Rattle.rules.specs.Record.{Request, asked}
+use Rattle.rules.specs.Record.{Request, received}
 use Rattle.rules.specs.Tables.{tablesOf}
 use Rattle.rules.specs.Checks.{verdict, headerChecks, senderChecks}
-use Rattle.rules.specs.Decision.{grantChecks, decisionChecks, decisionBy, granted, decided}
+use Rattle.rules.specs.Decision.{grantChecks, decisionBy, granted, decided}
 use Rattle.rules.proofs.CheckLaws.{last, stop-all, skip-all}
 use Rattle.decision.proofs.Laws.{turned}
-use borrow.Author.Needs.{needs}
 use Rattle.decision.proofs.decide.Statement.{statement}
 use Rattle.decision.proofs.decide.Tie as tie
 
@@ -22,7 +20,7 @@ abbrev tables : tie.Start → Tables
 tables s = tablesOf (s .args .h) (now (s .args .creds)) (now (s .args .aces))
 
 abbrev request : tie.Start → Request
-request s = asked (s .args .clock) (now (s .args .«record»)) (s .args .room)
+request s = received (s .args .clock) (now (s .args .«record»)) (s .args .room)
 
 -- the row found is the resource's
 check-header-requires : tie.Need-check-header-requires

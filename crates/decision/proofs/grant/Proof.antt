@@ -1,15 +1,10 @@
 -- `grant`: the two groups of checks are the list, and a record that passes them has the definition's permission, action and length.
-use mathlib.Core.Path.{_≡_, sym, ap, _∙_}
-use mathlib.Core.Bool.{Bool}
-use mathlib.Core.List.{List}
-use Prim.Native.Nat.{ℕ}
-use denote.Ref.{now}
-use lib.ListN.{length}
+use Rattle.rows.proofs.Prelude.{_≡_, sym, ap, _∙_, Bool, List, ℕ, length, now, needs}
 use Rattle.rules.specs.declared.Tables.{Tables}
 use Rattle.rules.specs.declared.Check.{Check}
 use Rattle.rules.specs.declared.Check.the-variants.{Pass}
 use Rattle.rules.specs.declared.Action.{Action}
-use Rattle.rules.specs.Record.{Request, asked}
+use Rattle.rules.specs.Record.{Request, received}
 use Rattle.rules.specs.Tables.{tablesOf}
 use Rattle.rules.specs.Permission.{permission}
 use Rattle.rules.specs.Action.{action}
@@ -18,14 +13,13 @@ use Rattle.rules.specs.Checks.{verdict, askedChecks, roomChecks}
 use Rattle.rules.specs.Decision.{grantChecks, decisionBy, granted}
 use Rattle.rules.proofs.CheckLaws.{stop-all, skip-all, last}
 use Rattle.decision.proofs.Laws.{turned}
-use borrow.Author.Needs.{needs}
 use Rattle.decision.proofs.grant.Statement.{statement}
 use Rattle.decision.proofs.grant.Tie as tie
 
 -- a record that passes
 let-through : (t : Tables) (q : Request) (c : Check) (p l : ℕ) (a : Action) → c ≡ Pass → c ≡ verdict (grantChecks t q)
     → p ≡ permission (q .clock) t (q .bytes) → a ≡ action (q .bytes) → l ≡ length (replyOf (q .clock) t (q .bytes))
-    → record { check = c; permission = p; action = a; length = l } ≡ granted t q
+    → record { check = c; permission = p; action = a; reply = l } ≡ granted t q
 unfolding granted
 let-through t q c p l a e v f g h = rw (e, f, g, h) (ap (decisionBy t q) (sym e ∙ v))
 
@@ -39,7 +33,7 @@ abbrev tables : tie.Start → Tables
 tables s = tablesOf (s .args .h) (now (s .args .creds)) (now (s .args .aces))
 
 abbrev request : tie.Start → Request
-request s = asked (s .args .clock) (now (s .args .«record»)) (s .args .room)
+request s = received (s .args .clock) (now (s .args .«record»)) (s .args .room)
 
 abbrev first-checks : tie.Start → List (ℕ × Bool)
 first-checks s = let r = now (s .args .«record») in askedChecks (s .args .clock) (tables s) (permission (s .args .clock) (tables s) r) r (action r)

@@ -1,14 +1,11 @@
 -- `carry_out`: an application record leaves the tables, and so the memory; any other may change both.
-use mathlib.Core.Path.{_≡_, refl, sym, ap, _∙_}
-use denote.Ref.{now}
-use lib.ListN.{length}
+use Rattle.rows.proofs.Prelude.{refl, sym, ap, _∙_, length, now, needs}
 use Rattle.rules.specs.declared.Tables.{Tables}
-use Rattle.rules.specs.Record.{Request, asked}
+use Rattle.rules.specs.Record.{Request, received}
 use Rattle.rules.specs.Tables.{tablesOf}
 use Rattle.rules.specs.Defaults.{Defaults, defaults}
-use Rattle.waiting.specs.Terminal.{isReset}
+use Rattle.rules_waiting.specs.Terminal.{isReset}
 use Rattle.execute.proofs.Laws.{served, same-memory}
-use borrow.Author.Needs.{needs}
 use Rattle.execute.proofs.carry_out.Statement.{statement}
 use Rattle.execute.proofs.carry_out.Tie as tie
 
@@ -19,7 +16,7 @@ abbrev tables : tie.Start → Tables
 tables s = tablesOf (s .args .h) (now (s .args .creds)) (now (s .args .aces))
 
 abbrev request : tie.Start → Request
-request s = asked (s .args .clock) (now (s .args .«record»)) (length (now (s .args .reply)))
+request s = received (s .args .clock) (now (s .args .«record»)) (length (now (s .args .reply)))
 
 abbrev lists : tie.Start → Defaults
 lists s = defaults (now (s .args .default-creds)) (now (s .args .default-aces))

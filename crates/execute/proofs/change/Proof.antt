@@ -1,19 +1,14 @@
 -- `change`: the memory by whether the tables are cleared and credential rows moved.
-use mathlib.Core.Path.{_≡_, refl, sym, ap, _∙_}
-use mathlib.Core.List.{List}
-use Prim.Native.Nat.{ℕ}
-use denote.Ref.{now}
-use lib.ListN.{length}
+use Rattle.rows.proofs.Prelude.{_≡_, sym, ap, _∙_, length, now, needs}
 use Rattle.rules.specs.declared.Tables.{Tables}
-use Rattle.rules.specs.Record.{Request, asked}
+use Rattle.rules.specs.Record.{Request, received}
 use Rattle.rules.specs.Tables.{tablesOf}
 use Rattle.rules.specs.Defaults.{Defaults, defaults}
 use Rattle.rules.specs.Outcome.{Said, tablesAfter}
 use Rattle.rows.specs.Rows.{without}
-use Rattle.waiting.specs.Slots.{Round, roundOf, waiting, memoryOf}
-use Rattle.waiting.specs.Round.{seats, gone, heldRound}
+use Rattle.rules_waiting.specs.Slots.{Round, waiting, memoryOf}
+use Rattle.rules_waiting.specs.Round.{seats, gone, heldRound}
 use Rattle.execute.proofs.Laws.{cleared-memory, same-memory, moved-memory}
-use borrow.Author.Needs.{needs}
 use Rattle.execute.proofs.change.Statement.{statement}
 use Rattle.execute.proofs.change.Tie as tie
 
@@ -35,7 +30,7 @@ abbrev tables : tie.Start → Tables
 tables s = tablesOf (s .args .h) (now (s .args .creds)) (now (s .args .aces))
 
 abbrev request : tie.Start → Request
-request s = asked (s .args .clock) (now (s .args .«record»)) (length (now (s .args .reply)))
+request s = received (s .args .clock) (now (s .args .«record»)) (length (now (s .args .reply)))
 
 abbrev lists : tie.Start → Defaults
 lists s = defaults (now (s .args .default-creds)) (now (s .args .default-aces))

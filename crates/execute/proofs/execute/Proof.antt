@@ -1,14 +1,11 @@
 -- `execute`: the record passed every check, so what is said and the tables are the outcome's.
-use mathlib.Core.Path.{_≡_, refl, sym, ap, _∙_}
-use denote.Ref.{now}
-use lib.ListN.{length}
+use Rattle.rows.proofs.Prelude.{refl, length, now, needs}
 use Rattle.text.proofs.Buffers.{puts-length}
 use Rattle.rules.specs.declared.Tables.{Tables}
-use Rattle.rules.specs.Record.{Request, asked}
+use Rattle.rules.specs.Record.{Request, received}
 use Rattle.rules.specs.Tables.{tablesOf}
 use Rattle.rules.specs.Defaults.{Defaults, defaults}
 use Rattle.execute.proofs.Laws.{action-is, length-is, rows-pass, form-passes, says, fills}
-use borrow.Author.Needs.{needs}
 use Rattle.execute.proofs.execute.Statement.{statement}
 use Rattle.execute.proofs.execute.Tie as tie
 
@@ -25,7 +22,7 @@ abbrev tables : tie.Start → Tables
 tables s = tablesOf (s .args .h) (now (s .args .creds)) (now (s .args .aces))
 
 abbrev request : tie.Start → Request
-request s = asked (s .args .clock) (now (s .args .«record»)) (length (now (s .args .reply)))
+request s = received (s .args .clock) (now (s .args .«record»)) (length (now (s .args .reply)))
 
 abbrev lists : tie.Start → Defaults
 lists s = defaults (now (s .args .default-creds)) (now (s .args .default-aces))

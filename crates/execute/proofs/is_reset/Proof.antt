@@ -1,9 +1,7 @@
 -- `is_reset`: by the action; the target is compared as the definition does.
-use mathlib.Core.Path.{_≡_, refl, sym, ap}
-use mathlib.Core.List.{[], _∷_}
-use Rattle.waiting.specs.Terminal.{isReset}
+use Rattle.rows.proofs.Prelude.{refl, sym, ap, [], _∷_, needs}
+use Rattle.rules_waiting.specs.Terminal.{isReset}
 use Rattle.rules.proofs.Others.{not-move}
-use borrow.Author.Needs.{needs}
 use Rattle.execute.proofs.is_reset.Statement.{statement}
 use Rattle.execute.proofs.is_reset.Tie as tie
 

@@ -1,11 +1,6 @@
 -- `after`: past the end there is nothing, else the part is what `drop` leaves.
-use mathlib.Core.Path.{_≡_, sym}
-use Prim.Native.Nat.{_≤_}
-use denote.Ref.{now}
-use native.Mathlib.Omega.{arith}
-use lib.ListN.{length, drop-of-length-le}
+use Rattle.rows.proofs.Prelude.{sym, _≤_, arith, length, drop-of-length-le, now, needs}
 use Rattle.rows.proofs.Laws.{take-rest}
-use borrow.Author.Needs.{needs}
 use Rattle.fields.proofs.after.Statement.{statement}
 use Rattle.fields.proofs.after.Tie as tie
 

@@ -1,14 +1,9 @@
 -- `check_take`: the terminal, then whether a record waits.
-use mathlib.Core.Path.{_≡_, sym, ap, _∙_}
-use Prim.Native.Nat.{ℕ}
-use denote.Ref.{now}
-use lib.Dec.{eqb}
-use borrow.Author.Tests.{not-false}
+use Rattle.rows.proofs.Prelude.{sym, ap, _∙_, ℕ, eqb, now, needs, not-false}
 use Rattle.rules.specs.Tables.{tablesOf}
 use Rattle.rules.specs.Checks.{refuseIf}
 use Rattle.rules.proofs.CheckLaws.{stop, skip, last, not-applied}
 use Rattle.queue.proofs.Queues.{count-is}
-use borrow.Author.Needs.{needs}
 use Rattle.judge.proofs.check_take.Statement.{statement}
 use Rattle.judge.proofs.check_take.Tie as tie
 

@@ -1,23 +1,15 @@
 -- `take`: nothing taken, or the record that is due, its seat left, turned away or carried out.
-use mathlib.Core.Path.{_≡_, refl, sym, ap, ap₂, _∙_}
-use mathlib.Core.Bool.{true, false}
-use mathlib.Core.List.{List}
-use Prim.Native.Nat.{ℕ}
-use denote.Ref.{now}
-use lib.Dec.{eqb}
-use lib.ListN.{length}
+use Rattle.rows.proofs.Prelude.{_≡_, refl, sym, ap, ap₂, _∙_, true, false, List, ℕ, length, eqb, now, needs}
 use Rattle.rows.specs.Rows.{Row, hasKey, without}
-use Rattle.rules.specs.declared.Tables.{Tables}
 use Rattle.rules.specs.Record.{Request}
 use Rattle.rules.specs.Tables.{tablesOf, sound}
 use Rattle.rules.specs.Defaults.{Defaults, defaults}
-use Rattle.waiting.specs.Slots.{Seat, Round, after, roundOf, waiting, memoryOf}
-use Rattle.waiting.specs.Terminal.{Terminal, terminal, soundTerminal, memoryAfter, turn}
-use Rattle.waiting.proofs.Sound.{terminal-parts}
+use Rattle.rules_waiting.specs.Slots.{Seat, Round, after, roundOf, waiting, memoryOf}
+use Rattle.rules_waiting.specs.Terminal.{Terminal, terminal, soundTerminal, memoryAfter, turn}
+use Rattle.rules_waiting.proofs.Sound.{terminal-parts}
 use Rattle.queue.specs.Queue.{IsQueue}
 use Rattle.judge.proofs.Laws.{turned-buffer, turned-memory, turned-said}
 use Rattle.judge.proofs.TakeLaws.{seat-is, can-leave, left-queue, left-round, left-waiting, ready, nothing-taken, handed, one-taken}
-use borrow.Author.Needs.{needs}
 use Rattle.judge.proofs.take.Statement.{statement}
 use Rattle.judge.proofs.take.Tie as tie
 

@@ -1,5 +1,4 @@
 -- `roles_give`: by the same test as the definition.
-use borrow.Author.Needs.{needs}
 use Rattle.rules.specs.Permission.{byRoles}
 use Rattle.permission.proofs.roles_give.Statement.{statement}
 use Rattle.permission.proofs.roles_give.Tie as tie

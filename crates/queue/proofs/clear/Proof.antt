@@ -1,9 +1,5 @@
 -- `clear`: each byte.
-use mathlib.Core.Path.{_≡_, ap, _∙_}
-use Prim.Native.Nat.{ℕ}
-use denote.Ref.{now}
-use lib.ListN.{length, replicate}
-use borrow.Author.Needs.{needs}
+use Rattle.rows.proofs.Prelude.{_≡_, ap, _∙_, ℕ, length, replicate, now, needs}
 use Rattle.queue.proofs.clear.Statement.{statement}
 use Rattle.queue.proofs.clear.Tie as tie
 

@@ -1,15 +1,9 @@
 -- `drop_gone`: the first i slots stay, and of the others those whose seat is held.
-use mathlib.Core.Path.{_≡_, sym, ap, _∙_}
-use mathlib.Core.Bool.{not}
-use Prim.Native.Nat.{_-_, _*_}
-use native.Mathlib.Omega.{arith}
-use lib.ListN.{length, drop, length-drop}
-use lib.Seq.{length-take-le}
-use borrow.Author.Needs.{needs}
+use Rattle.rows.proofs.Prelude.{ap, _∙_, not, _-_, _*_, arith, length, drop, length-drop, length-take-le, needs}
 use Rattle.rows.proofs.Laws.{row-within}
-use Rattle.waiting.specs.Round.{seatsIn, gone}
+use Rattle.rules_waiting.specs.Round.{seatsIn, gone}
 use Rattle.queue.proofs.Laws.{seat-gone}
-use Rattle.changes.proofs.Going.{Going, begin, stay, gone as went, end}
+use Rattle.rows_change.proofs.Going.{Going, begin, stay, gone as went, end}
 use Rattle.queue.proofs.drop_gone.Statement.{statement}
 use Rattle.queue.proofs.drop_gone.Tie as tie
 

@@ -1,11 +1,7 @@
 -- `keep`: the slot stored, and the count.
-use mathlib.Core.Path.{_≡_, ap, _∙_}
-use native.Mathlib.Omega.{arith}
-use denote.Ref.{now}
-use lib.ListN.{length}
-use Rattle.waiting.proofs.SlotLaws.{slot-long}
+use Rattle.rows.proofs.Prelude.{ap, _∙_, arith, length, now, needs}
+use Rattle.rules_waiting.proofs.SlotLaws.{slot-long}
 use Rattle.queue.proofs.Laws.{slots-table, room, rows-few, kept-is}
-use borrow.Author.Needs.{needs}
 use Rattle.queue.proofs.keep.Statement.{statement}
 use Rattle.queue.proofs.keep.Tie as tie
 

@@ -1,13 +1,8 @@
 -- `leave`: the slots, then the head.
-use mathlib.Core.Path.{_≡_, ap, _∙_}
-use mathlib.Core.List.{List}
-use native.Mathlib.Omega.{arith}
-use denote.Ref.{now}
-use lib.ListN.{length, getD}
+use Rattle.rows.proofs.Prelude.{ap, _∙_, List, arith, getD, now, needs}
 use Rattle.rows.specs.Rows.{Row, rowsOf, without, hasKey}
-use Rattle.waiting.specs.Slots.{after, memoryOf}
+use Rattle.rules_waiting.specs.Slots.{after, memoryOf}
 use Rattle.queue.proofs.Laws.{slotsOf, slots-table, slots-rows, between-long, changed, few-left, round-bytes}
-use borrow.Author.Needs.{needs}
 use Rattle.queue.proofs.leave.Statement.{statement}
 use Rattle.queue.proofs.leave.Tie as tie
 

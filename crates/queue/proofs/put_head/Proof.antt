@@ -1,8 +1,6 @@
 -- `put_head`: four bytes.
-use denote.Ref.{now}
-use lib.ListN.{getD}
+use Rattle.rows.proofs.Prelude.{getD, now, needs}
 use Rattle.queue.proofs.Laws.{head-set, second-in, third-in}
-use borrow.Author.Needs.{needs}
 use Rattle.queue.proofs.put_head.Statement.{statement}
 use Rattle.queue.proofs.put_head.Tie as tie
 

@@ -1,12 +1,7 @@
 -- `record_in`: as many bytes as the slot's head says.
-use mathlib.Core.Path.{_≡_, ap, _∙_}
-use mathlib.Core.List.{List}
-use Prim.Native.Nat.{ℕ}
-use denote.Ref.{now}
-use lib.ListN.{take, drop}
-use borrow.Author.Needs.{needs}
+use Rattle.rows.proofs.Prelude.{ap, _∙_, List, ℕ, take, drop, now, needs}
 use Rattle.rules.specs.Bits.{bits}
-use Rattle.waiting.specs.Slots.{recordOf}
+use Rattle.rules_waiting.specs.Slots.{recordOf}
 use Rattle.queue.proofs.record_in.Statement.{statement}
 use Rattle.queue.proofs.record_in.Tie as tie
 

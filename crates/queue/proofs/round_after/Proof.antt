@@ -1,11 +1,8 @@
 -- `round_after`: it was held, and is held still.
-use mathlib.Core.List.{List}
-use denote.Ref.{now}
-use Rattle.waiting.specs.Slots.{Seat}
-use Rattle.waiting.specs.Round.{seatsIn}
-use borrow.Author.Tests.{not-true, not-false}
+use Rattle.rows.proofs.Prelude.{List, now, needs, not-false, not-true}
+use Rattle.rules_waiting.specs.Slots.{Seat}
+use Rattle.rules_waiting.specs.Round.{seatsIn}
 use Rattle.queue.proofs.Laws.{not-before, not-now, stays}
-use borrow.Author.Needs.{needs}
 use Rattle.queue.proofs.round_after.Statement.{statement}
 use Rattle.queue.proofs.round_after.Tie as tie
 

@@ -1,10 +1,7 @@
 -- `round_held`: it begins anew, or its seat is looked for.
-use mathlib.Core.Path.{_≡_, sym, ap, _∙_}
-use denote.Ref.{now}
-use lib.ListN.{length}
-use Rattle.waiting.specs.Round.{seatsIn, held}
+use Rattle.rows.proofs.Prelude.{ap, _∙_, length, now, needs}
+use Rattle.rules_waiting.specs.Round.{seatsIn, held}
 use Rattle.queue.proofs.Laws.{seat-two, round-anew, round-seat}
-use borrow.Author.Needs.{needs}
 use Rattle.queue.proofs.round_held.Statement.{statement}
 use Rattle.queue.proofs.round_held.Tie as tie
 

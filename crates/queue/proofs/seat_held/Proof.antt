@@ -1,9 +1,7 @@
 -- `seat_held`: nobody's seat, or a row's.
-use mathlib.Core.Path.{_≡_, sym, ap, _∙_}
+use Rattle.rows.proofs.Prelude.{sym, ap, _∙_, now, needs}
 use Rattle.rows.proofs.Laws.{isAt}
 use Rattle.queue.proofs.Laws.{seat-zero, seat-found}
-use denote.Ref.{now}
-use borrow.Author.Needs.{needs}
 use Rattle.queue.proofs.seat_held.Statement.{statement}
 use Rattle.queue.proofs.seat_held.Tie as tie
 

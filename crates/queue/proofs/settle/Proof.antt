@@ -1,15 +1,9 @@
 -- `settle`: the slots, then the head.
-use mathlib.Core.Path.{_≡_, ap, _∙_}
-use mathlib.Core.Bool.{cond}
-use mathlib.Core.List.{List}
-use native.Mathlib.Omega.{arith}
-use denote.Ref.{now}
-use lib.ListN.{length, getD}
+use Rattle.rows.proofs.Prelude.{ap, _∙_, cond, List, arith, getD, now, needs}
 use Rattle.rows.specs.Rows.{Row, rowsOf, without}
-use Rattle.waiting.specs.Slots.{anew, roundOf, memoryOf}
-use Rattle.waiting.specs.Round.{seatsIn, gone, heldRound}
+use Rattle.rules_waiting.specs.Slots.{anew, roundOf, memoryOf}
+use Rattle.rules_waiting.specs.Round.{seatsIn, gone, heldRound}
 use Rattle.queue.proofs.Laws.{slotsOf, slots-table, slots-rows, between-long, changed, few-left}
-use borrow.Author.Needs.{needs}
 use Rattle.queue.proofs.settle.Statement.{statement}
 use Rattle.queue.proofs.settle.Tie as tie
 

@@ -1,8 +1,6 @@
 -- `take_out`: in the part that is used; the zeros behind it stay.
-use mathlib.Core.Path.{_≡_, sym}
-use denote.Ref.{now}
+use Rattle.rows.proofs.Prelude.{sym, now, needs}
 use Rattle.queue.proofs.Laws.{used-long, used-rows, used-table, used-packed}
-use borrow.Author.Needs.{needs}
 use Rattle.queue.proofs.take_out.Statement.{statement}
 use Rattle.queue.proofs.take_out.Tie as tie
 

@@ -1,8 +1,5 @@
 -- `bodies_length`: the rows are whole, so each has a body of full length.
-use mathlib.Core.Path.{sym}
-use native.Mathlib.Omega.{arith}
-use denote.Ref.{now}
-use borrow.Author.Needs.{needs}
+use Rattle.rows.proofs.Prelude.{sym, arith, now, needs}
 use Rattle.reading.proofs.RowBytes.{bodies-length}
 use Rattle.reading.proofs.bodies_length.Statement.{statement}
 use Rattle.reading.proofs.bodies_length.Tie as tie

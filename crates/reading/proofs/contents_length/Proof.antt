@@ -1,12 +1,7 @@
 -- `contents_length`: the lengths of the three parts.
-use mathlib.Core.Path.{_≡_, ap}
-use Prim.Native.Nat.{_≤_}
-use native.Mathlib.Omega.{arith}
-use lib.ListN.{length, length-append, length-take}
-use denote.Ref.{now}
+use Rattle.rows.proofs.Prelude.{ap, _≤_, arith, length, length-append, length-take, now, needs}
 use Rattle.rules.specs.Tables.{rowOwner}
 use Rattle.rules.specs.Reading.{contents}
-use borrow.Author.Needs.{needs}
 use Rattle.reading.proofs.contents_length.Statement.{statement}
 use Rattle.reading.proofs.contents_length.Tie as tie
 

@@ -1,9 +1,5 @@
 -- `own_length`: each arm by the number that it was reached by.
-use mathlib.Core.Path.{_≡_}
-use native.Mathlib.Omega.{arith}
-use lib.ListN.{length}
-use borrow.Author.Needs.{needs}
-use borrow.Author.Tests.{ne-eqb}
+use Rattle.rows.proofs.Prelude.{_≡_, arith, length, needs, ne-eqb}
 use Rattle.rules.specs.Reading.{ownBody}
 use Rattle.reading.proofs.own_length.Statement.{statement}
 use Rattle.reading.proofs.own_length.Tie as tie

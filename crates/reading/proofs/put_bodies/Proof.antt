@@ -1,11 +1,8 @@
 -- `put_bodies`: the bodies of the rows that are left are still to be put.
-use Prim.Native.Nat.{_*_, _≤_}
-use native.Mathlib.Omega.{arith}
-use lib.ListN.{length, length-drop}
+use Rattle.rows.proofs.Prelude.{_*_, _≤_, arith, length, length-drop, needs}
 use Rattle.text.proofs.Buffers.{Writing, writing-start, writing-step, writing-end, writing-length}
 use Rattle.rows.proofs.Laws.{a-row, take-rest}
 use Rattle.reading.proofs.RowBytes.{bodies, bodies-take, bodies-end}
-use borrow.Author.Needs.{needs}
 use Rattle.reading.proofs.put_bodies.Statement.{statement}
 use Rattle.reading.proofs.put_bodies.Tie as tie
 

@@ -1,16 +1,10 @@
 -- `put_reply`: a list without a length is empty, and one with a length is that of a record that is read.
-use mathlib.Core.Path.{_≡_, refl, sym, _∙_}
-use mathlib.Core.List.{List, [], _∷_}
-use native.Mathlib.Omega.{arith}
-use Prim.Native.Nat.{ℕ}
-use denote.Ref.{now}
-use lib.ListN.{length}
+use Rattle.rows.proofs.Prelude.{_≡_, refl, sym, _∙_, List, [], _∷_, ℕ, arith, length, now, needs}
 use Rattle.rules.specs.declared.Tables.{Tables}
 use Rattle.rules.specs.Record.{resource, sender}
 use Rattle.rules.specs.Tables.{tablesOf}
 use Rattle.rules.specs.Reading.{contents, reads, replyOf}
 use Rattle.rules.proofs.Bools.{cond-cases}
-use borrow.Author.Needs.{needs}
 use Rattle.reading.proofs.put_reply.Statement.{statement}
 use Rattle.reading.proofs.put_reply.Tie as tie
 

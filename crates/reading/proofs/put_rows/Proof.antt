@@ -1,13 +1,7 @@
 -- `put_rows`: the bodies of credential rows, the first bytes of the access rows, or the roles in force.
-use Prim.Native.Nat.{_≤_}
-use mathlib.Core.Path.{_≡_}
-use native.Mathlib.Omega.{arith}
-use denote.Ref.{now}
-use lib.ListN.{length}
-use borrow.Author.Tests.{ne-eqb}
+use Rattle.rows.proofs.Prelude.{_≡_, arith, length, now, needs, ne-eqb}
 use Rattle.reading.proofs.RowBytes.{row-part, bodies-held}
 use Rattle.rules.specs.Reading.{rowBytes}
-use borrow.Author.Needs.{needs}
 use Rattle.reading.proofs.put_rows.Statement.{statement}
 use Rattle.reading.proofs.put_rows.Tie as tie
 

@@ -1,5 +1,5 @@
 -- `reply_length`: by the verb and the resource.
-use mathlib.Core.Path.{_≡_, sym, _∙_}
+use mathlib.Core.Path.{sym, _∙_}
 use Rattle.rules.specs.Reading.{replyOf}
 use borrow.Author.Needs.{needs}
 use Rattle.reading.proofs.reply_length.Statement.{statement}

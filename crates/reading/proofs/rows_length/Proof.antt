@@ -1,13 +1,7 @@
 -- `rows_length`: of the rows that there is room for the bodies, or the first bytes of the table, or the roles in force.
-use Prim.Native.Nat.{_≤_}
-use mathlib.Core.Path.{_≡_, ap, _∙_}
-use native.Mathlib.Omega.{arith}
-use denote.Ref.{now}
-use lib.ListN.{length, length-take}
-use borrow.Author.Tests.{ne-eqb}
+use Rattle.rows.proofs.Prelude.{_≡_, ap, _∙_, _≤_, arith, length, length-take, now, needs, ne-eqb}
 use Rattle.reading.proofs.RowBytes.{row-part, bodies-held}
 use Rattle.rules.specs.Reading.{rowBytes}
-use borrow.Author.Needs.{needs}
 use Rattle.reading.proofs.rows_length.Statement.{statement}
 use Rattle.reading.proofs.rows_length.Tie as tie
 

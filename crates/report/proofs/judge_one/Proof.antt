@@ -1,19 +1,17 @@
 -- `judge_one`: beside fresh memory a record gets its outcome.
-use mathlib.Core.Path.{_≡_, ap, ap₂, _∙_}
-use denote.Ref.{now}
+use Rattle.rows.proofs.Prelude.{_≡_, ap, ap₂, _∙_, now, needs}
 use Rattle.rules.specs.declared.Tables.{Tables}
 use Rattle.rules.specs.Record.{Request}
 use Rattle.rules.specs.Defaults.{noDefaults}
-use Rattle.rules.specs.Outcome.{Reply}
-use Rattle.waiting.specs.Slots.{freshMemory}
-use Rattle.waiting.specs.Terminal.{terminal, judged}
-use Rattle.waiting.proofs.Direct.{fresh-whole, as-outcome}
+use Rattle.rules.specs.Outcome.{Told}
+use Rattle.rules_waiting.specs.Slots.{freshMemory}
+use Rattle.rules_waiting.specs.Terminal.{terminal, judged}
+use Rattle.rules_waiting.proofs.Direct.{fresh-whole, as-outcome}
 use Rattle.terminal.specs.declared.Outcome.{Outcome}
 use Rattle.terminal.specs.Interface.{exported}
 use Rattle.report.specs.declared.Judged.{Judged}
 use Rattle.report.specs.Run.{lent}
 use Rattle.report.specs.Judged.{judgedAs}
-use borrow.Author.Needs.{needs}
 use Rattle.report.proofs.judge_one.Statement.{statement}
 use Rattle.report.proofs.judge_one.Tie as tie
 
@@ -24,7 +22,7 @@ told o = record { answer = o .answer; permission = o .permission; tables = o .ta
 as-judged : (t : Tables) (q : Request) (o : Outcome) → o ≡ exported (judged noDefaults (terminal t freshMemory) q) → told o ≡ judgedAs t q
 as-judged t q o e =
     let a = as-outcome noDefaults (terminal t freshMemory) q (fresh-whole t) in
-    ap told e ∙ ap₂ (λ (r : Reply) (u : Tables). record { answer = r .answer; permission = r .permission; tables = u }) (a .reply) (a .tables)
+    ap told e ∙ ap₂ (λ (r : Told) (u : Tables). record { answer = r .answer; permission = r .permission; tables = u }) (a .told) (a .tables)
 
 returns : tie.Need-returns
 returns c =

@@ -1,12 +1,6 @@
 -- `put_lines` meets its contract.
 -- Invariant: what is written, and the lines of the rest of the input, are the lines of the input.
-use mathlib.Core.Path.{_≡_}
-use Prim.Native.Nat.{_+_, _<_, _≤_}
-use denote.Ref.{now}
-use native.Mathlib.Nat.{add-sub-cancel-left}
-use native.Mathlib.Omega.{arith}
-use borrow.Author.Needs.{needs}
-use lib.ListN.{length}
+use Rattle.rows.proofs.Prelude.{_≡_, _+_, _≤_, _<_, add-sub-cancel-left, arith, length, now, needs}
 use Rattle.rows.proofs.Laws.{take-rest}
 use Rattle.rules.proofs.BitLaws.{field-below}
 use Rattle.text.specs.Buffer.{largest}

@@ -1,8 +1,6 @@
 -- `run_text` meets its contract.
 -- The header and then the lines, and as much of them as the buffer holds.
-use native.Mathlib.Omega.{arith}
-use denote.Ref.{now}
-use borrow.Author.Needs.{needs}
+use Rattle.rows.proofs.Prelude.{arith, now, needs}
 use Rattle.text.specs.Text.{ascii}
 use Rattle.text.specs.Buffer.{Puts}
 use Rattle.report.specs.Run.{header}

@@ -1,10 +1,6 @@
 -- `place_length`: the place, or nothing.
-use native.Mathlib.Omega.{arith}
-use mathlib.Core.Path.{sym, ap, _∙_}
-use lib.ListN.{length}
-use borrow.Author.Tests.{not-true, not-false}
+use Rattle.rows.proofs.Prelude.{sym, ap, _∙_, arith, length, needs, not-false, not-true}
 use Rattle.roles.proofs.PlaceBytes.{one-in-force, one-free}
-use borrow.Author.Needs.{needs}
 use Rattle.roles.proofs.place_length.Statement.{statement}
 use Rattle.roles.proofs.place_length.Tie as tie
 

@@ -1,9 +1,7 @@
 -- `put_last`: another role and the new one, or the new one.
-use native.Mathlib.Omega.{arith}
-use mathlib.Core.Path.{sym, _∙_}
+use Rattle.rows.proofs.Prelude.{sym, _∙_, arith, needs}
 use Rattle.text.proofs.Buffers.{puts-then}
 use Rattle.roles.proofs.PlaceBytes.{last-other, last-new}
-use borrow.Author.Needs.{needs}
 use Rattle.roles.proofs.put_last.Statement.{statement}
 use Rattle.roles.proofs.put_last.Tie as tie
 

@@ -1,8 +1,6 @@
 -- `put_place`: the role, or nothing.
-use mathlib.Core.Path.{sym, _∙_}
-use borrow.Author.Tests.{not-true, not-false}
+use Rattle.rows.proofs.Prelude.{sym, _∙_, needs, not-false, not-true}
 use Rattle.roles.proofs.PlaceBytes.{one-in-force, one-free}
-use borrow.Author.Needs.{needs}
 use Rattle.roles.proofs.put_place.Statement.{statement}
 use Rattle.roles.proofs.put_place.Tie as tie
 

@@ -1,14 +1,8 @@
 -- `put_with`: the first place, then the second.
-use native.Mathlib.Omega.{arith}
-use mathlib.Core.Path.{sym, _∙_}
-use Prim.Native.Nat.{_≤_}
-use lib.ListN.{length}
-use denote.Ref.{now}
-use borrow.Author.Tests.{not-true, not-false}
+use Rattle.rows.proofs.Prelude.{sym, _∙_, _≤_, arith, length, now, needs, not-false, not-true}
 use Rattle.text.specs.Buffer.{largest}
 use Rattle.text.proofs.Buffers.{puts-then}
 use Rattle.roles.proofs.PlaceBytes.{with-free, with-same, with-other}
-use borrow.Author.Needs.{needs}
 use Rattle.roles.proofs.put_with.Statement.{statement}
 use Rattle.roles.proofs.put_with.Tie as tie
 

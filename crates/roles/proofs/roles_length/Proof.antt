@@ -1,11 +1,6 @@
 -- `roles_length`: the two places together.
-use native.Mathlib.Omega.{arith}
-use mathlib.Core.Path.{_≡_, sym, ap, _∙_}
-use Prim.Native.Nat.{_≤_}
-use denote.Ref.{now}
-use lib.ListN.{length, length-append, length-take}
+use Rattle.rows.proofs.Prelude.{_≤_, arith, length, length-append, length-take, now, needs}
 use Rattle.roles.proofs.PlaceBytes.{joined-both}
-use borrow.Author.Needs.{needs}
 use Rattle.roles.proofs.roles_length.Statement.{statement}
 use Rattle.roles.proofs.roles_length.Tie as tie
 

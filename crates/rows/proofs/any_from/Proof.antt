@@ -1,13 +1,6 @@
 -- `rows::any_from`. The loop's invariant: the bytes from `from` on are 0 where what was united and the bytes from `i` on are.
 -- Assumes nothing.
-use mathlib.Core.Path.{_≡_, refl, sym, _∙_}
-use mathlib.Core.Bool.{_&&_, and-true}
-use mathlib.Core.List.{List}
-use Prim.Native.Nat.{ℕ, _+_, _-_, _<_}
-use borrow.Author.Needs.{needs}
-use lib.Bits.{bitOr}
-use lib.Dec.{eqb}
-use lib.ListN.{length, drop, getD}
+use Rattle.rows.proofs.Prelude.{_≡_, refl, sym, _∙_, _&&_, and-true, List, ℕ, _+_, _-_, _<_, length, drop, getD, eqb, bitOr, needs}
 use Rattle.rows.specs.Rows.{allZero}
 use Rattle.rows.proofs.Zeros.{zero-more, zeros-from, zeros-past}
 use Rattle.rows.proofs.any_from.Statement.{statement}

@@ -1,14 +1,6 @@
 -- `rows::any_of_four`. The loop's invariant: the four parts are 0 where what was united and their bytes from `i` on are.
 -- Assumes nothing.
-use mathlib.Core.Path.{_≡_, refl, sym, _∙_}
-use mathlib.Core.Bool.{Bool, _&&_, and-true}
-use mathlib.Core.List.{List}
-use Prim.Native.Nat.{ℕ, _+_, _-_, _<_, _≤_}
-use native.Mathlib.Omega.{arith}
-use borrow.Author.Needs.{needs}
-use lib.Bits.{bitOr}
-use lib.Dec.{eqb}
-use lib.ListN.{length, drop, getD}
+use Rattle.rows.proofs.Prelude.{_≡_, refl, sym, _∙_, Bool, _&&_, and-true, List, ℕ, _+_, _-_, _≤_, _<_, arith, length, drop, getD, eqb, bitOr, needs}
 use Rattle.rows.specs.Rows.{allZero}
 use Rattle.rows.proofs.Zeros.{zero-more, zero-beside, zeros-from, zeros-past}
 use Rattle.rows.proofs.any_of_four.Statement.{statement}
@@ -25,7 +17,8 @@ abbrev μ-loop : tie.MeasureT-loop
 μ-loop a b c d any₀ i₀ any i = length a - i
 
 module _ (a b c d : List ℕ) (same : (length b ≡ length a) × (length c ≡ length a) × (length d ≡ length a)) (any i : ℕ) where
-  turn : i < length a → (eqb any 0 && four a b c d i) ≡ (eqb (bitOr any (bitOr (bitOr (getD a i 0) (getD b i 0)) (bitOr (getD c i 0) (getD d i 0)))) 0 && four a b c d (i + 1))
+  turn : i < length a
+      → (eqb any 0 && four a b c d i) ≡ (eqb (bitOr any (bitOr (bitOr (getD a i 0) (getD b i 0)) (bitOr (getD c i 0) (getD d i 0)))) 0 && four a b c d (i + 1))
   turn h =
       rw (
         zeros-from a i h,

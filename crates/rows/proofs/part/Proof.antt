@@ -1,12 +1,7 @@
 -- `part`: as many bytes as there are.
-use mathlib.Core.Path.{_≡_, sym, _∙_}
-use mathlib.Core.List.{List, []}
-use Prim.Native.Nat.{ℕ, _+_, _-_, _≤_}
-use native.Mathlib.Nat.{add-sub-cancel-left, le-of-eq, le-trans}
-use lib.ListN.{length, take, drop, length-drop, drop-of-length-le}
-use lib.Seq.{take-all}
-use denote.Ref.{now}
-use borrow.Author.Needs.{needs}
+use Rattle.rows.proofs.Prelude.{_≡_, sym, _∙_, List, [], ℕ, _-_, _≤_, add-sub-cancel-left, le-trans, length, take, drop, drop-of-length-le, length-drop}
+use Rattle.rows.proofs.Prelude.{take-all, now, needs}
+use native.Mathlib.Nat.{le-of-eq}
 use Rattle.rows.proofs.part.Statement.{statement}
 use Rattle.rows.proofs.part.Tie as tie
 

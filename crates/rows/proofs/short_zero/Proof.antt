@@ -1,14 +1,6 @@
 -- `rows::short_zero`: the first eight bytes, eight more, and the rest.
 -- Assumes nothing.
-use mathlib.Core.Path.{_≡_, sym, ap, _∙_}
-use mathlib.Core.Bool.{Bool, _&&_}
-use mathlib.Core.List.{List}
-use Prim.Native.Nat.{ℕ}
-use borrow.Author.Needs.{needs}
-use borrow.Author.Tests.{not-true, not-false}
-use lib.Dec.{eqb}
-use lib.ListN.{take, drop}
-use denote.Ref.{now}
+use Rattle.rows.proofs.Prelude.{_≡_, sym, ap, _∙_, Bool, _&&_, List, ℕ, take, drop, eqb, now, needs, not-false, not-true}
 use Rattle.rows.specs.Rows.{allZero}
 use Rattle.rows.proofs.Zeros.{zeros-part}
 use Rattle.rows.proofs.short_zero.Statement.{statement}
@@ -20,7 +12,8 @@ in-runs b = zeros-part 8 0 b ∙ ap (λ (t : Bool). allZero (take 8 b) && t) (ze
 first : (c : tie.After-any-from) → eqb (c .any-from .result) 0 ≡ allZero (take 8 (now (c .before .before .before .args .bytes)))
 first c = c .any-from .ensures ∙ ap allZero (c .before .part .ensures)
 
-second : (c : tie.After-any-from2) → eqb (c .any-from2 .result) 0 ≡ allZero (take 8 (drop 8 (now (c .before .before .before .before .before .before .args .bytes))))
+second : (c : tie.After-any-from2)
+    → eqb (c .any-from2 .result) 0 ≡ allZero (take 8 (drop 8 (now (c .before .before .before .before .before .before .args .bytes))))
 second c = c .any-from2 .ensures ∙ ap allZero (c .before .part2 .ensures)
 
 returns : tie.Need-returns

@@ -1,10 +1,5 @@
 -- `check_credential`: a partner has a row exactly where the bytes that were found are some.
-use mathlib.Core.Path.{_≡_, refl, sym, ap, _∙_}
-use mathlib.Core.Bool.{Bool, true, false, not}
-use mathlib.Core.List.{List}
-use native.Mathlib.Omega.{arith}
-use lib.Dec.{eqb}
-use lib.ListN.{length}
+use Rattle.rows.proofs.Prelude.{_≡_, refl, sym, ap, _∙_, Bool, true, false, not, arith, length, eqb, needs}
 use Rattle.rows.specs.Rows.{Row}
 use Rattle.rules.specs.declared.Tables.{Tables}
 use Rattle.rules.specs.declared.Table.the-variants.{Creds}
@@ -13,7 +8,6 @@ use Rattle.rules.specs.Tables.{rows}
 use Rattle.rules.specs.Permission.{connectionOf}
 use Rattle.rules.specs.Checks.{refuseIf, noRow, noCredential}
 use Rattle.sender.specs.Own.{Own}
-use borrow.Author.Needs.{needs}
 use Rattle.sender.proofs.check_credential.Statement.{statement}
 use Rattle.sender.proofs.check_credential.Tie as tie
 

@@ -1,17 +1,9 @@
 -- `own_row`: a record without a sender has no row, and the row of a partner's number is the one with the record's two bytes.
-use mathlib.Core.Path.{_≡_, refl, sym, ap, _∙_}
-use mathlib.Core.Bool.{Bool, true, false, not, _||_, cond}
-use mathlib.Core.List.{List, [], _∷_}
-use Prim.Native.Nat.{ℕ, _<_, _≤_}
-use lib.Dec.{eqb}
-use lib.ListN.{length, take, drop, getD}
-use native.Mathlib.Omega.{arith}
-use denote.Ref.{now}
-use borrow.Author.Needs.{needs}
-use borrow.Author.Tests.{ne-eqb}
+use Rattle.rows.proofs.Prelude.{_≡_, refl, sym, ap, _∙_, Bool, true, false, not, _||_, cond, List, [], _∷_, ℕ, _≤_, _<_, arith, length, take, drop, getD, now}
+use Rattle.rows.proofs.Prelude.{needs, ne-eqb}
 use Rattle.rows.specs.Rows.{Row, rowsOf, hasKey, firstRow, some}
 use Rattle.rows.proofs.Kept.{AllLong, long-rowsOf}
-use Rattle.rules.specs.Record.{Sender, unauthenticated, partner, credential, sender, connection}
+use Rattle.rules.specs.Record.{Sender, unauthenticated, partner, sender, connection}
 use Rattle.rules.specs.Tables.{rowsIn}
 use Rattle.rules.specs.Permission.{numbered, credentialIn, isRow}
 use Rattle.rules.proofs.RecordLaws.{key-is, sender-short, sender-none, sender-partner}

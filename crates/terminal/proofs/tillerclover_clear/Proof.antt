@@ -1,6 +1,6 @@
 -- `tillerclover_clear`: the memory, and the tables.
 use Rattle.rules.specs.Defaults.{cleared}
-use Rattle.waiting.specs.Terminal.{freshTerminal, clearedTerminal}
+use Rattle.rules_waiting.specs.Terminal.{freshTerminal, clearedTerminal}
 use borrow.Author.Needs.{needs}
 use Rattle.terminal.proofs.tillerclover_clear.Statement.{statement}
 use Rattle.terminal.proofs.tillerclover_clear.Tie as tie

@@ -1,5 +1,5 @@
 -- `tillerclover_fresh`: the memory, and the tables.
-use Rattle.waiting.specs.Terminal.{freshTerminal}
+use Rattle.rules_waiting.specs.Terminal.{freshTerminal}
 use borrow.Author.Needs.{needs}
 use Rattle.terminal.proofs.tillerclover_fresh.Statement.{statement}
 use Rattle.terminal.proofs.tillerclover_fresh.Tie as tie

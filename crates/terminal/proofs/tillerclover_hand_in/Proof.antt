@@ -1,17 +1,13 @@
 -- `tillerclover_hand_in`: no payload.
-use mathlib.Core.Path.{_≡_, refl, ap, _∙_}
-use mathlib.Core.List.{List}
-use Prim.Native.Nat.{ℕ}
-use denote.Ref.{now}
+use Rattle.rows.proofs.Prelude.{_≡_, refl, ap, _∙_, List, ℕ, now, needs}
 use Rattle.rules.specs.declared.Check.{Check}
 use Rattle.rules.specs.declared.Check.the-variants.{Pass, Refuse}
 use Rattle.rules.specs.Checks.{verdict}
 use Rattle.rules.specs.Outcome.{Said}
-use Rattle.waiting.specs.Terminal.{Terminal, terminal, handInChecks, handInOf, handedIn, said}
+use Rattle.rules_waiting.specs.Terminal.{Terminal, terminal, handInChecks, handInOf, handedIn, said}
 use Rattle.terminal.specs.declared.Outcome.{Outcome}
 use Rattle.terminal.specs.Interface.{outcomeIn, exported}
 use Rattle.terminal.proofs.Whole.{hands-whole}
-use borrow.Author.Needs.{needs}
 use Rattle.terminal.proofs.tillerclover_hand_in.Statement.{statement}
 use Rattle.terminal.proofs.tillerclover_hand_in.Tie as tie
 

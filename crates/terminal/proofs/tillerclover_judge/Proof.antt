@@ -1,22 +1,18 @@
 -- `tillerclover_judge`: the payload that goes with the answer is the outcome's.
-use mathlib.Core.Path.{_≡_, ap, ap₂, _∙_}
-use mathlib.Core.List.{List}
-use Prim.Native.Nat.{ℕ}
-use denote.Ref.{now}
-use lib.ListN.{length}
+use Rattle.rows.proofs.Prelude.{_≡_, ap, ap₂, _∙_, List, ℕ, length, now, needs}
 use Rattle.rules.specs.Record.{Request}
 use Rattle.rules.specs.Defaults.{Defaults}
 use Rattle.rules.specs.Outcome.{Said, payloadAt}
-use Rattle.waiting.specs.Terminal.{Terminal, judged, said}
+use Rattle.rules_waiting.specs.Terminal.{Terminal, judged, said}
 use Rattle.terminal.specs.declared.Outcome.{Outcome}
 use Rattle.terminal.specs.Interface.{outcomeIn, exported}
 use Rattle.terminal.proofs.Payload.{judged-payload}
 use Rattle.terminal.proofs.Whole.{judges-whole}
-use borrow.Author.Needs.{needs}
 use Rattle.terminal.proofs.tillerclover_judge.Statement.{statement}
 use Rattle.terminal.proofs.tillerclover_judge.Tie as tie
 
-told : (d : Defaults) (x : Terminal) (q : Request) (s : Said) (p : List ℕ) (o : Outcome) → s ≡ said (judged d x q) → p ≡ payloadAt (s .answer) (q .bytes) → o ≡ outcomeIn s (length p) → o ≡ exported (judged d x q)
+told : (d : Defaults) (x : Terminal) (q : Request) (s : Said) (p : List ℕ) (o : Outcome) → s ≡ said (judged d x q)
+    → p ≡ payloadAt (s .answer) (q .bytes) → o ≡ outcomeIn s (length p) → o ≡ exported (judged d x q)
 told d x q s p o e f g =
     g ∙ ap₂ (λ (k : Said) (r : List ℕ). outcomeIn k (length r)) e (f ∙ ap (λ (k : Said). payloadAt (k .answer) (q .bytes)) e ∙ judged-payload d x q)
 

@@ -1,21 +1,14 @@
 -- `tillerclover_take`: the payload of the record handed out.
-use mathlib.Core.Path.{_≡_, refl, sym, ap, ap₂, _∙_}
-use mathlib.Core.List.{List, _++_}
-use Prim.Native.Nat.{ℕ, _-_, _≤_}
-use native.Mathlib.Omega.{arith}
-use lib.ListN.{length, take, replicate, length-append}
-use lib.Seq.{take-at}
-use denote.Ref.{now}
+use Rattle.rows.proofs.Prelude.{_≡_, refl, sym, ap, ap₂, _∙_, List, ℕ, _-_, _≤_, arith, length, take, replicate, length-append, take-at, now, needs}
 use Rattle.rules.specs.Defaults.{Defaults, defaults}
 use Rattle.rules.specs.Outcome.{payloadAt}
-use Rattle.waiting.specs.Slots.{padded}
-use Rattle.waiting.specs.Terminal.{Terminal, terminal, Answered, taken, HandedOut, handedOut, takenOf}
-use Rattle.waiting.specs.Calls.{Takes}
+use Rattle.rules_waiting.specs.Slots.{padded}
+use Rattle.rules_waiting.specs.Terminal.{Terminal, terminal, Answered, taken, HandedOut, handedOut, takenOf}
+use Rattle.rules_waiting.specs.Calls.{Takes}
 use Rattle.terminal.specs.declared.Outcome.{Outcome}
 use Rattle.terminal.specs.Interface.{outcomeIn, exported, turnOf}
 use Rattle.terminal.proofs.Payload.{taken-payload}
 use Rattle.terminal.proofs.Whole.{takes-whole}
-use borrow.Author.Needs.{needs}
 use Rattle.terminal.proofs.tillerclover_take.Statement.{statement}
 use Rattle.terminal.proofs.tillerclover_take.Tie as tie
 
@@ -44,11 +37,12 @@ module _ (a : Answered) (u : HandedOut) (is : u ≡ handedOut a) where
   prefix-long : u .size ≡ length (take (u .size) (u .bytes))
   prefix-long = ap (λ (v : HandedOut). v .size) is ∙ sym (ap length prefix-is)
 
-told : (d : Defaults) (x : Terminal) (clock room : ℕ) (u : HandedOut) (p : List ℕ) (o : Outcome) → u ≡ handedOut (taken d x clock room) → p ≡ payloadAt (u .judgement .answer) (take (u .size) (u .bytes)) → o ≡ outcomeIn (u .judgement) (length p)
+told : (d : Defaults) (x : Terminal) (clock room : ℕ) (u : HandedOut) (p : List ℕ) (o : Outcome) → u ≡ handedOut (taken d x clock room)
+    → p ≡ payloadAt (u .judgement .answer) (take (u .size) (u .bytes)) → o ≡ outcomeIn (u .judgement) (length p)
     → record { outcome = o; size = u .size; bytes = u .bytes } ≡ turnOf (taken d x clock room)
 told d x clock room u p o e f g =
     let a = taken d x clock room in
-    let payload : p ≡ a .reply .payload = f ∙ ap₂ (λ (v : HandedOut) (r : List ℕ). payloadAt (v .judgement .answer) r) e (prefix-is a u e) ∙ taken-payload d x clock room in
+    let payload : p ≡ a .told .payload = f ∙ ap₂ (λ (v : HandedOut) (r : List ℕ). payloadAt (v .judgement .answer) r) e (prefix-is a u e) ∙ taken-payload d x clock room in
     let out : o ≡ exported a = g ∙ ap₂ (λ (v : HandedOut) (r : List ℕ). outcomeIn (v .judgement) (length r)) e payload in
     ap₂ (λ (v : HandedOut) (z : Outcome). record { outcome = z; size = v .size; bytes = v .bytes }) e out
 

@@ -1,9 +1,6 @@
 -- `fill` is safe and ends.
 -- Invariant: the place is within the buffer, whose length stays. Measure: what is left of it.
-use mathlib.Core.Path.{_≡_, _∙_}
-use Prim.Native.Nat.{_-_, _≤_}
-use borrow.Author.Needs.{needs}
-use lib.ListN.{length, length-set}
+use Rattle.rows.proofs.Prelude.{_≡_, _∙_, _-_, _≤_, length, length-set, needs}
 use Rattle.vectors.proofs.fill.Statement.{statement}
 use Rattle.vectors.proofs.fill.Tie as tie
 

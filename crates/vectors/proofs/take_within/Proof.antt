@@ -1,7 +1,5 @@
 -- `take_within` is safe and ends: the lent part is as long as its room.
-use mathlib.Core.Path.{sym}
-use borrow.Author.Needs.{needs}
-use lib.Seq.{length-take-le}
+use Rattle.rows.proofs.Prelude.{sym, length-take-le, needs}
 use Rattle.vectors.proofs.take_within.Statement.{statement}
 use Rattle.vectors.proofs.take_within.Tie as tie
 

@@ -2,9 +2,6 @@
 use borrow.Author.Needs.{needs}
 use Rattle.fields.proofs.ace.in_set.Statement.{statement}
 use Rattle.fields.proofs.ace.in_set.Tie as tie
-use Rattle.fields.proofs.ace.in_set.Reads as reads
-use Rattle.fields.proofs.ace.in_set.Lts as lts
-use Rattle.fields.proofs.bits.bit_at.Reads as bit-at-reads
 
 add-bit-at : tie.Need-add-bit-at
 add-bit-at c = search needs

@@ -1,7 +1,5 @@
 -- `ace::on_security`: one range of the directory.
-use mathlib.Core.Path.{sym}
-use denote.Ref.{now}
-use borrow.Author.Needs.{needs}
+use Rattle.rows.proofs.Prelude.{sym, now, needs}
 use Rattle.rules.proofs.SetLaws.{set-security}
 use Rattle.fields.proofs.ace.on_security.Statement.{statement}
 use Rattle.fields.proofs.ace.on_security.Tie as tie

@@ -2,9 +2,6 @@
 use borrow.Author.Needs.{needs}
 use Rattle.fields.proofs.ace.plus.Statement.{statement}
 use Rattle.fields.proofs.ace.plus.Tie as tie
-use Rattle.fields.proofs.ace.plus.Reads as reads
-use Rattle.fields.proofs.ace.plus.Lts as lts
-use Rattle.fields.proofs.bits.field.Reads as field-reads
 
 field-requires : tie.Need-field-requires
 field-requires c κs = search needs

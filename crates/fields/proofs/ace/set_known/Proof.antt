@@ -1,15 +1,6 @@
 -- `ace::set_known`: the ranges between and after the known numbers are fields of zeros, and the bytes of such a field are 0 too.
-use mathlib.Core.Path.{_≡_, refl, sym, ap, ap₂, _∙_}
-use mathlib.Core.Bool.{Bool, _&&_}
-use mathlib.Core.List.{List}
-use Prim.Native.Nat.{ℕ, zero, suc, _+_, _*_, _%_, _<_}
+use Rattle.rows.proofs.Prelude.{_≡_, sym, ap, ap₂, _∙_, Bool, _&&_, List, ℕ, zero, suc, _+_, _*_, _%_, _<_, arith, getD, eqb, bitOr, needs, ne-eqb}
 use native.Mathlib.Nat.{zero-add}
-use native.Mathlib.Omega.{arith}
-use borrow.Author.Needs.{needs}
-use borrow.Author.Tests.{ne-eqb}
-use lib.Bits.{bitOr}
-use lib.Dec.{eqb}
-use lib.ListN.{getD}
 use Rattle.rows.proofs.Zeros.{zero-both}
 use Rattle.rules.specs.Bits.{bits}
 use Rattle.rules.specs.Bodies.{setKnown}

@@ -1,7 +1,5 @@
 -- `bits::bit_at`: the definition's quotient and remainder.
-use mathlib.Core.Path.{ap}
-use Prim.Native.Nat.{ℕ, _/_, _%_, _-_, _^_}
-use borrow.Author.Needs.{needs}
+use Rattle.rows.proofs.Prelude.{ap, ℕ, _-_, _/_, _%_, _^_, needs}
 use Rattle.rules.specs.Bits.{bit}
 use Rattle.fields.proofs.bits.bit_at.Statement.{statement}
 use Rattle.fields.proofs.bits.bit_at.Tie as tie

@@ -1,8 +1,5 @@
 -- `bits::byte_at`: past the end 0.
-use mathlib.Core.Path.{sym}
-use denote.Ref.{now}
-use lib.ListN.{List·getD-eq-default}
-use borrow.Author.Needs.{needs}
+use Rattle.rows.proofs.Prelude.{sym, List·getD-eq-default, now, needs}
 use Rattle.fields.proofs.bits.byte_at.Statement.{statement}
 use Rattle.fields.proofs.bits.byte_at.Tie as tie
 

@@ -1,9 +1,5 @@
 -- `bits::double_field`: a field of 32 bits splits into two of 16.
-use mathlib.Core.Path.{_≡_, sym, ap₂, _∙_}
-use mathlib.Core.List.{List}
-use Prim.Native.Nat.{ℕ, _+_, _*_, _<_}
-use native.Mathlib.Omega.{arith}
-use borrow.Author.Needs.{needs}
+use Rattle.rows.proofs.Prelude.{_≡_, sym, ap₂, _∙_, List, ℕ, _+_, _*_, needs}
 use Rattle.rules.specs.Bits.{bits}
 use Rattle.rules.proofs.BitLaws.{bits-split}
 use Rattle.fields.proofs.bits.double_field.Statement.{statement}

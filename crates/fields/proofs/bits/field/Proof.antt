@@ -1,12 +1,6 @@
 -- `bits::field`: a field within three bytes is a quotient and a remainder of their number.
-use mathlib.Core.Path.{_≡_, sym, ap, ap₂, _∙_}
-use mathlib.Core.List.{List}
-use Prim.Native.Nat.{ℕ, _+_, _*_, _-_, _/_, _%_, _^_, _<_, _≤_}
-use native.Mathlib.Nat.{le-trans}
-use native.Mathlib.Omega.{arith}
+use Rattle.rows.proofs.Prelude.{_≡_, sym, ap, ap₂, _∙_, List, ℕ, _+_, _-_, _*_, _/_, _%_, _^_, _≤_, _<_, arith, needs}
 use lib.Pow.{pow-pos}
-use denote.Ref.{now}
-use borrow.Author.Needs.{needs}
 use Rattle.rules.specs.Bits.{bits}
 use Rattle.rules.proofs.BitLaws.{bits-part, bits-below}
 use Rattle.fields.proofs.bits.field.Statement.{statement}

@@ -1,9 +1,6 @@
 -- `bits::power`: 2 ^ 16 is 2 ^ width times what is shifted out.
-use mathlib.Core.Path.{_≡_, sym, ap, _∙_}
-use Prim.Native.Nat.{ℕ, _+_, _*_, _-_, _/_, _^_, _≤_}
-use native.Mathlib.Omega.{arith}
+use Rattle.rows.proofs.Prelude.{_≡_, ap, _∙_, ℕ, _+_, _-_, _/_, _^_, _≤_, arith, needs}
 use lib.Pow.{pow-add, shl-shr}
-use borrow.Author.Needs.{needs}
 use Rattle.fields.proofs.bits.power.Statement.{statement}
 use Rattle.fields.proofs.bits.power.Tie as tie
 

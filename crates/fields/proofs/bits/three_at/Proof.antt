@@ -1,11 +1,5 @@
 -- `bits::three_at`: the field of 24 bits is the number of its three bytes.
-use mathlib.Core.Path.{_≡_, sym, ap, _∙_}
-use Prim.Native.Nat.{ℕ, _+_, _*_, _<_}
-use native.Mathlib.Omega.{arith}
-use lib.ListN.{getD}
-use denote.Ref.{now}
-use mathlib.Core.List.{List}
-use borrow.Author.Needs.{needs}
+use Rattle.rows.proofs.Prelude.{_≡_, List, ℕ, _+_, _*_, _<_, arith, getD, needs}
 use Rattle.rules.specs.Bits.{bits}
 use Rattle.rules.proofs.BitLaws.{bits-three}
 use Rattle.fields.proofs.bits.three_at.Statement.{statement}

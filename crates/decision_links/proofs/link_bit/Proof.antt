@@ -1,0 +1,31 @@
+-- `link_bit`: by the test of the link's own record, whose sender is that of the record that asks.
+use Rattle.rows.proofs.Prelude.{sym, ap, _∙_, Bool, cond, arith, needs}
+use Rattle.decision_links.proofs.OwnForm.{own-passes, own-row}
+use Rattle.decision_links.proofs.link_bit.Statement.{statement}
+use Rattle.decision_links.proofs.link_bit.Tie as tie
+
+-- the link's own record passes the checks 1 to 7
+is-permitted-requires : tie.Need-is-permitted-requires
+is-permitted-requires c κs =
+    let made = c .before in
+    let p = made .before .before .before .pre in
+    rw (made .own-record .ensures) (own-passes _ _ _ (p .0) (p .1) (p .2), own-row _ _ _ _ (p .0) (p .2) (p .3))
+
+returns : tie.Need-returns
+returns c =
+    let call = c .before in
+    let made = call .before .before in
+    (rw (← made .own-record .ensures) (ap (λ (b : Bool). cond b (made .before .before .before .args .bit) 0) (sym (c .if1 .taken) ∙ call .is-permitted .ensures)), omega arith)
+
+returns-2 : tie.Need-returns-2
+returns-2 c =
+    let call = c .before in
+    let made = call .before .before in
+    (rw (← made .own-record .ensures) (ap (λ (b : Bool). cond b (made .before .before .before .args .bit) 0) (sym (c .if1 .left) ∙ call .is-permitted .ensures)), omega arith)
+
+pub link-bit-spec : {M : Type 1} → statement M
+link-bit-spec =
+    tie.close
+    (tie.spec
+    (λ c κs. c .before .before .pre .0) (λ c. search needs) is-permitted-requires returns
+    returns-2)

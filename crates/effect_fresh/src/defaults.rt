@@ -1,0 +1,141 @@
+// Fresh tables with the build's default rows: two lists of bytes, each with at most two rows in the form of their longest bodies.
+// A list that is not good counts as none.
+use check_tables::rows_storable;
+use row_format::stride_of;
+use rows::part;
+use rules::ACE_ROW;
+use rules::ACE_ROWS;
+use rules::CRED_BODY;
+use rules::CRED_ROWS;
+use rules::Head;
+use rules::Table;
+use rules::Tables;
+use rules::Uuid;
+use text::put;
+ghost use mathlib.Core.Path.{_≡_};
+ghost use Prim.Native.Nat.{_*_, _≤_};
+ghost use lib.ListN.{length, replicate};
+ghost use Rattle.text.specs.Buffer.{written, Puts};
+ghost use Rattle.rows.specs.Rows.{joined, packed};
+ghost use Rattle.rules.specs.Tables.{tablesOf, stride, longest, capacity, rowFrom};
+ghost use Rattle.rules.specs.Defaults.{defaults, listed, goodList, defaultRows, fresh, cleared};
+
+// Bytes of the longest body that stores a row, in which a list has its rows.
+fn longest_of(table: Table) -> usize
+    ensures { λ r. ⌜ r ≡ longest table ⌝ }
+{
+    match table {
+        Table::Creds => CRED_BODY,
+        Table::Aces => ACE_ROW,
+    }
+}
+
+// What stands behind a body in a row: places without a role.
+const NO_ROLES: [u8; 16] = [0; 16];
+
+// Writes the row that a body of the longest form is.
+fn put_listed_row(table: Table, out: &mut [u8], at: usize, body: &[u8]) -> usize
+    ensures { λ r. ⌜ Puts (now (out .entry)) at (rowFrom table (now (body .entry))) (now (out .exit)) r ⌝ }
+{
+    let p = put(out, at, body);
+    let more = stride_of(table) - longest_of(table);
+    put(out, p, part(&NO_ROLES, 0, more))
+}
+
+// Writes the rows of a list, in the form of the tables.
+fn put_listed(table: Table, out: &mut [u8], list: &[u8]) -> usize
+    ensures { λ r. ⌜ Puts (now (out .entry)) 0 (joined (listed table (now (list .entry)))) (now (out .exit)) r ⌝ }
+{
+    let long = longest_of(table);
+    let mut p = 0;
+    let mut rest = list;
+    let mut left = list.len() / long;
+    while 0 < left {
+        p = put_listed_row(table, out, p, part(rest, 0, long));
+        rest = &rest[long..];
+        left -= 1;
+    }
+    p
+}
+
+// Whether the list, with these rows over a table of zeros, is one that counts.
+fn good_list(table: Table, list: &[u8], rows: &[u8]) -> bool
+    requires { ⌜ now rows ≡ written (replicate (capacity table * stride table) 0) 0 (joined (listed table (now list))) ⌝ }
+    ensures { λ r. ⌜ r ≡ goodList table (now (list .entry)) ⌝ }
+{
+    let long = longest_of(table);
+    let n = list.len() / long;
+    if 2 < n {
+        return false;
+    }
+    (list.len() % long == 0)
+        & rows_storable(table, rows, n)
+        & rows_distinct::distinct(rows, stride_of(table), n)
+}
+
+// Makes the table with the default rows of a list, and says how many they are.
+fn put_defaults(table: Table, out: &mut [u8], list: &[u8]) -> usize
+    requires { ⌜ length (now out) ≡ capacity table * stride table ⌝ }
+    ensures { λ r. ⌜ (r ≡ length (defaultRows table (now (list .entry)))) × (r ≤ 2) ⌝ }
+    ensures { λ _. ⌜ now (out .exit) ≡ packed (capacity table * stride table) (defaultRows table (now (list .entry))) ⌝ }
+{
+    rows_change::clear(out);
+    put_listed(table, out, list);
+    if good_list(table, list, out) {
+        return list.len() / longest_of(table);
+    }
+    rows_change::clear(out);
+    0
+}
+
+// The tables of a new terminal, made in the rows that are lent: whatever stood there is gone.
+// Rules out: a third row taken; a list with a bad row taken by half; a byte of the old rows left.
+pub fn fresh_in(
+    creds: &mut [u8; CRED_ROWS],
+    aces: &mut [u8; ACE_ROWS],
+    default_creds: &[u8],
+    default_aces: &[u8],
+) -> Head
+    ensures { λ r. ⌜ tablesOf r (now (creds .exit)) (now (aces .exit)) ≡ fresh (defaults (now («default_creds» .entry)) (now («default_aces» .entry))) ⌝ }
+{
+    let ncreds = put_defaults(Table::Creds, creds, default_creds);
+    let naces = put_defaults(Table::Aces, aces, default_aces);
+    Head {
+        state: 1,
+        owned: 0,
+        ncreds: ncreds as u8,
+        naces: naces as u8,
+        devowner: Uuid::NIL,
+        rowners: [0; 64],
+    }
+}
+
+// The tables of a new terminal of a build with these lists of default rows.
+// Rules out: the rows of one list in the other's table.
+pub fn fresh(creds: &[u8], aces: &[u8]) -> Tables
+    ensures { λ r. ⌜ r ≡ fresh (defaults (now (creds .entry)) (now (aces .entry))) ⌝ }
+{
+    let mut cred_rows = [0; CRED_ROWS];
+    let mut ace_rows = [0; ACE_ROWS];
+    let h = fresh_in(&mut cred_rows, &mut ace_rows, creds, aces);
+    let devowner = h.devowner;
+    let rowners = h.rowners;
+    Tables {
+        state: h.state,
+        owned: h.owned,
+        ncreds: h.ncreds,
+        naces: h.naces,
+        devowner: devowner,
+        rowners: rowners,
+        creds: cred_rows,
+        aces: ace_rows,
+    }
+}
+
+// The clear button: any tables become the fresh ones, with the build's default rows.
+// Rules out: a button that keeps the rows; one that works on sound tables only.
+pub fn clear(t: Tables, creds: &[u8], aces: &[u8]) -> Tables
+    ensures { λ r. ⌜ r ≡ cleared (defaults (now (creds .entry)) (now (aces .entry))) t ⌝ }
+{
+    fresh(creds, aces)
+}

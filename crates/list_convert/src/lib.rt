@@ -1,0 +1,122 @@
+// An access list of the older terminals as access rows, in a buffer that the caller lends.
+// The whole file is tested and the rows are counted before a byte is written.
+mod row;
+
+use row::is_bad;
+use row::made_count;
+use row::put_made;
+use rows::part;
+ghost use mathlib.Core.Path.{_≡_};
+ghost use Prim.Native.Nat.{_≤_};
+ghost use lib.ListN.{length};
+ghost use Rattle.text.specs.Buffer.{Puts};
+ghost use Rattle.rows.specs.Rows.{some, joined};
+ghost use Rattle.rules.specs.Reading.{filled};
+ghost use Rattle.rules.specs.Checks.{numberOf};
+ghost use Rattle.rules_legacy.specs.OldList.{oldRows, badRow, badFile};
+ghost use Rattle.rules_legacy.specs.Conversion.{rowsMade, conversionVerdict, conversionReply};
+
+// Bytes of an old row.
+const OLD_ROW: usize = 25;
+
+// Bytes of an access row.
+const ACCESS_ROW: usize = 36;
+
+// Access rows that a list holds at most.
+const MOST_ROWS: usize = 32;
+
+// What the caller is told: 0, 23, 24 or 25, and how many bytes were written.
+#[repr(C)]
+pub struct Converted {
+    pub answer: u8,
+    pub length: usize,
+}
+
+// Whether some row is bad.
+fn has_bad_row(file: &[u8]) -> bool
+    ensures { λ r. ⌜ r ≡ some badRow (oldRows (now (file .entry))) ⌝ }
+{
+    let mut rest = file;
+    let mut left = file.len() / OLD_ROW;
+    while 0 < left {
+        if is_bad(part(rest, 0, OLD_ROW)) {
+            return true;
+        }
+        rest = &rest[OLD_ROW..];
+        left -= 1;
+    }
+    false
+}
+
+fn is_bad_file(file: &[u8]) -> bool
+    ensures { λ r. ⌜ r ≡ badFile (now (file .entry)) ⌝ }
+{
+    (file.len() % OLD_ROW != 0) | has_bad_row(file)
+}
+
+// How many rows are made.
+fn count_made(file: &[u8]) -> usize
+    ensures { λ r. ⌜ r ≡ length (rowsMade (now (file .entry))) ⌝ }
+{
+    let mut total = 0usize;
+    let mut rest = file;
+    let mut left = file.len() / OLD_ROW;
+    while 0 < left {
+        total += made_count(part(rest, 0, OLD_ROW)) as usize;
+        rest = &rest[OLD_ROW..];
+        left -= 1;
+    }
+    total
+}
+
+fn put_all(out: &mut [u8], file: &[u8]) -> usize
+    requires { ⌜ length (rowsMade (now file)) ≤ 32 ⌝ }
+    ensures { λ r. ⌜ Puts (now (out .entry)) 0 (joined (rowsMade (now (file .entry)))) (now (out .exit)) r ⌝ }
+{
+    let mut p = 0;
+    let mut number = 1u16;
+    let mut rest = file;
+    let mut left = file.len() / OLD_ROW;
+    while 0 < left {
+        let row = part(rest, 0, OLD_ROW);
+        p = put_made(out, p, number, row);
+        number += made_count(row);
+        rest = &rest[OLD_ROW..];
+        left -= 1;
+    }
+    p
+}
+
+// A file of old rows as access rows: the answer, the length of the rows, and the lent buffer afterwards.
+// Rules out: a byte written on a refusal; 24 for 32 rows, or before 23; 25 where the rows just fit; anon-clear before auth-crypt.
+pub fn convert(file: &[u8], rows: &mut [u8]) -> Converted
+    ensures answer { λ r. ⌜ r .answer ≡ numberOf (conversionVerdict (now (file .entry)) (length (now (rows .entry)))) ⌝ }
+    ensures length { λ r. ⌜ r .length ≡ length (conversionReply (now (file .entry)) (length (now (rows .entry)))) ⌝ }
+    ensures buffer { λ _. ⌜ now (rows .exit) ≡ filled (now (rows .entry)) (conversionReply (now (file .entry)) (length (now (rows .entry)))) ⌝ }
+{
+    let bad = is_bad_file(file);
+    let made = count_made(file);
+    if bad {
+        return Converted {
+            answer: 23,
+            length: 0,
+        };
+    }
+    if MOST_ROWS < made {
+        return Converted {
+            answer: 24,
+            length: 0,
+        };
+    }
+    if rows.len() < made * ACCESS_ROW {
+        return Converted {
+            answer: 25,
+            length: 0,
+        };
+    }
+    let n = put_all(rows, file);
+    Converted {
+        answer: 0,
+        length: n,
+    }
+}

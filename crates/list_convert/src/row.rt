@@ -1,0 +1,104 @@
+// One old row: whether it is bad, how many access rows it becomes, and their bytes.
+// Every function is total: a byte past the row's end is 0, and one past the buffer's end is not written.
+use fields::ace;
+use fields::after;
+use row_format::is_nil;
+use rows::part;
+use text::put;
+ghost use mathlib.Core.Path.{_≡_};
+ghost use mathlib.Core.List.{_++_};
+ghost use Prim.Native.Nat.{_<_};
+ghost use lib.ListN.{length, getD};
+ghost use Rattle.text.specs.Buffer.{Puts};
+ghost use Rattle.rows.specs.Rows.{joined};
+ghost use Rattle.rules.specs.Bits.{word};
+ghost use Rattle.rules_legacy.specs.OldList.{isAnybody, badRow};
+ghost use Rattle.rules_legacy.specs.Conversion.{entry, connectionEntry, entriesOf, numberedFrom};
+
+// Where an old row's permission stands, with the three zero bits behind it.
+const FLAGS_AT: usize = 16;
+
+// Where its set of resources stands.
+const SET_AT: usize = 17;
+
+// Bytes of a subject, which an old row begins with.
+const SUBJECT_BYTES: usize = 16;
+
+// Bytes of a set.
+const SET_BYTES: usize = 8;
+
+// Every second, 0 to 4,294,967,295.
+const EVERY_SECOND: [u8; 8] = [0, 0, 0, 0, 255, 255, 255, 255];
+
+// The byte of the permission and the three zero bits.
+fn flags(row: &[u8]) -> u8
+    ensures { λ r. ⌜ r ≡ getD (now (row .entry)) 16 0 ⌝ }
+{
+    if FLAGS_AT < row.len() {
+        row[FLAGS_AT]
+    } else {
+        0
+    }
+}
+
+// Whether a zero bit is set or an unknown resource is in the set, which stands 13 bytes later than in an access row.
+// Rules out: the last zero bit ignored; a set in which only the last resource is tested.
+pub fn is_bad(row: &[u8]) -> bool
+    ensures { λ r. ⌜ r ≡ badRow (now (row .entry)) ⌝ }
+{
+    (flags(row) % 8 != 0) | !ace::set_known(after(row, 13))
+}
+
+// Whether the row is for "*".
+fn is_anybody(row: &[u8]) -> bool
+    ensures { λ r. ⌜ r ≡ isAnybody (now (row .entry)) ⌝ }
+{
+    is_nil(part(row, 0, SUBJECT_BYTES))
+}
+
+// How many access rows the row becomes.
+// Rules out: one for "*"; two for a UUID.
+pub fn made_count(row: &[u8]) -> u16
+    ensures { λ r. ⌜ r ≡ length (entriesOf (now (row .entry))) ⌝ }
+{
+    if is_anybody(row) { 2 } else { 1 }
+}
+
+// An access row: its number, the subject's kind, the old permission, no wildcards, the old set, the subject, every second.
+fn put_row(out: &mut [u8], at: usize, number: u16, kind: u8, subject: &[u8], row: &[u8]) -> usize
+    requires { ⌜ kind < 4 ⌝ }
+    ensures { λ r. ⌜ Puts (now (out .entry)) at (word number ++ entry kind (now (subject .entry)) (now (row .entry))) (now (out .exit)) r ⌝ }
+{
+    let head = [
+        (number / 256) as u8,
+        (number % 256) as u8,
+        kind * 64 + flags(row) / 8 * 2,
+        0,
+    ];
+    let p = put(out, at, &head);
+    let p = put(out, p, part(row, SET_AT, SET_BYTES));
+    let p = put(out, p, subject);
+    put(out, p, &EVERY_SECOND)
+}
+
+// An access row for a connection.
+fn put_connection(out: &mut [u8], at: usize, number: u16, connection: u8, row: &[u8]) -> usize
+    ensures { λ r. ⌜ Puts (now (out .entry)) at (word number ++ connectionEntry connection (now (row .entry))) (now (out .exit)) r ⌝ }
+{
+    let mut subject = [0u8; SUBJECT_BYTES];
+    subject[15] = connection;
+    put_row(out, at, number, 2, &subject, row)
+}
+
+// The access rows that the row becomes, numbered from `number` on: one for a UUID, and for "*" one for each connection.
+// Rules out: anon-clear before auth-crypt; one number for both.
+pub fn put_made(out: &mut [u8], at: usize, number: u16, row: &[u8]) -> usize
+    requires { ⌜ number < 65535 ⌝ }
+    ensures { λ r. ⌜ Puts (now (out .entry)) at (joined (numberedFrom number (entriesOf (now (row .entry))))) (now (out .exit)) r ⌝ }
+{
+    if is_anybody(row) {
+        let p = put_connection(out, at, number, 1, row);
+        return put_connection(out, p, number + 1, 0, row);
+    }
+    put_row(out, at, number, 0, part(row, 0, SUBJECT_BYTES), row)
+}

@@ -1,0 +1,53 @@
+-- `test_rows`. The loop's invariant: the first `i` rows have no fault, so that what is said of the list is said of the rest behind them.
+use Rattle.rows.proofs.Prelude.{_≡_, sym, ap, _∙_, _-_, _*_, arith, take, drop, eqb, needs}
+use Rattle.rows.specs.Rows.{Row}
+use Rattle.rules.specs.Checks.{verdict}
+use Rattle.list_test.proofs.RowLoop.{codeChecks, RowInv, row-start, row-end, row-bad, row-turn}
+use Rattle.list_test.proofs.test_rows.Statement.{statement}
+use Rattle.list_test.proofs.test_rows.Tie as tie
+
+abbrev Inv-loop : tie.InvT-loop
+Inv-loop rows count repeat i₀ i = RowInv rows count repeat i
+
+abbrev μ-loop : tie.MeasureT-loop
+μ-loop rows count repeat i₀ i = count - i
+
+before-repeat-requires : tie.Need-before-repeat-requires Inv-loop μ-loop
+before-repeat-requires c κs = (omega arith, c .before .pre)
+
+loop-holds : tie.Need-loop-holds Inv-loop μ-loop
+loop-holds c = row-start _ _ _ (c .before-repeat .ensures)
+
+-- what the checks say of row i
+told : (c : tie.After-check-row Inv-loop μ-loop) → let l = c .before .before .before in let s = l .before .before .before in
+    c .check-row .result ≡ verdict (codeChecks (take 36 (drop (l .loop .i * 36) (s .args .rows .now))) (eqb (l .loop .i) (l .before .before-repeat .result)))
+told c =
+    let l = c .before .before .before in
+    c .check-row .ensures ∙ ap (λ (w : Row). verdict (codeChecks w (eqb (l .loop .i) (l .before .before-repeat .result)))) (c .before .part .ensures)
+
+returns : tie.Need-returns Inv-loop μ-loop
+returns c =
+    let check = c .before .before .before in
+    let turn = check .before .before in
+    row-bad _ _ _ _ (turn .before .loop .inv) (turn .loop-test .taken) _ (sym (told check) ∙ c .before .n .given .1)
+
+loop-again : tie.Need-loop-again Inv-loop μ-loop
+loop-again c =
+    let check = c .before .before in
+    let turn = check .before .before in
+    row-turn _ _ _ _ (turn .before .loop .inv) (turn .loop-test .taken) (sym (told check) ∙ c .enum-told .given .1)
+
+returns-2 : tie.Need-returns-2 Inv-loop μ-loop
+returns-2 c = row-end _ _ _ _ (c .before .loop .inv) (c .loop-test .left)
+
+pub test-rows-spec : {M : Type 1} → statement M
+test-rows-spec =
+    tie.close
+    (tie.spec
+    Inv-loop
+    μ-loop
+    before-repeat-requires
+    loop-holds
+    (λ c. search needs) (λ c κs. search needs) (λ c κs. search needs) (λ c. search needs) (λ c. search needs) returns
+    (λ c. search needs) (λ c. search needs) (λ c. search needs) loop-again
+    returns-2)

@@ -1,0 +1,139 @@
+// The office text of one access control entry, put into a lent buffer at a position.
+// Every public function is total: a byte past the buffer's end is not written, and the position goes on.
+use fields::ace;
+use fields::word;
+use office_resources::put_resources;
+use text::put;
+use text::put_byte;
+use text::put_decimal;
+ghost use mathlib.Core.Path.{_≡_};
+ghost use mathlib.Core.List.{_++_};
+ghost use Prim.Native.Nat.{_<_};
+ghost use Rattle.text.specs.Text.{ascii, decimal};
+ghost use Rattle.text.specs.Buffer.{Puts};
+ghost use Rattle.rules_office.specs.Office.{hexDigit, dashed, dash, hexByte, uuidText, uuidSubject, roleSubject, connectionSubject, subjectText, resourcesText, rowText};
+
+fn hex_digit(d: u8) -> u8
+    requires { ⌜ d < 16 ⌝ }
+    ensures { λ r. ⌜ r ≡ hexDigit d ⌝ }
+{
+    if d < 10 {
+        return 48 + d;
+    }
+    87 + d
+}
+
+fn is_dashed(i: usize) -> bool
+    ensures { λ r. ⌜ r ≡ dashed i ⌝ }
+{
+    match i {
+        4 => true,
+        6 => true,
+        8 => true,
+        10 => true,
+        _ => false,
+    }
+}
+
+fn put_dash(out: &mut [u8], at: usize, i: usize) -> usize
+    ensures { λ r. ⌜ Puts (now (out .entry)) at (dash i) (now (out .exit)) r ⌝ }
+{
+    if is_dashed(i) {
+        return put(out, at, b"-");
+    }
+    put(out, at, b"")
+}
+
+// Byte i of a UUID: a dash before some, and two digits.
+fn put_hex(out: &mut [u8], at: usize, i: usize, b: u8) -> usize
+    ensures { λ r. ⌜ Puts (now (out .entry)) at (hexByte i b) (now (out .exit)) r ⌝ }
+{
+    let p = put_dash(out, at, i);
+    let p = put_byte(out, p, hex_digit(b / 16));
+    put_byte(out, p, hex_digit(b % 16))
+}
+
+fn put_uuid(out: &mut [u8], at: usize, u: &[u8]) -> usize
+    ensures { λ r. ⌜ Puts (now (out .entry)) at (uuidText (now (u .entry))) (now (out .exit)) r ⌝ }
+{
+    let mut p = at;
+    let mut i = 0;
+    while i < u.len() {
+        p = put_hex(out, p, i, u[i]);
+        i += 1;
+    }
+    p
+}
+
+fn put_uuid_subject(out: &mut [u8], at: usize, row: &[u8]) -> usize
+    ensures { λ r. ⌜ Puts (now (out .entry)) at (uuidSubject (now (row .entry))) (now (out .exit)) r ⌝ }
+{
+    let p = put(out, at, b"{\"uuid\":\"");
+    let p = put_uuid(out, p, ace::subject(row));
+    put(out, p, b"\"}")
+}
+
+// A key and a number.
+fn put_number(out: &mut [u8], at: usize, key: &[u8], n: u16) -> usize
+    ensures { λ r. ⌜ Puts (now (out .entry)) at (now (key .entry) ++ decimal n) (now (out .exit)) r ⌝ }
+{
+    let p = put(out, at, key);
+    put_decimal(out, p, n as usize)
+}
+
+fn put_role_subject(out: &mut [u8], at: usize, row: &[u8]) -> usize
+    ensures { λ r. ⌜ Puts (now (out .entry)) at (roleSubject (now (row .entry))) (now (out .exit)) r ⌝ }
+{
+    let p = put_number(out, at, b"{\"authority\":\"", ace::authority(row));
+    let p = put_number(out, p, b"\",\"role\":\"", ace::role(row));
+    put(out, p, b"\"}")
+}
+
+fn put_connection_subject(out: &mut [u8], at: usize, row: &[u8]) -> usize
+    ensures { λ r. ⌜ Puts (now (out .entry)) at (connectionSubject (now (row .entry))) (now (out .exit)) r ⌝ }
+{
+    if ace::connection(row) == 1 {
+        return put(out, at, b"{\"conntype\":\"auth-crypt\"}");
+    }
+    put(out, at, b"{\"conntype\":\"anon-clear\"}")
+}
+
+fn put_subject(out: &mut [u8], at: usize, row: &[u8]) -> usize
+    ensures { λ r. ⌜ Puts (now (out .entry)) at (subjectText (now (row .entry))) (now (out .exit)) r ⌝ }
+{
+    let kind = ace::kind(row);
+    match kind {
+        0 => put_uuid_subject(out, at, row),
+        1 => put_role_subject(out, at, row),
+        2 => put_connection_subject(out, at, row),
+        _ => put(out, at, b""),
+    }
+}
+
+// A key and the subject.
+fn put_keyed_subject(out: &mut [u8], at: usize, row: &[u8]) -> usize
+    ensures { λ r. ⌜ Puts (now (out .entry)) at (ascii ",\"subject\":" ++ subjectText (now (row .entry))) (now (out .exit)) r ⌝ }
+{
+    let p = put(out, at, b",\"subject\":");
+    put_subject(out, p, row)
+}
+
+// A key and the resources.
+fn put_keyed_resources(out: &mut [u8], at: usize, row: &[u8]) -> usize
+    ensures { λ r. ⌜ Puts (now (out .entry)) at (ascii ",\"resources\":[" ++ resourcesText (now (row .entry))) (now (out .exit)) r ⌝ }
+{
+    let p = put(out, at, b",\"resources\":[");
+    put_resources(out, p, row)
+}
+
+// The text of a row.
+// Rules out: a wildcard that is lost; the UUID in upper case; the resources in another order.
+pub fn put_row(out: &mut [u8], at: usize, row: &[u8]) -> usize
+    ensures { λ r. ⌜ Puts (now (out .entry)) at (rowText (now (row .entry))) (now (out .exit)) r ⌝ }
+{
+    let p = put_number(out, at, b"{\"aceid\":", word(row));
+    let p = put_keyed_subject(out, p, row);
+    let p = put_keyed_resources(out, p, row);
+    let p = put_number(out, p, b"],\"permission\":", ace::permission(row));
+    put(out, p, b"}")
+}

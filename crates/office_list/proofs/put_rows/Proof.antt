@@ -1,0 +1,59 @@
+-- `put_rows`: the rows that are left are still to be put.
+use Rattle.rows.proofs.Prelude.{true, _*_, _≤_, arith, length, length-drop, needs}
+use Rattle.text.proofs.Buffers.{Writing, writing-start, writing-step, writing-end, writing-length}
+use Rattle.rows.proofs.Laws.{a-row, take-rest}
+use Rattle.rules_office.specs.Office.{rowsText}
+use Rattle.office_list.proofs.Ends.{entries, entries-take, entries-end}
+use Rattle.office_list.proofs.put_rows.Statement.{statement}
+use Rattle.office_list.proofs.put_rows.Tie as tie
+
+abbrev Inv-loop : tie.InvT-loop
+Inv-loop out₀ at rows count p₀ first₀ rest₀ left₀ out p first rest left = (left * 36 ≤ length rest) × Writing out₀ at (entries true count rows) (entries first left rest) out p
+
+abbrev μ-loop : tie.MeasureT-loop
+μ-loop out₀ at rows count p₀ first₀ rest₀ left₀ out p first rest left = left
+
+loop-holds : tie.Need-loop-holds Inv-loop μ-loop
+loop-holds c = (c .before .before .pre, writing-start _ _ _ (omega arith) (omega arith))
+
+-- a turn has a row
+row-here : (c : tie.In-loop Inv-loop μ-loop) → 36 ≤ length (c .before .loop .rest .now)
+row-here c = a-row 36 _ (c .before .loop .rest .now) (c .loop-test .taken) (c .before .loop .inv .0)
+
+sub-rest : tie.Need-sub-rest Inv-loop μ-loop
+sub-rest c = row-here (c .before .before .before .before .before .before)
+
+part-rest-start : tie.Need-part-rest-start Inv-loop μ-loop
+part-rest-start c = row-here (c .before .before .before .before .before .before)
+
+loop-again : tie.Need-loop-again Inv-loop μ-loop
+loop-again c =
+    let told = c .before in
+    let put = told .before .before .before in
+    let row = put .before .before in
+    let turn = row .before in
+    let l = turn .before .loop in
+    let e = row .part .ensures in (
+      simp (take-rest, length-drop) (omega (arith, l .inv .0, turn .loop-test .taken)),
+      rw (told .is-seasonal .ensures, e) (writing-step _ _ (l .inv .1) (entries-take (l .first) (l .left) (l .rest .now) (turn .loop-test .taken)) (rw e at (put .put-entry .ensures))),
+    )
+
+same-length : tie.Need-same-length Inv-loop μ-loop
+same-length c = writing-length (c .before .loop .inv .1)
+
+returns : tie.Need-returns Inv-loop μ-loop
+unfolding rowsText
+returns c = writing-end (c .before .loop .inv .1) (entries-end (c .before .loop .first) (c .before .loop .left) _ (c .loop-test .left))
+
+pub put-rows-spec : {M : Type 1} → statement M
+put-rows-spec =
+    tie.close
+    (tie.spec
+    Inv-loop
+    μ-loop
+    loop-holds
+    (λ c κs. search needs) (λ c κs. search needs) (λ c κs. search needs) sub-rest
+    part-rest-start
+    (λ c. search needs) (λ c. search needs) (λ c. search needs) loop-again
+    same-length
+    returns)

@@ -1,0 +1,104 @@
+// The tables' access list as office text, in a buffer that the caller lends.
+// The same walk measures, on an empty buffer, and writes: too short is decided before a byte is written.
+use check_waiting::terminal_sound;
+use fields::ace;
+use fields::held;
+use office_entry::put_row;
+use office_resources::put_comma;
+use rows::part;
+use rules::ACE_ROW;
+use rules::ACES;
+use rules::Tables;
+use rules_waiting::MEMORY;
+use text::put;
+ghost use mathlib.Core.Path.{_≡_};
+ghost use mathlib.Core.Bool.{cond};
+ghost use mathlib.Core.List.{[], _++_};
+ghost use Prim.Native.Nat.{_*_, _≤_};
+ghost use lib.ListN.{length};
+ghost use Rattle.text.specs.Buffer.{Puts};
+ghost use Rattle.rows.specs.Rows.{rowsOf};
+ghost use Rattle.rules.specs.Reading.{filled};
+ghost use Rattle.rules.specs.Checks.{numberOf};
+ghost use Rattle.rules_waiting.specs.Terminal.{terminal};
+ghost use Rattle.rules_office.specs.Office.{comma, rowText, rowsText, seasonal, rowsWritten, officeText, officeVerdict, officeReply};
+
+// What the office is told: 0, 17 or 18, and how many bytes were written.
+#[repr(C)]
+pub struct Listed {
+    pub answer: u8,
+    pub length: usize,
+}
+
+// Whether a row holds for a shorter period than every second.
+fn is_seasonal(row: &[u8]) -> bool
+    ensures { λ r. ⌜ r ≡ seasonal (now (row .entry)) ⌝ }
+{
+    !((ace::first(row) == 0) & (ace::last(row) == 4294967295))
+}
+
+// A row after its comma, or nothing where the row is left out.
+fn put_entry(out: &mut [u8], at: usize, first: bool, row: &[u8]) -> usize
+    ensures { λ r. ⌜ Puts (now (out .entry)) at (cond (seasonal (now (row .entry))) [] (comma first ++ rowText (now (row .entry)))) (now (out .exit)) r ⌝ }
+{
+    if is_seasonal(row) {
+        return put(out, at, b"");
+    }
+    let p = put_comma(out, at, first);
+    put_row(out, p, row)
+}
+
+fn put_rows(out: &mut [u8], at: usize, rows: &[u8], count: usize) -> usize
+    requires { ⌜ count * 36 ≤ length (now rows) ⌝ }
+    ensures { λ r. ⌜ Puts (now (out .entry)) at (rowsText (rowsWritten (rowsOf 36 count (now (rows .entry))))) (now (out .exit)) r ⌝ }
+{
+    let mut p = at;
+    let mut first = true;
+    let mut rest = rows;
+    let mut left = count;
+    while 0 < left {
+        let row = part(rest, 0, ACE_ROW);
+        p = put_entry(out, p, first, row);
+        first = is_seasonal(row) & first;
+        rest = &rest[ACE_ROW..];
+        left -= 1;
+    }
+    p
+}
+
+fn put_list(out: &mut [u8], t: Tables) -> usize
+    ensures { λ r. ⌜ Puts (now (out .entry)) 0 (officeText t) (now (out .exit)) r ⌝ }
+{
+    let p = put(out, 0, b"{\"aclist2\":[");
+    let count = held(t.naces, ACES);
+    let p = put_rows(out, p, &t.aces, count);
+    put(out, p, b"]}")
+}
+
+// The tables' access list as office text: the answer, the length of the text, and the lent buffer afterwards.
+// Rules out: a byte written on 18; 18 where the text fits exactly; the text of tables that are not sound, be it only in what waits; a row of a shorter period in the text.
+pub fn access_list(t: Tables, memory: &[u8; MEMORY], out: &mut [u8]) -> Listed
+    ensures answer { λ r. ⌜ r .answer ≡ numberOf (officeVerdict (terminal t (now (memory .entry))) (length (now (out .entry)))) ⌝ }
+    ensures length { λ r. ⌜ r .length ≡ length (officeReply (terminal t (now (memory .entry))) (length (now (out .entry)))) ⌝ }
+    ensures buffer { λ _. ⌜ now (out .exit) ≡ filled (now (out .entry)) (officeReply (terminal t (now (memory .entry))) (length (now (out .entry)))) ⌝ }
+{
+    if !terminal_sound(t.head(), &t.creds, &t.aces, memory) {
+        return Listed {
+            answer: 17,
+            length: 0,
+        };
+    }
+    let mut none = [0u8; 0];
+    let n = put_list(&mut none, t);
+    if out.len() < n {
+        return Listed {
+            answer: 18,
+            length: 0,
+        };
+    }
+    let n = put_list(out, t);
+    Listed {
+        answer: 0,
+        length: n,
+    }
+}

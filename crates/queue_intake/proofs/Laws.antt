@@ -1,0 +1,56 @@
+-- Laws of hand-in, as the code does it.
+use Rattle.rows.proofs.Prelude.{_≡_, sym, ap, _∙_, List, ℕ, _-_, _≤_, _<_, min-eq-left, arith, length, take, drop, getD, not-false}
+use Rattle.rows.specs.declared.Found.{Found}
+use Rattle.rows.specs.Rows.{rowsOf, hasKey}
+use Rattle.rows.specs.Contracts.{placeOf}
+use Rattle.rows.proofs.Laws.{some-place, isAt, take-rest}
+use Rattle.rules.specs.declared.Tables.{Tables}
+use Rattle.rules.specs.declared.Check.{Check}
+use Rattle.rules.specs.declared.Check.the-variants.{Pass}
+use Rattle.rules.specs.declared.Head.{Head}
+use Rattle.rules.specs.declared.Judgement.{Judgement}
+use Rattle.rules.specs.Checks.{senderChecks, verdict, numberOf}
+use Rattle.rules.specs.Tables.{tablesOf}
+use Rattle.rules.specs.Outcome.{refusal, saidOf}
+use Rattle.rules.proofs.Answers.{passed, long-enough}
+use Rattle.rules.proofs.RecordLaws.{key-is}
+use Rattle.rules_waiting.specs.Slots.{seatOf, waiting}
+use Rattle.rules_waiting.specs.Round.{occupied}
+use Rattle.rules_waiting.specs.Terminal.{terminal, handInChecks, handInOf, handedIn, said}
+use Rattle.rules_waiting.specs.Calls.{HandsIn}
+use Rattle.rules_waiting.proofs.SlotLaws.{short-record}
+use Rattle.rules_waiting.proofs.Sound.{hand-passed, hand-room}
+use Rattle.queue.specs.Queue.{IsQueue}
+use Rattle.queue.proofs.Queues.{sound-queue, count-is}
+
+-- ---- check 26
+
+pub free-is : (m r : List ℕ) (at : Found) → getD m 0 0 ≤ 25 → 4 ≤ length r → getD r 2 0 < 256 → getD r 3 0 < 256
+    → at ≡ placeOf (hasKey 0 (take 2 (drop 2 r))) (rowsOf 260 (getD m 0 0) (take (length m - 4) (drop 4 m)))
+    → occupied (waiting m) (seatOf r) ≡ isAt at
+unfolding occupied waiting seatOf
+free-is m r at few l a b e = rw (min-eq-left few, key-is r 2 l a b) (some-place 0 _ _ ∙ sym (ap isAt (rw (take-rest 4 m) at e)))
+
+-- ---- a record is kept
+
+module _ (t : Tables) (m r : List ℕ) (e : verdict (handInChecks (terminal t m) r) ≡ Pass) where
+  pub can-keep : IsQueue m × (getD m 0 0 < 25) × (4 ≤ length r) × (length r ≤ 256)
+  can-keep =
+      let h = not-false _ (passed (handInChecks (terminal t m) r) e 1) in
+      let p = hand-passed (terminal t m) r e in
+      (sound-queue t m h, omega (arith, hand-room (terminal t m) r e, count-is t m h), long-enough r (passed (senderChecks t r) p 2), short-record t r p)
+
+-- ---- the answer, and the memory
+
+-- the answer alone is said, of a refusal and of a record that is kept
+pub answered : (f : Head) (cs es m r : List ℕ) (c v : Check) → c ≡ verdict (handInChecks (terminal (tablesOf f cs es) m) r) → c ≡ v
+    → (j : Judgement) (m′ : List ℕ) → j ≡ refusal f (numberOf c) → m′ ≡ handInOf (terminal (tablesOf f cs es) m) r v .terminal .memory
+    → saidOf (refusal f (numberOf v)) cs es ≡ said (handInOf (terminal (tablesOf f cs es) m) r v)
+    → HandsIn (terminal (tablesOf f cs es) m) r (saidOf j cs es) m′
+unfolding handedIn
+answered f cs es m r c v told e j m′ i g s =
+    let x = terminal (tablesOf f cs es) m in
+    record {
+      says = ap (λ (k : Judgement). saidOf k cs es) (i ∙ ap (λ (k : Check). refusal f (numberOf k)) e) ∙ s ∙ ap (λ (k : Check). said (handInOf x r k)) (sym e ∙ told);
+      keeps = g ∙ ap (λ (k : Check). handInOf x r k .terminal .memory) (sym e ∙ told);
+    }

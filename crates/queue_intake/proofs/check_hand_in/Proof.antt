@@ -1,0 +1,76 @@
+-- `check_hand_in`: the groups in their order.
+use Rattle.rows.proofs.Prelude.{sym, _∙_, now, needs, not-false}
+use Rattle.rules.specs.declared.Tables.{Tables}
+use Rattle.rules.specs.Tables.{tablesOf}
+use Rattle.rules.specs.Checks.{senderChecks}
+use Rattle.rules.proofs.Answers.{passed, long-enough}
+use Rattle.rules.proofs.CheckLaws.{stop, skip, last, stop-all, skip-all, not-applied}
+use Rattle.queue.proofs.Queues.{sound-queue}
+use Rattle.queue_intake.proofs.check_hand_in.Statement.{statement}
+use Rattle.queue_intake.proofs.check_hand_in.Tie as tie
+
+-- the tables, lent in parts
+abbrev tables : tie.Start → Tables
+tables s = tablesOf (s .args .h) (now (s .args .creds)) (now (s .args .aces))
+
+abbrev start : tie.After-enum-told → tie.Start
+start p = p .before .before .before .before
+
+check-terminal-requires : tie.Need-check-terminal-requires
+check-terminal-requires c κs = search needs
+
+enum-told : tie.Need-enum-told
+enum-told c = search needs
+
+enum-told-2 : tie.Need-enum-told-2
+enum-told-2 c = search needs
+
+returns : tie.Need-returns
+returns c = stop _ _ _ _ (c .before .before .check-terminal .ensures) (c .enum-told2 .given .1)
+
+check-sender-requires : tie.Need-check-sender-requires
+check-sender-requires c κs = search needs
+
+enum-told-3 : tie.Need-enum-told-3
+enum-told-3 c = search needs
+
+enum-told-4 : tie.Need-enum-told-4
+enum-told-4 c = search needs
+
+returns-2 : tie.Need-returns-2
+returns-2 c =
+    let p = c .before .before .before in
+    let s = start p in
+    skip _ _ _ (p .before .before .check-terminal .ensures) (p .enum-told .given .1)
+    (stop-all (senderChecks (tables s) (now (s .args .«record»))) _ _ (c .before .before .check-sender .ensures) (c .enum-told4 .given .1))
+
+check-free-requires : tie.Need-check-free-requires
+check-free-requires c κs =
+    let told = c .before in
+    let p = told .before .before .before in
+    let s = start p in
+    let q = sound-queue (tables s) (now (s .args .memory)) (not-false _ (not-applied _ _ (p .before .before .check-terminal .ensures) (p .enum-told .given .1))) in
+    (q .long, q .few, long-enough _ (passed (senderChecks (tables s) (now (s .args .«record»))) (sym (told .before .before .check-sender .ensures) ∙ told .enum-told3 .given .1) 2))
+
+returns-3 : tie.Need-returns-3
+returns-3 c =
+    let q = c .before .before in
+    let p = q .before .before .before in
+    let s = start p in
+    skip _ _ _ (p .before .before .check-terminal .ensures) (p .enum-told .given .1)
+    (skip-all (senderChecks (tables s) (now (s .args .«record»))) _ (q .before .before .check-sender .ensures) (q .enum-told3 .given .1) (last _ _ (c .check-free .ensures)))
+
+pub check-hand-in-spec : {M : Type 1} → statement M
+check-hand-in-spec =
+    tie.close
+    (tie.spec
+    check-terminal-requires
+    enum-told
+    enum-told-2
+    returns
+    check-sender-requires
+    enum-told-3
+    enum-told-4
+    returns-2
+    check-free-requires
+    returns-3)

@@ -1,0 +1,65 @@
+-- `due_slot`: the slot of the seat that is first in turn.
+use Rattle.rows.proofs.Prelude.{_≡_, arith, length, now, needs}
+use native.Mathlib.Nat.{min-le-right}
+use Rattle.rules.specs.declared.Tables.{Tables}
+use Rattle.rules.specs.Tables.{tablesOf}
+use Rattle.queue_turn.proofs.DueLaws.{six, slots-room, due-found, due-none}
+use Rattle.queue_turn.proofs.due_slot.Statement.{statement}
+use Rattle.queue_turn.proofs.due_slot.Tie as tie
+
+-- the tables, lent in parts
+abbrev tables : tie.Start → Tables
+tables s = tablesOf (s .args .h) (now (s .args .creds)) (now (s .args .aces))
+
+shared-slice-read-count : tie.Need-shared-slice-read-count
+shared-slice-read-count c = let s = c .before .before in omega (arith, six (tables s) (now (s .args .m)) (s .pre .0))
+
+cast-count : tie.Need-cast-count
+cast-count c = search (needs, c .shared-slice-known2 .given 0)
+
+held-requires : tie.Need-held-requires
+held-requires c κs = search needs
+
+sub-next-slot : tie.Need-sub-next-slot
+sub-next-slot c = let s = c .before .before .before .before in omega (arith, six (tables s) (now (s .args .m)) (s .pre .0))
+
+part-next-slot-start : tie.Need-part-next-slot-start
+part-next-slot-start c = let s = c .before .before .before .before in omega (arith, six (tables s) (now (s .args .m)) (s .pre .0))
+
+part-next-slot-end : tie.Need-part-next-slot-end
+part-next-slot-end c = search needs
+
+next-slot-requires : tie.Need-next-slot-requires
+next-slot-requires c κs =
+    let h = c .before .before in
+    let s = h .before .before .before in
+    let l : length (now (s .args .creds)) ≡ 936 = search needs in
+    (omega (arith, h .held .ensures, min-le-right (s .args .h .ncreds) 24), omega (arith, six (tables s) (now (s .args .m)) (s .pre .0)), slots-room (tables s) (now (s .args .m)) (s .pre .0))
+
+enum-known-i : tie.Need-enum-known-i
+enum-known-i c = search needs
+
+enum-told : tie.Need-enum-told
+enum-told c = search needs
+
+returns : tie.Need-returns
+returns c = let call = c .before .before in let h = call .before .before .before in let s = h .before .before .before in absurd (due-none (tables s) (now (s .args .m)) (s .pre .0) _ (h .held .ensures) _ (call .next-slot .ensures) (s .pre .1) (c .enum-told .given .1))
+
+returns-2 : tie.Need-returns-2
+returns-2 c = let call = c .before .before .before in let h = call .before .before .before in let s = h .before .before .before in due-found (tables s) (now (s .args .m)) (s .pre .0) _ (h .held .ensures) _ (call .next-slot .ensures) _ (c .before .i .given .1)
+
+pub due-slot-spec : {M : Type 1} → statement M
+due-slot-spec =
+    tie.close
+    (tie.spec
+    shared-slice-read-count
+    cast-count
+    held-requires
+    sub-next-slot
+    part-next-slot-start
+    part-next-slot-end
+    next-slot-requires
+    enum-known-i
+    enum-told
+    returns
+    returns-2)

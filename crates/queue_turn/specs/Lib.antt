@@ -1,0 +1,2 @@
+-- What the contracts of `queue_turn` cite.
+pub mod Turns

@@ -1,0 +1,31 @@
+-- The coming take, as code finds it: the slot of the first seat in turn, and the record there by value.
+use Prim.Native.Nat.{ℕ, suc}
+use mathlib.Core.Bool.{cond}
+use mathlib.Core.List.{List, [], _∷_}
+use lib.ListN.{length}
+use Rattle.rows.specs.declared.Found.{Found}
+use Rattle.rows.specs.declared.Found.the-variants.{At, Nothing}
+use Rattle.rows.specs.Rows.{Row, same, hasKey, rowsBefore}
+use Rattle.rows.specs.Contracts.{placeOf}
+use Rattle.rules_waiting.specs.Slots.{Seat, Round, anew, after, padded}
+use Rattle.rules_waiting.specs.Round.{nobody, held}
+use Rattle.rules_waiting.specs.Terminal.{Terminal, turn, due}
+use Rattle.queue_turn.specs.declared.Due.{Due}
+
+abbrev pub orElse : Found → Found → Found
+orElse (At i) y = At i
+orElse Nothing y = y
+
+-- the slot of the first of these seats in which a record waits
+unfoldable pub slotIn : List Row → List Seat → Found
+slotIn ws [] = Nothing
+slotIn ws (p ∷ ps) = orElse (placeOf (hasKey 0 p) ws) (slotIn ws ps)
+
+-- how many of the credential rows' seats stand before the one that is first in turn, where the unauthenticated seat comes after all of them
+unfoldable pub before : Round → List Seat → ℕ
+before anew ps = length ps
+before (after p) ps = cond (same p nobody) 0 (cond (held ps p) (suc (rowsBefore (same p) ps)) (length ps))
+
+-- the record whose turn it is
+abbrev pub dueOf : Terminal → Due
+dueOf x = record { bytes = padded (due x); size = length (due x); seat = turn x }

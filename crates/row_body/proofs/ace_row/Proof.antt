@@ -1,0 +1,56 @@
+-- `ace_row`: each arm by the length that it was reached by.
+use Rattle.rows.proofs.Prelude.{_≡_, refl, sym, ap, _∙_, List, [], _∷_, _++_, append-assoc, ℕ, arith, length, take, drop, replicate, length-append, drop-at}
+use Rattle.rows.proofs.Prelude.{take-at, now, needs, ne-eqb}
+use Rattle.rows.specs.Rows.{withRow}
+use Rattle.rules.specs.Bodies.{everySecond, aceRowOf}
+use Rattle.rules.proofs.TableLaws.{put-whole}
+use Rattle.row_body.proofs.ace_row.Statement.{statement}
+use Rattle.row_body.proofs.ace_row.Tie as tie
+
+-- the body over zeros, and the latest second over the last four
+opened : (b x y : List ℕ) → length b ≡ 28 → x ≡ withRow 28 0 b (replicate 36 0) → y ≡ withRow 4 8 (replicate 4 255) x → y ≡ b ++ everySecond
+unfolding withRow everySecond
+opened b x y l e f =
+    let front = b ++ (0 ∷ 0 ∷ 0 ∷ 0 ∷ []) in
+    let long : length front ≡ 32 = rw (length-append, l) in
+    let is : x ≡ front ++ (0 ∷ 0 ∷ 0 ∷ 0 ∷ []) = e ∙ sym (append-assoc b (0 ∷ 0 ∷ 0 ∷ 0 ∷ []) (0 ∷ 0 ∷ 0 ∷ 0 ∷ [])) in
+    let over : take 32 (front ++ (0 ∷ 0 ∷ 0 ∷ 0 ∷ [])) ++ (replicate 4 255 ++ drop 4 (drop 32 (front ++ (0 ∷ 0 ∷ 0 ∷ 0 ∷ [])))) ≡ front ++ (255 ∷ 255 ∷ 255 ∷ 255 ∷ []) =
+    rw (take-at front (0 ∷ 0 ∷ 0 ∷ 0 ∷ []) 32 long, drop-at front (0 ∷ 0 ∷ 0 ∷ 0 ∷ []) 32 long) in
+    f ∙ ap (λ (r : List ℕ). take 32 r ++ (replicate 4 255 ++ drop 4 (drop 32 r))) is
+    ∙ over
+    ∙ append-assoc b (0 ∷ 0 ∷ 0 ∷ 0 ∷ []) (255 ∷ 255 ∷ 255 ∷ 255 ∷ [])
+
+put-row-requires : tie.Need-put-row-requires
+put-row-requires c κs = (c .before .match .keys1, omega arith)
+
+put-row-requires-2 : tie.Need-put-row-requires-2
+put-row-requires-2 c κs = (c .before .match .keys2, omega arith)
+
+returns : tie.Need-returns
+unfolding aceRowOf
+returns c =
+    let call = c .before in
+    let at = call .before .before in
+    simp (at .match .keys1) (put-whole 36 (now (at .before .before .args .b)) (replicate 36 0) (call .put-row .last .0) refl (call .put-row .ensures))
+
+returns-2 : tie.Need-returns-2
+unfolding aceRowOf
+returns-2 c =
+    let call = c .before in
+    let body = call .before .before .before .before in
+    let at = body .before .before in
+    simp (at .match .keys2) (opened (now (at .before .before .args .b)) (body .put-row2 .last .0) (call .put-row3 .last .0) (at .match .keys2) (body .put-row2 .ensures) (call .put-row3 .ensures))
+
+returns-3 : tie.Need-returns-3
+unfolding aceRowOf
+returns-3 c = simp (ne-eqb _ 36 (c .match .rest .0 .1), ne-eqb _ 28 (c .match .rest .1))
+
+pub ace-row-spec : {M : Type 1} → statement M
+ace-row-spec =
+    tie.close
+    (tie.spec
+    (λ c. search needs) put-row-requires
+    (λ c. search needs) put-row-requires-2
+    (λ c. search needs) (λ c. search needs) (λ c κs. search needs) returns
+    returns-2
+    returns-3)

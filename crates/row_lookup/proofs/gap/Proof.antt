@@ -1,0 +1,49 @@
+-- `gap`: the place found is the number of rows before the first that goes.
+use Rattle.rows.proofs.Prelude.{_≡_, sym, ap, _∙_, Bool, List, ℕ, _-_, arith, length, now, needs}
+use Rattle.rules.specs.declared.Tables.{Tables}
+use Rattle.rows.specs.declared.Found.the-variants.{At}
+use Rattle.rows.specs.Rows.{Row, hasKey, rowsBefore}
+use Rattle.rows.specs.Contracts.{placeFrom}
+use Rattle.rows.proofs.Laws.{some-place, isAt}
+use Rattle.rows.proofs.Gap.{place-before, before-all}
+use Rattle.rules.specs.Tables.{rows, tablesOf}
+use Rattle.rules.specs.Places.{gapOf}
+use Rattle.row_lookup.proofs.gap.Statement.{statement}
+use Rattle.row_lookup.proofs.gap.Tie as tie
+
+before-is : (goes : Row → Bool) (ws : List Row) (i : ℕ) → placeFrom 0 goes ws ≡ At i → i ≡ rowsBefore goes ws
+before-is goes ws i p = omega (arith, place-before goes 0 i ws p)
+
+gap-is : (goes : Row → Bool) (ws : List Row) (i n : ℕ) → placeFrom 0 goes ws ≡ At i → n ≡ length ws → record { first = i; many = n - i } ≡ gapOf goes ws
+unfolding gapOf
+gap-is goes ws i n p e = rw (some-place 0 goes ws ∙ ap isAt p, before-is goes ws i p, e)
+
+-- the tables, lent in parts
+abbrev tables : tie.Start → Tables
+tables s = tablesOf (s .args .h) (now (s .args .creds)) (now (s .args .aces))
+
+abbrev start : tie.After-first → tie.Start
+start c = c .before .before .before .before
+
+found : (c : tie.After-first) → let a = start c .args in placeFrom 0 (hasKey (a .at) (now (a .key))) (rows (a .table) (tables (start c))) ≡ At (c .first .given .0 .0)
+found c = sym (c .before .before .place .ensures) ∙ c .first .given .1
+
+returns : tie.Need-returns
+unfolding gapOf
+returns c =
+    let told = c .before in
+    rw (some-place 0 _ _ ∙ ap isAt (sym (told .before .before .place .ensures) ∙ told .enum-told .given .1)) (c .none .ensures)
+
+sub-many : tie.Need-sub-t10
+sub-many c = let s = start (c .before .before) in omega (arith, c .held-of .ensures, before-is _ _ _ (found (c .before .before)), before-all (hasKey (s .args .at) (now (s .args .key))) (rows (s .args .table) (tables s)))
+
+returns-2 : tie.Need-returns-2
+returns-2 c = gap-is _ _ _ _ (found (c .before .before)) (c .held-of .ensures)
+
+pub gap-spec : {M : Type 1} → statement M
+gap-spec =
+    tie.close
+    (tie.spec
+    (λ c κs. search needs) (λ c. search needs) (λ c. search needs) (λ c κs. search needs) returns
+    (λ c κs. search needs) sub-many
+    returns-2)

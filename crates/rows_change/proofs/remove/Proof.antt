@@ -1,0 +1,75 @@
+-- `remove` meets its contract. The loop's invariant: the bytes are a table of `n` rows; the first `i` of them stay, and of the
+-- others those that do not pass.
+-- Assumes nothing.
+use Rattle.rows.proofs.Prelude.{sym, _∙_, _-_, needs}
+use Rattle.rows.specs.Rows.{hasKey}
+use Rattle.rows.proofs.Laws.{row-within}
+use Rattle.rows_change.proofs.Going.{Going, begin, stay, gone, end}
+use Rattle.rows_change.proofs.remove.Statement.{statement}
+use Rattle.rows_change.proofs.remove.Tie as tie
+
+abbrev Inv-loop : tie.InvT-loop
+Inv-loop rows₀ stride count at key n₀ i₀ rows n i = Going (hasKey at key) stride count rows₀ rows n i
+
+abbrev μ-loop : tie.MeasureT-loop
+μ-loop rows₀ stride count at key n₀ i₀ rows n i = n - i
+
+loop-holds : tie.Need-loop-holds Inv-loop μ-loop
+loop-holds c = begin _ _ _ _ (c .before .before .pre)
+
+row-has-requires : tie.Need-row-has-requires Inv-loop μ-loop
+row-has-requires c κs =
+    row-within _ _ _ _ (c .before .before .loop .inv .table .fits) (c .before .loop-test .taken)
+
+remove-row-requires : tie.Need-remove-row-requires Inv-loop μ-loop
+remove-row-requires c κs =
+    let turn = c .before .before .before .before in
+    row-within _ _ _ _ (turn .before .loop .inv .table .fits) (turn .loop-test .taken)
+
+sub-n : tie.Need-sub-n Inv-loop μ-loop
+sub-n c = search needs
+
+loop-less : tie.Need-loop-less Inv-loop μ-loop
+loop-less c = search needs
+
+loop-again : tie.Need-loop-again Inv-loop μ-loop
+loop-again c =
+    let call = c .before .before .remove-row in
+    let test = c .before .before .before .before in
+    let turn = test .before .before .before in
+    gone _ _ _ _ _ _ _ (turn .before .loop .inv) (turn .loop-test .taken) _ (call .ensures) (call .kept .0) (sym (test .before .row-has .ensures) ∙ test .if1 .taken)
+
+add-i : tie.Need-add-i Inv-loop μ-loop
+add-i c = search needs
+
+loop-less-2 : tie.Need-loop-less-2 Inv-loop μ-loop
+loop-less-2 c = search needs
+
+loop-again-2 : tie.Need-loop-again-2 Inv-loop μ-loop
+loop-again-2 c =
+    let turn = c .before .before .before in
+    stay _ _ _ _ _ _ _ (turn .before .loop .inv) (turn .loop-test .taken) (sym (c .before .row-has .ensures) ∙ c .if1 .left)
+
+same-length : tie.Need-same-length Inv-loop μ-loop
+same-length c = c .before .loop .inv .long
+
+returns : tie.Need-returns Inv-loop μ-loop
+returns c = end _ _ _ _ _ _ _ (c .before .loop .inv) (c .loop-test .left)
+
+pub remove-spec : {M : Type 1} → statement M
+remove-spec =
+    tie.close
+    (tie.spec
+    Inv-loop
+    μ-loop
+    loop-holds
+    row-has-requires
+    remove-row-requires
+    sub-n
+    loop-less
+    loop-again
+    add-i
+    loop-less-2
+    loop-again-2
+    same-length
+    returns)

@@ -1,0 +1,13 @@
+-- `distinct`: none of the rows repeats a number where all stand before the first that does.
+-- Assumes nothing.
+use borrow.Author.Needs.{needs}
+use Rattle.rows.proofs.Laws.{length-rowsOf}
+use Rattle.rows.proofs.Repeat.{distinct-repeat}
+use Rattle.rows_distinct.proofs.distinct.Statement.{statement}
+use Rattle.rows_distinct.proofs.distinct.Tie as tie
+
+returns : tie.Need-returns
+returns c = rw (distinct-repeat _, length-rowsOf, c .before-repeat .ensures)
+
+pub distinct-spec : {M : Type 1} → statement M
+distinct-spec = tie.close (tie.spec (λ c κs. search needs) returns)

@@ -1,0 +1,110 @@
+-- Theorems over examples: a list for each thing that is said, a list that is loaded, and what each premise of loading is for.
+use Rattle.rows.proofs.Prelude.{_≡_, refl, List, [], _∷_, _++_, map, ℕ, arith, replicate}
+use Rattle.rows.specs.Rows.{Row, joined}
+use Rattle.rules.specs.declared.Tables.{Tables}
+use Rattle.rules.specs.declared.Table.the-variants.{Aces}
+use Rattle.rules.specs.Directory.{someSecurity}
+use Rattle.rules.specs.Record.{Request, received}
+use Rattle.rules.specs.Tables.{rows, withRows, withState, withOwner}
+use Rattle.rules.specs.Defaults.{noDefaults}
+use Rattle.rules.specs.Checks.{refuseIf}
+use Rattle.rules.specs.Outcome.{toldTo, tablesAfter}
+use Rattle.rules.specs.Run.{final}
+use Rattle.rules.specs.Isolation.{rowAlters}
+use Rattle.rules.proofs.Examples.{definitions, uuid, credRow, withCreds, owned5, aceBody, aceRow, weight, connected}
+use Rattle.rules_lists.specs.Lists.{badSize, unfit, excessive, said, accepted, rowsTested, listTested}
+use Rattle.rules_lists.specs.Loading.{ownsDevice, storing, Loaded}
+use Rattle.rules_lists.proofs.Loaded.{accepted-loaded}
+
+testing : Unit {0}
+unfolding definitions refuseIf badSize unfit excessive rowAlters someSecurity rowsTested listTested uuid aceBody aceRow weight connected
+testing = tt
+
+-- the set of resource 3 alone
+pub onAcl2 : List ℕ
+onAcl2 = 0x10 ∷ replicate 7 0
+
+-- role 7 of our works as a subject
+pub role7 : List ℕ
+role7 = replicate 15 0 ++ (7 ∷ [])
+
+-- all of acl2 for a UUID, reading and notifying for role 7, all of /weight for anyone in clear
+pub good : List Row
+good = aceRow 1 0 31 0 onAcl2 uuid ∷ aceRow 2 1 18 0 onAcl2 role7 ∷ aceRow 3 2 31 0 weight (connected 0) ∷ []
+
+-- a row's period of second 9 alone
+pub second9 : List ℕ
+second9 = 0 ∷ 0 ∷ 0 ∷ 9 ∷ 0 ∷ 0 ∷ 0 ∷ 9 ∷ []
+
+pub lists-tested :
+    map listTested
+    -- no rows; the good ones
+    ([]
+    ∷ joined good
+    -- a byte more; 33 rows, none of which could be stored; 32 of them
+    ∷ (joined good ++ (0 ∷ []))
+    ∷ replicate 1188 0
+    ∷ replicate 1152 0
+    -- number 2 twice
+    ∷ joined (good ++ (aceRow 2 0 2 0 weight uuid ∷ []))
+    -- on acl2: UPDATE for a role, DELETE and CREATE for a connection, and UPDATE for it in a single second
+    ∷ joined (aceRow 1 1 4 0 onAcl2 role7 ∷ [])
+    ∷ joined (good ++ (aceRow 4 2 8 0 onAcl2 (connected 1) ∷ []))
+    ∷ joined (good ++ (aceRow 4 2 1 0 onAcl2 (connected 0) ∷ []))
+    ∷ joined ((aceBody 1 2 4 0 onAcl2 (connected 1) ++ second9) ∷ [])
+    -- all five for a connection by every wildcard, which reach no security resource
+    ∷ joined (good ++ (aceRow 4 2 31 7 weight (connected 1) ∷ []))
+    -- UPDATE of roles, a security resource too (U11)
+    ∷ joined (good ++ (aceRow 4 1 4 0 (0x08 ∷ replicate 7 0) role7 ∷ []))
+    -- both faults in a row; 21 in a row before one with 20
+    ∷ joined (good ++ (aceRow 2 1 4 0 onAcl2 role7 ∷ []))
+    ∷ joined (good ++ (aceRow 4 1 4 0 onAcl2 role7 ∷ aceRow 1 0 2 0 weight uuid ∷ []))
+    ∷ [])
+    ≡ accepted
+    ∷ accepted
+    ∷ said 19 0
+    ∷ said 19 0
+    ∷ said 20 1
+    ∷ said 20 4
+    ∷ said 21 1
+    ∷ said 21 4
+    ∷ said 21 4
+    ∷ said 21 1
+    ∷ accepted
+    ∷ said 21 4
+    ∷ said 20 4
+    ∷ said 21 4
+    ∷ []
+unfolding testing onAcl2 role7 good second9
+lists-tested = refl
+
+-- ---- loading
+
+-- partner 5 loads the good list, a row each second, and lends no buffer
+pub loading : List Request
+loading =
+    received 0 (storing 5 (aceRow 1 0 31 0 onAcl2 uuid)) 0
+    ∷ received 1 (storing 5 (aceRow 2 1 18 0 onAcl2 role7)) 0
+    ∷ received 2 (storing 5 (aceRow 3 2 31 0 weight (connected 0))) 0
+    ∷ []
+
+pub good-loaded : Loaded noDefaults owned5 loading good
+unfolding testing onAcl2 role7 good loading credRow withCreds owned5 ownsDevice
+good-loaded =
+    accepted-loaded noDefaults owned5 5 (joined good) loading refl
+    (record { number = omega arith; isSound = refl; inRfpro = refl; noAces = refl; owner = refl }) refl
+
+-- tables that are not sound, another state, another owner: the first row is refused
+pub premises-needed :
+    map (λ (t : Tables). toldTo noDefaults t (received 0 (storing 5 (aceRow 1 0 31 0 onAcl2 uuid)) 0) .answer)
+    (withState owned5 0 ∷ withState owned5 3 ∷ withOwner owned5 1 (replicate 16 0x22) ∷ [])
+    ≡ 1 ∷ 11 ∷ 8 ∷ []
+unfolding testing onAcl2 storing credRow withCreds owned5
+premises-needed = refl
+
+-- a row that is held before stays in front of the list's
+pub held-in-front :
+    rows Aces (final (tablesAfter noDefaults) (withRows Aces owned5 (aceRow 9 0 2 0 weight uuid ∷ [])) loading)
+    ≡ aceRow 9 0 2 0 weight uuid ∷ good
+unfolding testing onAcl2 role7 good loading storing credRow withCreds owned5
+held-in-front = refl

@@ -1,0 +1,51 @@
+-- Lists in any order (U10 with U14): a list that the test accepts is accepted in every order, and loads tables that differ only in that order.
+-- Of a list that it does not accept the first bad row may be another.
+use Rattle.rows.proofs.Prelude.{_≡_, sym, ap, _∙_, not, _||_, List, ℕ, _/_, _%_, length, eqb, ltb}
+use Rattle.rules.specs.declared.Table.the-variants.{Aces}
+use Rattle.rules.specs.declared.Tables.{Tables}
+use Rattle.rules.specs.Record.{Request}
+use Rattle.rules.specs.Tables.{storable}
+use Rattle.rules.specs.Defaults.{Defaults}
+use Rattle.rules.specs.Outcome.{tablesAfter}
+use Rattle.rules.specs.Run.{final}
+use Rattle.rules.proofs.SoundKept.{run-sound}
+use Rattle.rules_lists.specs.declared.Tested.{Tested}
+use Rattle.rules_lists.specs.Loading.{Ready, Stores}
+use Rattle.rules_lists.proofs.Loaded.{accepted-loaded}
+use Rattle.rules_lists.specs.Lists.{listed, badSize, excessive, listTested, accepted}
+use Rattle.rules_lists.proofs.Exact.{faultless-accepted, accepted-faultless}
+use Rattle.rules_order.specs.Reorder.{Reordered}
+use Rattle.rules_order.specs.Order.{OrderOnly}
+use Rattle.rules_order.proofs.AnyOrder.{counted}
+use Rattle.rules_order.proofs.ReorderLaws.{order-length, order-every, order-some, order-distinct}
+
+pub list-any-order : (b c : List ℕ) → length b ≡ length c → Reordered (listed b) (listed c) → listTested b .answer ≡ 0 → listTested c ≡ accepted
+unfolding badSize
+list-any-order b c l o h =
+    let f = accepted-faultless b h in
+    faultless-accepted c
+    (record {
+      whole = ap (λ (n : ℕ). not (eqb (n % 36) 0) || ltb 32 (n / 36)) (sym l) ∙ f .whole;
+      clean = record {
+        stores = sym (order-every (storable Aces) o) ∙ f .clean .stores;
+        apart = sym (order-distinct o) ∙ f .clean .apart;
+        modest = sym (order-some excessive o) ∙ f .clean .modest;
+      };
+    })
+
+-- loaded from the same tables, by records of the device owner with any clocks and buffer lengths
+pub loaded-any-order :
+    (d : Defaults) (t : Tables) (n : ℕ) (b c : List ℕ) (qs rs : List Request)
+    → length b ≡ length c → Reordered (listed b) (listed c) → listTested b .answer ≡ 0
+    → Ready n t → Stores n qs (listed b) → Stores n rs (listed c)
+    → OrderOnly (final (tablesAfter d) t qs) (final (tablesAfter d) t rs)
+loaded-any-order d t n b c qs rs l o h ready e f =
+    let one = accepted-loaded d t n b qs h ready e in
+    let other = accepted-loaded d t n c rs (ap (λ (x : Tested). x .answer) (list-any-order b c l o h)) ready f in
+    let u = final (tablesAfter d) t qs in
+    let v = final (tablesAfter d) t rs in
+    record {
+      others = one .others ∙ sym (other .others);
+      counted = counted u (run-sound d t qs (ready .isSound)) ∙ ap length (one .held) ∙ order-length o ∙ sym (counted v (run-sound d t rs (ready .isSound)) ∙ ap length (other .held));
+      order = rw (one .held, other .held) o;
+    }

@@ -1,0 +1,79 @@
+-- Tables that differ only in the order of their access rows, and answers that are the same but for it (U14).
+-- A reply that lists the access rows is that to a RETRIEVE of acl2.
+use Prim.Native.Nat.{ℕ}
+use mathlib.Core.Path.{_≡_}
+use mathlib.Core.Bool.{Bool, true, false, _&&_}
+use mathlib.Core.List.{List, [], _∷_}
+use lib.Dec.{eqb}
+use lib.ListN.{length}
+use Rattle.rows.specs.Rows.{Row}
+use Rattle.rules.specs.declared.Tables.{Tables}
+use Rattle.rules.specs.declared.Table.the-variants.{Aces}
+use Rattle.rules.specs.Directory.{acl2}
+use Rattle.rules.specs.Record.{verb, resource}
+use Rattle.rules.specs.Tables.{rows, withRows}
+use Rattle.rules.specs.Reading.{ownerOfReply, rowsOfReply}
+use Rattle.rules.specs.Outcome.{Told}
+use Rattle.rules_waiting.specs.Terminal.{Terminal, terminal, Answered, soundTerminal}
+use Rattle.rules_waiting.specs.Inputs.{Input, handIn, takeAt, direct}
+use Rattle.rules_order.specs.Reorder.{Reordered}
+
+-- ---- tables
+
+-- with the access rows left out the tables are the same, as many are counted, and they are the same rows in another order
+pub record OrderOnly (t u : Tables) : Type 0 where
+  pub others : withRows Aces t [] ≡ withRows Aces u []
+  pub counted : t .naces ≡ u .naces
+  pub order : Reordered (rows Aces t) (rows Aces u)
+
+-- two sound terminals whose tables differ only so, and in which the same waits
+pub record InStep (x y : Terminal) : Type 0 where
+  pub soundLeft : soundTerminal x ≡ true
+  pub soundRight : soundTerminal y ≡ true
+  pub memory : x .memory ≡ y .memory
+  pub tables : OrderOnly (x .tables) (y .tables)
+
+-- the terminal with these access rows
+abbrev pub withAccess : Terminal → List Row → Terminal
+withAccess x ws = terminal (withRows Aces (x .tables) ws) (x .memory)
+
+-- ---- replies
+
+-- RETRIEVE of acl2
+unfoldable pub listsAccess : List ℕ → Bool
+listsAccess r = eqb (verb r) 1 && eqb (resource r) acl2
+
+-- equal in length, with the same row owner, and the same rows in another order
+pub record SameListed (x y : List ℕ) : Type 0 where
+  pub long : length x ≡ length y
+  pub owner : ownerOfReply x ≡ ownerOfReply y
+  pub listed : Reordered (rowsOfReply Aces x) (rowsOfReply Aces y)
+
+-- what is said of the record r: the same, but for the order of access rows that are listed, and for the places of acl2
+pub record SameBut (r : List ℕ) (x y : Told) : Type 0 where
+  pub answer : x .answer ≡ y .answer
+  pub permission : x .permission ≡ y .permission
+  pub payload : x .payload ≡ y .payload
+  pub links : x .links ≡ y .links
+  pub listing : listsAccess r ≡ true → SameListed (x .contents) (y .contents)
+  pub contents : listsAccess r ≡ false → x .contents ≡ y .contents
+  pub places : eqb (resource r) acl2 ≡ false → x .places ≡ y .places
+
+-- ---- runs of hand-ins, takes and records that are judged at once
+
+-- the record that the answer to an input is about; a hand-in judges none
+abbrev pub judgedIn : Input → Answered → List ℕ
+judgedIn (handIn r) a = []
+judgedIn (takeAt clock room) a = a .bytes
+judgedIn (direct q) a = q .bytes
+
+-- the same record is handed out, and the same but for the order is said
+pub record SameAnswer (i : Input) (a b : Answered) : Type 0 where
+  pub bytes : a .bytes ≡ b .bytes
+  pub told : SameBut (judgedIn i a) (a .told) (b .told)
+
+module _ {Input Output : Type 0} (S : Input → Output → Output → Type 0) where
+  -- two lists of outputs, one for each input: those of the same input are in relation
+  pub data InPairs : List Input → List Output → List Output → Type 0 where
+    none : InPairs [] [] []
+    more : {i : Input} {a b : Output} {is : List Input} {xs ys : List Output} → S i a b → InPairs is xs ys → InPairs (i ∷ is) (a ∷ xs) (b ∷ ys)

@@ -1,0 +1,68 @@
+-- Lists of records that are judged at once, beside memory that is sound wherever the tables are.
+-- Such a record gets the outcome of the rules over the tables, 1 included; so fresh memory changes nothing for a run without hand-ins.
+use Rattle.rows.proofs.Prelude.{_≡_, refl, sym, ap, ap₂, _∙_, true, false, List, [], _∷_}
+use Rattle.rules.specs.declared.Tables.{Tables}
+use Rattle.rules.specs.Record.{Request}
+use Rattle.rules.specs.Tables.{sound}
+use Rattle.rules.specs.Defaults.{Defaults}
+use Rattle.rules.specs.Checks.{verdict}
+use Rattle.rules.specs.Outcome.{Told, Outcome, toldTo, tablesAfter}
+use Rattle.rules.specs.Run.{replies, final}
+use Rattle.rules.proofs.Bools.{bool-cases, contradiction}
+use Rattle.rules.proofs.Refusals.{unsound-refused}
+use Rattle.rules_waiting.specs.Slots.{freshMemory}
+use Rattle.rules_waiting.specs.Terminal.{Terminal, terminal, Answered, numberAlone, soundTerminal, judged}
+use Rattle.rules_waiting.proofs.Sound.{terminal-whole, fresh-memory, sound-judged}
+use Rattle.rules_waiting.proofs.Stays.{judged-is}
+
+-- the memory is sound where the tables are
+abbrev pub Whole : Terminal → Type 0
+Whole x = sound (x .tables) ≡ true → soundTerminal x ≡ true
+
+-- fresh memory is, beside any tables
+pub fresh-whole : (t : Tables) → Whole (terminal t freshMemory)
+fresh-whole t h = terminal-whole (terminal t freshMemory) h (fresh-memory t h)
+
+judged-unsound : (d : Defaults) (x : Terminal) (q : Request) → soundTerminal x ≡ false → judged d x q ≡ numberAlone 1 x
+unfolding judged verdict
+judged-unsound d x q e = rw e
+
+pub record AsOutcome (d : Defaults) (x : Terminal) (q : Request) : Type 0 where
+  pub told : judged d x q .told ≡ toldTo d (x .tables) q
+  pub tables : judged d x q .terminal .tables ≡ tablesAfter d (x .tables) q
+  pub whole : Whole (judged d x q .terminal)
+
+pub as-outcome : (d : Defaults) (x : Terminal) (q : Request) → Whole x → AsOutcome d x q
+as-outcome d x q w =
+    bool-cases (soundTerminal x)
+    (λ h. record {
+      told = ap (λ (a : Answered). a .told) (judged-is d x q h);
+      tables = ap (λ (a : Answered). a .terminal .tables) (judged-is d x q h);
+      whole = λ _. sound-judged d x q h;
+    })
+    (λ e.
+    let u : sound (x .tables) ≡ false = bool-cases (sound (x .tables)) (λ s. contradiction (w s) e) (λ f. f) in
+    let o = unsound-refused d (x .tables) q u in
+    let j = judged-unsound d x q e in
+    record {
+      told = ap (λ (a : Answered). a .told) j ∙ sym (ap (λ (y : Outcome). y .told) o);
+      tables = ap (λ (a : Answered). a .terminal .tables) j ∙ sym (ap (λ (y : Outcome). y .tables) o);
+      whole = rw j w;
+    })
+
+-- what a list of them is told, and the tables at the end
+abbrev pub directReplies : Defaults → Terminal → List Request → List Told
+directReplies d = replies (λ x q. judged d x q .told) (λ x q. judged d x q .terminal)
+
+abbrev pub directEnd : Defaults → Terminal → List Request → Terminal
+directEnd d = final (λ x q. judged d x q .terminal)
+
+pub directs-same : (d : Defaults) (x : Terminal) (qs : List Request) → Whole x
+    → (directReplies d x qs ≡ replies (toldTo d) (tablesAfter d) (x .tables) qs) × (directEnd d x qs .tables ≡ final (tablesAfter d) (x .tables) qs)
+directs-same d x [] w = (refl, refl)
+directs-same d x (q ∷ qs) w =
+    let a = as-outcome d x q w in
+    let more = directs-same d (judged d x q .terminal) qs (a .whole) in (
+      ap₂ (λ (y : Told) (ys : List Told). y ∷ ys) (a .told) (more .0 ∙ ap (λ (t : Tables). replies (toldTo d) (tablesAfter d) t qs) (a .tables)),
+      more .1 ∙ ap (λ (t : Tables). final (tablesAfter d) t qs) (a .tables),
+    )

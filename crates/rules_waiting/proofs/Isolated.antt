@@ -1,0 +1,107 @@
+-- Theorem, demand 3 with waiting records: over a whole list of hand-ins, takes and records judged at once, refused ones included,
+-- the others' records that are judged get what the book of 01 gives them, fed byte for byte in the order of their takes, each at its take's clock and with its reply buffer's length.
+-- The book holds tables only, so seats and round are left out of what is compared.
+use Rattle.rows.proofs.Prelude.{_≡_, refl, ap, Bool, true, false≢true, List, [], _∷_, _++_, map, ℕ}
+use Rattle.rules.specs.declared.Tables.{Tables}
+use Rattle.rules.specs.declared.Check.{Check}
+use Rattle.rules.specs.declared.Check.the-variants.{Pass, Refuse}
+use Rattle.rules.specs.Record.{Request, received, Sender}
+use Rattle.rules.specs.Defaults.{Defaults}
+use Rattle.rules.specs.Checks.{verdict}
+use Rattle.rules.specs.Outcome.{Told, toldTo, tablesAfter}
+use Rattle.rules.specs.Run.{replies, final, Along, kept}
+use Rattle.rules.specs.Isolation.{Premise, isOthers, compared}
+use Rattle.rules.proofs.Bools.{cond-cases, bool-cases}
+use Rattle.rules.proofs.Isolated.{Related, silent, alike}
+use Rattle.rules_waiting.specs.Terminal.{Terminal, soundTerminal, handInChecks, handInOf, handedIn, takeChecks, due, takeOf, taken, directChecks, directOf, judged}
+use Rattle.rules_waiting.specs.Inputs.{Input, handIn, takeAt, direct, next, Turn, turnIf, turns, judgedAt, allJudged, othersTurn, requestOf, turnTold, noneDirect}
+use Rattle.rules_waiting.proofs.Refused.{unsound-run}
+use Rattle.rules_waiting.proofs.Lockstep.{along-first, collected-through, mapped-append, lockstep}
+
+module _ (d : Defaults) (chosen : Sender → Bool) where
+  -- ---- one record on the tables s of the terminal and b of the book
+
+  -- what the book answers to these turns, and where both sides stand then
+  abbrev Step : Tables → Tables → List Turn → Type 0
+  Step s b us = (map turnTold us ≡ replies (toldTo d) (tablesAfter d) b (map requestOf us)) × Related d chosen s (final (tablesAfter d) b (map requestOf us))
+
+  turn-step : (x : Terminal) (b : Tables) (q : Request) → Premise chosen b → Related d chosen (x .tables) b
+      → Step (tablesAfter d (x .tables) q) b (kept (othersTurn chosen) (turnIf d x q Pass))
+  turn-step x b q p e =
+      cond-cases (λ (us : List Turn). Step (tablesAfter d (x .tables) q) b us) (isOthers chosen q)
+      (λ o. let both = alike d chosen (x .tables) b q o p e in (ap (λ (a : Told). a ∷ []) (both .0), both .1))
+      (λ o. (refl, silent d chosen (x .tables) b q o p e))
+
+  -- ---- one input
+
+  -- what the book is fed, and what the others are told
+  abbrev fed : Terminal → Input → List Request
+  fed x i = map requestOf (kept (othersTurn chosen) (judgedAt d x i))
+
+  abbrev told : Terminal → Input → List Told
+  told x i = map turnTold (kept (othersTurn chosen) (judgedAt d x i))
+
+  handed-tables : (x : Terminal) (b : Tables) (r : List ℕ) (c : Check) → Related d chosen (x .tables) b → Related d chosen (handInOf x r c .terminal .tables) b
+  handed-tables x b r Pass e = e
+  handed-tables x b r (Refuse n) e = e
+
+  take-step : (x : Terminal) (b : Tables) (q : Request) (c : Check) → Premise chosen b → Related d chosen (x .tables) b
+      → Step (takeOf d x q c .terminal .tables) b (kept (othersTurn chosen) (turnIf d x q c))
+  take-step x b q Pass p e = turn-step x b q p e
+  take-step x b q (Refuse n) p e = (refl, e)
+
+  direct-step : (x : Terminal) (b : Tables) (q : Request) (c : Check) → Premise chosen b → Related d chosen (x .tables) b
+      → Step (directOf d x q c .terminal .tables) b (kept (othersTurn chosen) (turnIf d x q c))
+  direct-step x b q Pass p e = turn-step x b q p e
+  direct-step x b q (Refuse n) p e = (refl, e)
+
+  one : (x : Terminal) (b : Tables) (i : Input) → Along (tablesAfter d) (Premise chosen) b (fed x i) → Related d chosen (x .tables) b
+      → (told x i ≡ replies (toldTo d) (tablesAfter d) b (fed x i)) × Related d chosen (next d x i .tables) (final (tablesAfter d) b (fed x i))
+  unfolding handedIn taken judged
+  one x b (handIn r) a e = (refl, handed-tables x b r (verdict (handInChecks x r)) e)
+  one x b (takeAt clock room) a e = take-step x b (received clock (due x) room) (verdict (takeChecks x)) (along-first (tablesAfter d) (Premise chosen) b (fed x (takeAt clock room)) a) e
+  one x b (direct q) a e = direct-step x b q (verdict (directChecks x)) (along-first (tablesAfter d) (Premise chosen) b (fed x (direct q)) a) e
+
+  -- ---- the whole list
+
+  -- the others' records that are judged
+  abbrev pub others : Terminal → List Input → List Turn
+  others x is = kept (othersTurn chosen) (allJudged d x is)
+
+  -- the premise, read in the book's tables before its first record and after each, where it is fed these
+  abbrev pub Premises : Terminal → List Turn → Type 0
+  Premises x us = soundTerminal x ≡ true → Along (tablesAfter d) (Premise chosen) (x .tables) (map requestOf us)
+
+  -- these turns were told what the book answers: numbers, permissions, payloads, replies, places and links; and the tables at the end are the book's but for the chosen partners' asserted roles
+  abbrev pub AsTheBook : Terminal → List Turn → Tables → Type 0
+  AsTheBook x us end =
+      (map turnTold us ≡ replies (toldTo d) (tablesAfter d) (x .tables) (map requestOf us))
+      × (compared chosen end ≡ compared chosen (final (tablesAfter d) (x .tables) (map requestOf us)))
+
+  isolated-from : (x : Terminal) (is : List Input) → Along (tablesAfter d) (Premise chosen) (x .tables) (map requestOf (others x is))
+      → AsTheBook x (others x is) (final (next d) x is .tables)
+  isolated-from x is premise =
+      let a = collected-through (next d) (judgedAt d) (λ us. map requestOf (kept (othersTurn chosen) us)) refl (mapped-append (othersTurn chosen) requestOf) x is in
+      let b = collected-through (next d) (judgedAt d) (λ us. map turnTold (kept (othersTurn chosen) us)) refl (mapped-append (othersTurn chosen) turnTold) x is in
+      let both = lockstep (next d) told fed (toldTo d) (tablesAfter d) (Premise chosen) (λ y t. Related d chosen (y .tables) t) one x (x .tables) is (rw a premise) (record { same = refl; sound = refl }) in
+      (rw (← a, ← b) (both .0), rw (← a) (both .1 .same))
+
+  -- demand 3; a terminal that is not sound, be it only in what waits, needs no premise
+  pub isolated : (x : Terminal) (is : List Input) → Premises x (others x is) → AsTheBook x (others x is) (final (next d) x is .tables)
+  isolated x is premise =
+      bool-cases (soundTerminal x)
+      (λ h. isolated-from x is (premise h))
+      (λ e. let u = unsound-run d x is e in rw (u .0, u .1) (refl, refl))
+
+  -- ---- as U13 words it: hand-ins and takes alone
+
+  judged-taken : (x : Terminal) (is : List Input) → noneDirect is ≡ true → allJudged d x is ≡ turns d x is
+  judged-taken x [] n = refl
+  judged-taken x (handIn r ∷ is) n = judged-taken (next d x (handIn r)) is n
+  judged-taken x (takeAt clock room ∷ is) n = ap (λ (us : List Turn). judgedAt d x (takeAt clock room) ++ us) (judged-taken (next d x (takeAt clock room)) is n)
+  judged-taken x (direct q ∷ is) n = absurd (false≢true n)
+
+  -- the others' records taken
+  pub turns-isolated : (x : Terminal) (is : List Input) → noneDirect is ≡ true → Premises x (kept (othersTurn chosen) (turns d x is))
+      → AsTheBook x (kept (othersTurn chosen) (turns d x is)) (final (next d) x is .tables)
+  turns-isolated x is n = rw (← judged-taken x is n) (isolated x is)

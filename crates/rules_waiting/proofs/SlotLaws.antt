@@ -1,0 +1,183 @@
+-- Laws of slots and of the lent memory: what is put in is read back.
+use Rattle.rows.proofs.Prelude.{_≡_, refl, sym, ap, _∙_, Bool, true, false, cond, List, [], _∷_, _++_, ℕ, _-_, _*_, _≤_, min, min-eq-left, arith, length, take}
+use Rattle.rows.proofs.Prelude.{drop, getD, replicate, length-append, length-drop, length-replicate, drop-at, length-take-le, take-at, eqb, leb, ltb, eq-eqb}
+use Rattle.rows.proofs.Prelude.{eqb-true, le-leb, leb-true, ltb-false}
+use Rattle.rows.specs.Rows.{Row, rowsOf, packed, allZero, same, every, distinctNumbers}
+use Rattle.rows.specs.Contracts.{IsTable}
+use Rattle.rows.proofs.Laws.{length-rowsOf, kept as table-kept}
+use Rattle.rows.proofs.Kept.{AllLong, every-long, rowsOf-packed, packed-table, length-packed, same-true, same-refl}
+use Rattle.rules.specs.declared.Tables.{Tables}
+use Rattle.rules.specs.declared.Check.{Check}
+use Rattle.rules.specs.declared.Check.the-variants.{Pass, Refuse}
+use Rattle.rules.specs.Bits.{bits, word}
+use Rattle.rules.specs.Checks.{senderChecks, verdict, isPass, badLength}
+use Rattle.rules.proofs.Bools.{contradiction, and-left, and-right, and-both, or-right}
+use Rattle.rules.proofs.BitLaws.{bits-word}
+use Rattle.rules.proofs.Answers.{passed}
+use Rattle.rules_waiting.specs.Slots.{Seat, Round, anew, after, slotLong, slotsMost, slotsLong, memoryLong, seatOf, padded, slotOf, recordOf, roundBytes, roundOf, waiting, memoryOf}
+use Rattle.rules_waiting.specs.Terminal.{slotSound, memorySound}
+
+-- ---- slots
+
+module _ (r : List ℕ) where
+  -- a record comes out of its slot byte for byte
+  pub record-back : length r ≤ 256 → recordOf (slotOf r) ≡ r
+  unfolding slotOf padded recordOf seatOf word
+  record-back h =
+      let n : bits (drop 2 (slotOf r)) 0 16 ≡ length r = bits-word (drop 2 (slotOf r)) 0 (omega arith) (omega arith) ∙ omega arith in
+      take-at r (replicate (256 - length r) 0) (bits (drop 2 (slotOf r)) 0 16) (sym n)
+
+  pub slot-long : length r ≤ 256 → length (slotOf r) ≡ 260
+  unfolding slotOf padded seatOf word
+  slot-long h = let e = length-append r (replicate (256 - length r) 0) in let f : length (replicate {A = ℕ} (256 - length r) 0) ≡ 256 - length r = length-replicate (256 - length r) 0 in omega arith
+
+  pub slot-seat : take 2 (slotOf r) ≡ seatOf r
+  unfolding slotOf padded seatOf word
+  slot-seat = refl
+
+  pub slot-two : 2 ≤ length (slotOf r)
+  unfolding slotOf padded seatOf word
+  slot-two = omega arith
+
+pub is-pass : (c : Check) → isPass c ≡ true → c ≡ Pass
+is-pass Pass e = refl
+is-pass (Refuse n) e = contradiction e refl
+
+-- what a sound slot keeps
+pub record Keeps (t : Tables) (w : Row) : Type 0 where
+  pub is : w ≡ slotOf (recordOf w)
+  pub passes : verdict (senderChecks t (recordOf w)) ≡ Pass
+
+pub short-record : (t : Tables) (r : List ℕ) → verdict (senderChecks t r) ≡ Pass → length r ≤ 256
+unfolding badLength
+short-record t r e = ltb-false 256 (length r) (or-right (ltb (length r) 4) _ (passed (senderChecks t r) e 2))
+
+pub slot-parts : (t : Tables) (w : Row) → slotSound t w ≡ true → Keeps t w
+unfolding slotSound
+slot-parts t w h = record { is = same-true _ _ (and-left _ _ h); passes = is-pass _ (and-right (same w (slotOf (recordOf w))) _ h) }
+
+pub slot-whole : (t : Tables) (w : Row) → Keeps t w → slotSound t w ≡ true
+unfolding slotSound
+slot-whole t w k = and-both _ _ (ap (same w) (sym (k .is)) ∙ same-refl w) (ap isPass (k .passes))
+
+module _ (t : Tables) (w : Row) (h : slotSound t w ≡ true) where
+  pub slot-length : length w ≡ 260
+  slot-length = let k = slot-parts t w h in ap length (k .is) ∙ slot-long (recordOf w) (short-record t (recordOf w) (k .passes))
+
+  pub slot-key : take 2 w ≡ seatOf (recordOf w)
+  slot-key = let k = slot-parts t w h in ap (take 2) (k .is) ∙ slot-seat (recordOf w)
+
+-- a record that passes 2 to 7 makes a sound slot
+pub slot-made : (t : Tables) (r : List ℕ) → verdict (senderChecks t r) ≡ Pass → slotSound t (slotOf r) ≡ true
+slot-made t r e =
+    let b = record-back r (short-record t r e) in
+    slot-whole t (slotOf r) (record { is = ap slotOf (sym b); passes = ap (λ (x : List ℕ). verdict (senderChecks t x)) b ∙ e })
+
+pub slots-long : (t : Tables) (ws : List Row) → every (slotSound t) ws ≡ true → AllLong 260 ws
+slots-long t ws h = every-long 260 (slotSound t) (slot-length t) ws h
+
+-- ---- the memory
+
+-- the round's seat has two bytes
+abbrev pub TwoLong : Round → Type 0
+TwoLong anew = Unit {0}
+TwoLong (after p) = length p ≡ 2
+
+round-long : (k : Round) → TwoLong k → length (roundBytes k) ≡ 3
+round-long anew h = refl
+round-long (after p) h = omega arith
+
+module _ (k : Round) (ws : List Row) (two : TwoLong k) where
+  slots-behind : drop 4 (memoryOf k ws) ≡ packed slotsLong ws
+  unfolding memoryOf
+  slots-behind = drop-at (roundBytes k) (packed slotsLong ws) 3 (round-long k two)
+
+  pub waiting-back : length ws ≤ 25 → AllLong 260 ws → waiting (memoryOf k ws) ≡ ws
+  unfolding waiting memoryOf
+  waiting-back few long =
+      ap (λ (b : List ℕ). rowsOf slotLong (min (length ws) slotsMost) b) slots-behind
+      ∙ ap (λ (n : ℕ). rowsOf slotLong n (packed slotsLong ws)) (min-eq-left few)
+      ∙ rowsOf-packed 260 slotsLong ws long
+
+-- two bytes of a list at its start
+pub round-back : (k : Round) (ws : List Row) → TwoLong k → roundOf (memoryOf k ws) ≡ k
+unfolding roundOf memoryOf
+round-back anew ws two = refl
+round-back (after p) ws two = ap (λ (q : Seat). after q) (take-at p (packed slotsLong ws) 2 two)
+
+round-told : (k : Round) (ws : List Row) → TwoLong k → take 3 (drop 1 (memoryOf k ws)) ≡ roundBytes k
+unfolding memoryOf
+round-told k ws two = take-at (roundBytes k) (packed slotsLong ws) 3 (round-long k two)
+
+memory-length : (k : Round) (ws : List Row) → TwoLong k → length ws ≤ 25 → AllLong 260 ws → length (memoryOf k ws) ≡ 6504
+unfolding memoryOf
+memory-length k ws two few long =
+    let a = length-append (roundBytes k) (packed slotsLong ws) in
+    let b = round-long k two in
+    let c : length (packed slotsLong ws) ≡ 6500 = length-packed 260 slotsLong ws long (omega arith) in
+    omega arith
+
+-- the parts of the memory's soundness
+pub record SoundMemory (t : Tables) (m : List ℕ) : Type 0 where
+  pub long : eqb (length m) memoryLong ≡ true
+  pub few : leb (getD m 0 0) slotsMost ≡ true
+  pub round : same (take 3 (drop 1 m)) (roundBytes (roundOf m)) ≡ true
+  pub unused : allZero (drop (getD m 0 0 * slotLong) (drop 4 m)) ≡ true
+  pub keeps : every (slotSound t) (waiting m) ≡ true
+  pub apart : distinctNumbers (waiting m) ≡ true
+
+pub memory-parts : (t : Tables) (m : List ℕ) → memorySound t m ≡ true → SoundMemory t m
+unfolding memorySound
+memory-parts t m h = search (and-left, and-right) depth 9
+
+memory-whole : (t : Tables) (m : List ℕ) → SoundMemory t m → memorySound t m ≡ true
+unfolding memorySound
+memory-whole t m p = search (and-both) depth 9
+
+-- the memory with a round and sound slots
+pub memory-sound : (t : Tables) (k : Round) (ws : List Row) → TwoLong k → length ws ≤ 25 → every (slotSound t) ws ≡ true → distinctNumbers ws ≡ true
+    → memorySound t (memoryOf k ws) ≡ true
+unfolding memoryOf
+memory-sound t k ws two few all apart =
+    let long = slots-long t ws all in
+    let back = waiting-back k ws two few long in
+    memory-whole t (memoryOf k ws) (record {
+      long = eq-eqb (length (memoryOf k ws)) memoryLong (memory-length k ws two few long);
+      few = le-leb (length ws) 25 few;
+      round = ap (λ (b : List ℕ). same b (roundBytes (roundOf (memoryOf k ws)))) (round-told k ws two) ∙ ap (λ (j : Round). same (roundBytes k) (roundBytes j)) (round-back k ws two) ∙ same-refl (roundBytes k);
+      unused = ap (λ (b : List ℕ). allZero (drop (length ws * slotLong) b)) (slots-behind k ws two) ∙ packed-table 260 slotsLong ws (omega arith) long (omega arith) .zeros;
+      keeps = ap (every (slotSound t)) back ∙ all;
+      apart = ap distinctNumbers back ∙ apart;
+    })
+
+-- the round of sound memory
+pub round-two : (t : Tables) (m : List ℕ) → memorySound t m ≡ true → TwoLong (roundOf m)
+unfolding roundOf
+round-two t m h = go (eqb (getD m 1 0) 0)
+  where
+    six : length m ≡ 6504
+    six = eqb-true _ _ (memory-parts t m h .long)
+
+    go : (b : Bool) → TwoLong (cond b anew (after (take 2 (drop 2 m))))
+    go true = tt
+    go false = length-take-le 2 (drop 2 m) (omega (arith, six, length-drop 2 m))
+
+four-bytes : (m : List ℕ) → 4 ≤ length m → m ≡ getD m 0 0 ∷ (take 3 (drop 1 m) ++ drop 4 m)
+four-bytes [] h = absurd (omega arith)
+four-bytes (a ∷ []) h = absurd (omega arith)
+four-bytes (a ∷ b ∷ []) h = absurd (omega arith)
+four-bytes (a ∷ b ∷ c ∷ []) h = absurd (omega arith)
+four-bytes (a ∷ b ∷ c ∷ d ∷ m) h = refl
+
+-- memory that is sound is what its round and slots make
+pub memory-is : (t : Tables) (m : List ℕ) → memorySound t m ≡ true → memoryOf (roundOf m) (waiting m) ≡ m
+unfolding memoryOf waiting
+memory-is t m h =
+    let p = memory-parts t m h in
+    let six : length m ≡ 6504 = eqb-true _ _ (p .long) in
+    let few : getD m 0 0 ≤ 25 = leb-true _ _ (p .few) in
+    let size : length (drop 4 m) ≡ 6500 = omega (arith, length-drop 4 m) in
+    let n : min (getD m 0 0) 25 ≡ getD m 0 0 = min-eq-left few in
+    let table : IsTable 260 (getD m 0 0) (drop 4 m) = record { numbered = omega arith; fits = omega arith; zeros = p .unused } in
+    let b : packed 6500 (rowsOf 260 (getD m 0 0) (drop 4 m)) ≡ drop 4 m = ap (λ (k : ℕ). packed k (rowsOf 260 (getD m 0 0) (drop 4 m))) (sym size) ∙ sym (table-kept 260 (getD m 0 0) (drop 4 m) table) in
+    rw (n, length-rowsOf 260 (getD m 0 0) (drop 4 m), b, ← same-true _ _ (p .round)) (sym (four-bytes m (omega arith)))

@@ -1,0 +1,144 @@
+-- A run of hand-ins and takes, with records that are judged at once among them: what is judged, in order, and what the book of 01 is fed.
+use Prim.Native.Nat.{ℕ, suc, _+_}
+use mathlib.Core.Path.{_≡_}
+use mathlib.Core.Bool.{Bool, true, false, not, _&&_, cond}
+use mathlib.Core.List.{List, [], _∷_, _++_, map}
+use Rattle.rows.specs.Rows.{Row, hasKey, without}
+use Rattle.rules.specs.declared.Tables.{Tables}
+use Rattle.rules.specs.declared.Check.{Check}
+use Rattle.rules.specs.declared.Check.the-variants.{Pass, Refuse}
+use Rattle.rules.specs.Record.{Request, received, Sender, sender}
+use Rattle.rules.specs.Defaults.{Defaults}
+use Rattle.rules.specs.Checks.{verdict, isPass}
+use Rattle.rules.specs.Outcome.{Told, toldTo, tablesAfter}
+use Rattle.rules.specs.Run.{kept}
+use Rattle.rules_waiting.specs.Slots.{recordOf, waiting}
+use Rattle.rules_waiting.specs.Round.{seats, gone}
+use Rattle.rules_waiting.specs.Terminal.{Terminal, Answered, handInChecks, handedIn, clears, takeChecks, turn, due, taken, directChecks, judged}
+
+-- a record is handed in; a take at a clock, with a reply buffer of a length; a record is judged at once
+pub data Input : Type 0 where
+  handIn : List ℕ → Input
+  takeAt : ℕ → ℕ → Input
+  direct : Request → Input
+
+abbrev pub answered : Defaults → Terminal → Input → Answered
+answered d x (handIn r) = handedIn x r
+answered d x (takeAt clock room) = taken d x clock room
+answered d x (direct q) = judged d x q
+
+abbrev pub next : Defaults → Terminal → Input → Terminal
+next d x i = answered d x i .terminal
+
+module _ {State Input Output : Type 0} (next : State → Input → State) (out : State → Input → List Output) where
+  -- all that the inputs give, one after the other
+  abbrev pub collected : State → List Input → List Output
+  collected s [] = []
+  collected s (i ∷ is) = out s i ++ collected (next s i) is
+
+-- ---- the records that are judged
+
+-- a record that was judged, at its clock and with its buffer, and what its sender is told
+pub record Turn : Type 0 where
+  pub request : Request
+  pub told : Told
+
+-- with 1, and with 27, there is none
+abbrev pub turnIf : Defaults → Terminal → Request → Check → List Turn
+turnIf d x q Pass = record { request = q; told = toldTo d (x .tables) q } ∷ []
+turnIf d x q (Refuse n) = []
+
+abbrev pub turnsAt : Defaults → Terminal → Input → List Turn
+turnsAt d x (handIn r) = []
+turnsAt d x (takeAt clock room) = turnIf d x (received clock (due x) room) (verdict (takeChecks x))
+turnsAt d x (direct q) = []
+
+-- the records taken, in the order of their takes
+abbrev pub turns : Defaults → Terminal → List Input → List Turn
+turns d = collected (next d) (turnsAt d)
+
+abbrev pub judgedAt : Defaults → Terminal → Input → List Turn
+judgedAt d x (handIn r) = []
+judgedAt d x (takeAt clock room) = turnIf d x (received clock (due x) room) (verdict (takeChecks x))
+judgedAt d x (direct q) = turnIf d x q (verdict (directChecks x))
+
+-- and with them those judged at once: of hand-ins and takes alone, the records taken
+abbrev pub allJudged : Defaults → Terminal → List Input → List Turn
+allJudged d = collected (next d) (judgedAt d)
+
+abbrev pub requestOf : Turn → Request
+requestOf u = u .request
+
+abbrev pub turnTold : Turn → Told
+turnTold u = u .told
+
+abbrev pub bytesOf : Turn → List ℕ
+bytesOf u = u .request .bytes
+
+-- the turn is one of the others'
+abbrev pub othersTurn : (Sender → Bool) → Turn → Bool
+othersTurn chosen u = not (chosen (sender (bytesOf u)))
+
+-- no record is judged at once
+abbrev pub noneDirect : List Input → Bool
+noneDirect [] = true
+noneDirect (handIn r ∷ is) = noneDirect is
+noneDirect (takeAt clock room ∷ is) = noneDirect is
+noneDirect (direct q ∷ is) = false
+
+-- ---- within 25 takes
+
+-- how many takes there are
+abbrev pub takes : List Input → ℕ
+takes [] = 0
+takes (handIn r ∷ is) = takes is
+takes (takeAt clock room ∷ is) = suc (takes is)
+takes (direct q ∷ is) = takes is
+
+-- the input's record clears the tables
+abbrev pub clearing : Defaults → Terminal → Input → Bool
+clearing d x (handIn r) = false
+clearing d x (takeAt clock room) = isPass (verdict (takeChecks x)) && clears d (x .tables) (received clock (due x) room)
+clearing d x (direct q) = isPass (verdict (directChecks x)) && clears d (x .tables) q
+
+-- no credential row is added or removed, and the tables are not cleared
+abbrev pub Undisturbed : Defaults → Terminal → List Input → Type 0
+Undisturbed d x [] = Unit {0}
+Undisturbed d x (i ∷ is) = (seats (next d x i .tables) ≡ seats (x .tables)) × (clearing d x i ≡ false) × Undisturbed d (next d x i) is
+
+-- ---- where records come from, and go
+
+-- the records that wait
+abbrev pub recordsIn : Terminal → List (List ℕ)
+recordsIn x = map recordOf (waiting (x .memory))
+
+-- the records handed in that are kept
+abbrev pub recordIf : List ℕ → Check → List (List ℕ)
+recordIf r Pass = r ∷ []
+recordIf r (Refuse n) = []
+
+abbrev pub keptAt : Defaults → Terminal → Input → List (List ℕ)
+keptAt d x (handIn r) = recordIf r (verdict (handInChecks x r))
+keptAt d x (takeAt clock room) = []
+keptAt d x (direct q) = []
+
+abbrev pub allKept : Defaults → Terminal → List Input → List (List ℕ)
+allKept d = collected (next d) (keptAt d)
+
+-- the waiting records that are dropped: with their credential rows, or all where the tables are cleared
+abbrev pub droppedBy : Defaults → Tables → Request → List Row → Check → List (List ℕ)
+droppedBy d t q ws Pass = map recordOf (cond (clears d t q) ws (kept (gone (seats (tablesAfter d t q))) ws))
+droppedBy d t q ws (Refuse n) = []
+
+abbrev pub droppedAt : Defaults → Terminal → Input → List (List ℕ)
+droppedAt d x (handIn r) = []
+droppedAt d x (takeAt clock room) = droppedBy d (x .tables) (received clock (due x) room) (without (hasKey 0 (turn x)) (waiting (x .memory))) (verdict (takeChecks x))
+droppedAt d x (direct q) = droppedBy d (x .tables) q (waiting (x .memory)) (verdict (directChecks x))
+
+abbrev pub allDropped : Defaults → Terminal → List Input → List (List ℕ)
+allDropped d = collected (next d) (droppedAt d)
+
+-- how many of the records pass a test
+unfoldable pub countOf : (List ℕ → Bool) → List (List ℕ) → ℕ
+countOf p [] = 0
+countOf p (r ∷ rs) = cond (p r) 1 0 + countOf p rs

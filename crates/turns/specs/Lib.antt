@@ -1,2 +1,0 @@
--- What the contracts of `turns` cite.
-pub mod Turns
