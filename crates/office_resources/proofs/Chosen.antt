@@ -1,42 +1,65 @@
 -- Which choices a row names, and the texts that are left from a choice on.
-use Rattle.rows.proofs.Prelude.{_≡_, refl, ap, ap₂, _∙_, Bool, true, false, cond, List, [], _∷_, _++_, map, ℕ, zero, suc, _≤_, _<_, arith, length, drop, getD}
+use Rattle.rows.proofs.Prelude.{_≡_, refl, ap, ap₂, sym, _∙_, Bool, true, false, not, _&&_, cond, List, [], _∷_, _++_, map, ℕ, zero, suc, _+_, _≤_, _<_, arith, length, drop, getD, append-nil}
 use Rattle.rows.proofs.Prelude.{drop-cons}
+use Prim.Native.String.{String}
+use Rattle.text.specs.Text.{ascii}
 use Rattle.text.specs.Buffer.{Puts}
 use Rattle.rows.specs.Rows.{Row}
+use Rattle.rules.specs.Lookup.{lookup}
 use Rattle.rules.specs.Bodies.{inSet, acePlus, aceMinus, aceStar}
-use Rattle.rules_office.specs.Office.{comma, separated, choices, chosen, picked, braced}
+use Rattle.rules_office.specs.Office.{comma, separated, names, href, choices, chosen, picked, braced}
+
+-- ---- a resource's name by its number
+
+-- the name beside a number that is known
+pub name-puts : {n j at r : ℕ} {o x o′ : List ℕ} (es : List (ℕ × String)) → n ≡ j → ascii (lookup j es "") ≡ x → Puts o at x o′ r → Puts o at (ascii (lookup n es "")) o′ r
+name-puts es e h p = rw (ap (λ (m : ℕ). ascii (lookup m es "")) e ∙ h) p
+
+-- ---- the choices with a number
 
 abbrev pub numbers : List ℕ
-numbers = 0 ∷ 1 ∷ 2 ∷ 3 ∷ 4 ∷ 8 ∷ 9 ∷ 10 ∷ 11 ∷ 12 ∷ 13 ∷ 14 ∷ 16 ∷ []
+numbers = map (λ (e : ℕ × String). e .0) names
 
-getD-map : (f : ℕ → Bool) (ns : List ℕ) (bs : List Bool) (k : ℕ) → k < length ns → f (getD ns k 0) ≡ getD (map f ns ++ bs) k false
-getD-map f [] bs k h = absurd (omega arith)
-getD-map f (n ∷ ns) bs zero h = refl
-getD-map f (n ∷ ns) bs (suc k) h = getD-map f ns bs k (omega arith)
+-- how many they are
+abbrev pub count : ℕ
+count = length numbers
 
-pub in-number : (w : Row) (k : ℕ) → k < 13 → inSet w (getD numbers k 0) ≡ getD (chosen w) k false
+getD-map : {A : Type 0} (d : A) (f : ℕ → A) (ns : List ℕ) (xs : List A) (k : ℕ) → k < length ns → f (getD ns k 0) ≡ getD (map f ns ++ xs) k d
+getD-map d f [] xs k h = absurd (omega arith)
+getD-map d f (n ∷ ns) xs zero h = refl
+getD-map d f (n ∷ ns) xs (suc k) h = getD-map d f ns xs k (omega arith)
+
+in-number : (w : Row) (k : ℕ) → k < count → inSet w (getD numbers k 0) ≡ getD (chosen w) k false
 unfolding chosen
-in-number w k h = getD-map (inSet w) numbers (acePlus w ∷ aceMinus w ∷ aceStar w ∷ []) k h
+in-number w k h = getD-map false (inSet w) numbers (acePlus w ∷ aceMinus w ∷ aceStar w ∷ []) k h
 
--- what is left from choice k on
+href-number : (k : ℕ) → k < count → href (lookup (getD numbers k 0) names "") ≡ getD choices k []
+unfolding choices
+href-number k h = getD-map [] (λ (n : ℕ). href (lookup n names "")) numbers (drop count choices) k h
+
+-- ---- what is left from choice k on
+
 abbrev pub items : Row → Bool → ℕ → List ℕ
 items w first k = separated first (map braced (picked (drop k (chosen w)) (drop k choices)))
 
-module _ (w : Row) (first : Bool) (k : ℕ) (h : k < 16) where
-  here : picked (drop k (chosen w)) (drop k choices) ≡ cond (getD (chosen w) k false) (getD choices k [] ∷ picked (drop (suc k) (chosen w)) (drop (suc k) choices)) (picked (drop (suc k) (chosen w)) (drop (suc k) choices))
+-- choice k, if it is named, and then the others
+one : (first b : Bool) (bs : List Bool) (x : List ℕ) (xs : List (List ℕ))
+    → separated first (map braced (picked (b ∷ bs) (x ∷ xs))) ≡ cond b (comma first ++ braced x) [] ++ separated (not b && first) (map braced (picked bs xs))
+one first true bs x xs = refl
+one first false bs x xs = refl
+
+module _ (w : Row) (first : Bool) (k : ℕ) where
+  pub items-next : {b : Bool} → k < count + 3 → b ≡ getD (chosen w) k false → items w first k ≡ cond b (comma first ++ braced (getD choices k [])) [] ++ items w (not b && first) (suc k)
   unfolding chosen choices
-  here = ap₂ (λ (bs : List Bool) (xs : List (List ℕ)). picked bs xs) (drop-cons (chosen w) k false h) (drop-cons choices k [] h)
+  items-next {b} h e =
+      ap₂ (λ (bs : List Bool) (xs : List (List ℕ)). separated first (map braced (picked bs xs))) (drop-cons (chosen w) k false h) (drop-cons choices k [] h)
+      ∙ rw (← e) (one first b (drop (suc k) (chosen w)) (getD choices k []) (drop (suc k) choices))
 
-  pub items-skip : getD (chosen w) k false ≡ false → items w first k ≡ items w first (suc k)
-  items-skip e = rw (here, e)
+  -- the resource with the k-th known number
+  pub items-number : {b : Bool} → k < count → b ≡ inSet w (getD numbers k 0)
+      → items w first k ≡ cond b (comma first ++ braced (href (lookup (getD numbers k 0) names ""))) [] ++ items w (not b && first) (suc k)
+  items-number h e = rw (href-number k h) (items-next (omega arith) (e ∙ in-number w k h))
 
-  pub items-take : getD (chosen w) k false ≡ true → items w first k ≡ (comma first ++ braced (getD choices k [])) ++ items w false (suc k)
-  items-take e = rw (here, e)
-
-pub items-end : (w : Row) (first : Bool) (k : ℕ) → 16 ≤ k → k ≤ 16 → items w first k ≡ []
-unfolding chosen choices
-items-end w first k h l = let e : k ≡ 16 = omega arith in ap (items w first) e
-
--- the text of the choice with a known number
-pub choice-puts : {k j at r : ℕ} {o x o′ : List ℕ} → k ≡ j → braced (getD choices j []) ≡ x → Puts o at x o′ r → Puts o at (braced (getD choices k [])) o′ r
-choice-puts e h p = rw (ap (λ (n : ℕ). braced (getD choices n [])) e ∙ h) p
+  -- the wildcards alone
+  pub items-last : count ≤ k → k ≤ count → items w first k ≡ items w first count ++ []
+  items-last h l = let e : k ≡ count = omega arith in ap (items w first) e ∙ sym (append-nil (items w first count))

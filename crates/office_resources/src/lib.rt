@@ -2,13 +2,13 @@
 // Every public function is total: a byte past the buffer's end is not written, and the position goes on.
 use fields::ace;
 use text::put;
-ghost use mathlib.Core.Path.{_≡_};
-ghost use mathlib.Core.Bool.{false};
-ghost use mathlib.Core.List.{[], _++_};
-ghost use Prim.Native.Nat.{_≤_, _<_};
-ghost use lib.ListN.{getD};
+ghost use mathlib.Core.Bool.{cond};
+ghost use mathlib.Core.List.{[], _++_, map};
+ghost use lib.ListN.{length, drop};
+ghost use Rattle.text.specs.Text.{ascii};
 ghost use Rattle.text.specs.Buffer.{Puts};
-ghost use Rattle.rules_office.specs.Office.{comma, choices, chosen, braced, resourcesText};
+ghost use Rattle.rules.specs.Lookup.{lookup};
+ghost use Rattle.rules_office.specs.Office.{comma, separated, names, href, choices, chosen, picked, braced, resourcesText};
 
 // A comma, but not before the first.
 // Rules out: a comma before the first; none before the second.
@@ -21,99 +21,77 @@ pub fn put_comma(out: &mut [u8], at: usize, first: bool) -> usize
     put(out, at, b",")
 }
 
-fn put_security(out: &mut [u8], at: usize, k: usize) -> usize
-    requires { ⌜ k < 5 ⌝ }
-    ensures { λ r. ⌜ Puts (now (out .entry)) at (braced (getD choices k [])) (now (out .exit)) r ⌝ }
+// The names from number 8 on.
+fn put_application(out: &mut [u8], at: usize, n: u16) -> usize
+    ensures { λ r. ⌜ Puts (now (out .entry)) at (ascii (lookup n (drop 5 names) "")) (now (out .exit)) r ⌝ }
 {
-    match k {
-        0 => put(out, at, b"{\"href\":\"/oic/sec/doxm\"}"),
-        1 => put(out, at, b"{\"href\":\"/oic/sec/pstat\"}"),
-        2 => put(out, at, b"{\"href\":\"/oic/sec/cred\"}"),
-        3 => put(out, at, b"{\"href\":\"/oic/sec/acl2\"}"),
-        _ => put(out, at, b"{\"href\":\"/oic/sec/roles\"}"),
+    match n {
+        8 => put(out, at, b"/weight"),
+        9 => put(out, at, b"/tare"),
+        10 => put(out, at, b"/zero"),
+        11 => put(out, at, b"/ticket"),
+        12 => put(out, at, b"/lamp"),
+        13 => put(out, at, b"/calib"),
+        14 => put(out, at, b"/display"),
+        16 => put(out, at, b"/yard"),
+        _ => put(out, at, b""),
     }
 }
 
-fn put_scale(out: &mut [u8], at: usize, k: usize) -> usize
-    requires { ⌜ (5 ≤ k) × (k < 9) ⌝ }
-    ensures { λ r. ⌜ Puts (now (out .entry)) at (braced (getD choices k [])) (now (out .exit)) r ⌝ }
+// The name of resource n; a number that is not known has none.
+// In two groups, the first handing on to the second, since what a match costs to prove grows faster than its arms.
+fn put_name(out: &mut [u8], at: usize, n: u16) -> usize
+    ensures { λ r. ⌜ Puts (now (out .entry)) at (ascii (lookup n names "")) (now (out .exit)) r ⌝ }
 {
-    match k {
-        5 => put(out, at, b"{\"href\":\"/weight\"}"),
-        6 => put(out, at, b"{\"href\":\"/tare\"}"),
-        7 => put(out, at, b"{\"href\":\"/zero\"}"),
-        _ => put(out, at, b"{\"href\":\"/ticket\"}"),
+    match n {
+        0 => put(out, at, b"/oic/sec/doxm"),
+        1 => put(out, at, b"/oic/sec/pstat"),
+        2 => put(out, at, b"/oic/sec/cred"),
+        3 => put(out, at, b"/oic/sec/acl2"),
+        4 => put(out, at, b"/oic/sec/roles"),
+        _ => put_application(out, at, n),
     }
 }
 
-fn put_yard(out: &mut [u8], at: usize, k: usize) -> usize
-    requires { ⌜ (9 ≤ k) × (k < 13) ⌝ }
-    ensures { λ r. ⌜ Puts (now (out .entry)) at (braced (getD choices k [])) (now (out .exit)) r ⌝ }
+// Resource n, if the row names it.
+fn put_item(out: &mut [u8], at: usize, first: bool, named: bool, n: u16) -> usize
+    ensures { λ r. ⌜ Puts (now (out .entry)) at (cond named (comma first ++ braced (href (lookup n names ""))) []) (now (out .exit)) r ⌝ }
 {
-    match k {
-        9 => put(out, at, b"{\"href\":\"/lamp\"}"),
-        10 => put(out, at, b"{\"href\":\"/calib\"}"),
-        11 => put(out, at, b"{\"href\":\"/display\"}"),
-        _ => put(out, at, b"{\"href\":\"/yard\"}"),
+    if !named {
+        return put(out, at, b"");
     }
+    let p = put_comma(out, at, first);
+    let q = put(out, p, b"{\"href\":\"");
+    let r = put_name(out, q, n);
+    put(out, r, b"\"}")
 }
 
-fn put_wildcard(out: &mut [u8], at: usize, k: usize) -> usize
-    requires { ⌜ (13 ≤ k) × (k < 16) ⌝ }
-    ensures { λ r. ⌜ Puts (now (out .entry)) at (braced (getD choices k [])) (now (out .exit)) r ⌝ }
+// A wildcard's text, if the row names it.
+fn put_wildcard(out: &mut [u8], at: usize, first: bool, named: bool, text: &[u8]) -> usize
+    ensures { λ r. ⌜ Puts (now (out .entry)) at (cond named (comma first ++ now (text .entry)) []) (now (out .exit)) r ⌝ }
 {
-    match k {
-        13 => put(out, at, b"{\"wc\":\"+\"}"),
-        14 => put(out, at, b"{\"wc\":\"-\"}"),
-        _ => put(out, at, b"{\"wc\":\"*\"}"),
+    if !named {
+        return put(out, at, b"");
     }
+    let p = put_comma(out, at, first);
+    put(out, p, text)
 }
 
-// What a row's resources may name: the known resources by rising number, then the wildcards.
-// In four groups, since what a match costs to prove grows faster than its arms.
-fn put_choice(out: &mut [u8], at: usize, k: usize) -> usize
-    requires { ⌜ k < 16 ⌝ }
-    ensures { λ r. ⌜ Puts (now (out .entry)) at (braced (getD choices k [])) (now (out .exit)) r ⌝ }
+fn put_wildcards(out: &mut [u8], at: usize, first: bool, row: &[u8]) -> usize
+    ensures { λ r. ⌜ Puts (now (out .entry)) at (separated first (map braced (picked (drop (length names) (chosen (now (row .entry)))) (drop (length names) choices)))) (now (out .exit)) r ⌝ }
 {
-    if k < 5 {
-        return put_security(out, at, k);
-    }
-    if k < 9 {
-        return put_scale(out, at, k);
-    }
-    if k < 13 {
-        return put_yard(out, at, k);
-    }
-    put_wildcard(out, at, k)
+    let plus = ace::plus(row);
+    let minus = ace::minus(row);
+    let star = ace::star(row);
+    let p = put_wildcard(out, at, first, plus, b"{\"wc\":\"+\"}");
+    let q = put_wildcard(out, p, !plus & first, minus, b"{\"wc\":\"-\"}");
+    put_wildcard(out, q, !minus & (!plus & first), star, b"{\"wc\":\"*\"}")
 }
 
 // The numbers of the known resources.
 const NUMBERS: [u16; 13] = [0, 1, 2, 3, 4, 8, 9, 10, 11, 12, 13, 14, 16];
 
-// Whether the row names choice k.
-fn is_chosen(row: &[u8], k: usize) -> bool
-    requires { ⌜ k < 16 ⌝ }
-    ensures { λ r. ⌜ r ≡ getD (chosen (now (row .entry))) k false ⌝ }
-{
-    if k < 13 {
-        return ace::in_set(row, NUMBERS[k]);
-    }
-    match k {
-        13 => ace::plus(row),
-        14 => ace::minus(row),
-        _ => ace::star(row),
-    }
-}
-
-fn put_item(out: &mut [u8], at: usize, first: bool, k: usize) -> usize
-    requires { ⌜ k < 16 ⌝ }
-    ensures { λ r. ⌜ Puts (now (out .entry)) at (comma first ++ braced (getD choices k [])) (now (out .exit)) r ⌝ }
-{
-    let p = put_comma(out, at, first);
-    put_choice(out, p, k)
-}
-
-// The resources of a row: those that it names, with a comma between them.
+// The resources of a row: those that it names, with a comma between them, and then its wildcards.
 // Rules out: the wildcards before the resources; a resource that is not in the set.
 pub fn put_resources(out: &mut [u8], at: usize, row: &[u8]) -> usize
     ensures { λ r. ⌜ Puts (now (out .entry)) at (resourcesText (now (row .entry))) (now (out .exit)) r ⌝ }
@@ -121,14 +99,12 @@ pub fn put_resources(out: &mut [u8], at: usize, row: &[u8]) -> usize
     let mut p = at;
     let mut first = true;
     let mut k = 0;
-    while k < 16 {
-        if !is_chosen(row, k) {
-            k += 1;
-            continue;
-        }
-        p = put_item(out, p, first, k);
-        first = false;
+    while k < NUMBERS.len() {
+        let n = NUMBERS[k];
+        let named = ace::in_set(row, n);
+        p = put_item(out, p, first, named, n);
+        first = !named & first;
         k += 1;
     }
-    p
+    put_wildcards(out, p, first, row)
 }

@@ -1,35 +1,25 @@
--- `put_wildcard`: an arm for each choice, and the last for the one that is left.
-use Rattle.rows.proofs.Prelude.{_≡_, refl, ℕ, _≤_, _<_, arith, needs}
-use Rattle.text.specs.Text.{ascii}
-use Rattle.rows.specs.Rows.{joined}
-use Rattle.rules_office.specs.Office.{choices, href, braced}
-use Rattle.office_resources.proofs.Chosen.{choice-puts}
+-- `put_wildcard`: a comma and the text, or nothing.
+use Rattle.rows.proofs.Prelude.{arith, needs, not-false, not-true}
+use Rattle.text.proofs.Buffers.{puts-then}
 use Rattle.office_resources.proofs.put_wildcard.Statement.{statement}
 use Rattle.office_resources.proofs.put_wildcard.Tie as tie
 
 returns : tie.Need-returns
-unfolding choices href braced joined ascii
-returns c = let put = c .before .before in choice-puts (put .before .before .before .match .keys1) refl (put .put .ensures)
+returns c =
+    let put = c .before .before in
+    let test = put .before .before .before in
+    rw (not-true (test .before .before .before .args .named) (test .if1 .taken)) (put .put .ensures)
 
 returns-2 : tie.Need-returns-2
-unfolding choices href braced joined ascii
-returns-2 c = let put = c .before .before in choice-puts (put .before .before .before .match .keys2) refl (put .put2 .ensures)
-
--- none of the numbers before
-left : (k : ℕ) → 13 ≤ k → k < 16 → (k ≡ 13 → ⊥) → (k ≡ 14 → ⊥) → k ≡ 15
-left k l h a b = omega arith
-
-last : (c : tie.At-match-rest) → c .before .before .args .k ≡ 15
-last c = let r = c .match .rest in left (c .before .before .args .k) (c .before .before .pre .0) (c .before .before .pre .1) (r .0 .1) (r .1)
-
-returns-3 : tie.Need-returns-3
-unfolding choices href braced joined ascii
-returns-3 c = let put = c .before .before in choice-puts (last (put .before .before .before)) refl (put .put3 .ensures)
+returns-2 c =
+    let put = c .before .before in
+    let comma = put .before .before .before .before in
+    let test = comma .before .before in
+    rw (not-false (test .before .before .before .args .named) (test .if1 .left)) (puts-then (omega arith) (comma .put-comma .ensures) (put .put2 .ensures))
 
 pub put-wildcard-spec : {M : Type 1} → statement M
 put-wildcard-spec =
     tie.close
     (tie.spec
-    (λ c. search needs) (λ c κs. search needs) (λ c. search needs) (λ c κs. search needs) (λ c. search needs) (λ c κs. search needs) (λ c. search needs) returns
-    (λ c. search needs) returns-2
-    (λ c. search needs) returns-3)
+    (λ c. search needs) (λ c κs. search needs) (λ c. search needs) returns
+    (λ c κs. search needs) (λ c κs. search needs) (λ c. search needs) returns-2)
