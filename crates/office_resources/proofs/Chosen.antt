@@ -1,4 +1,4 @@
--- Which choices a row names, and the texts that are left from a choice on.
+-- A resource's name by its number, which choices a row names, and the texts that are left from a choice on.
 use Rattle.rows.proofs.Prelude.{_≡_, refl, ap, ap₂, sym, _∙_, Bool, true, false, not, _&&_, cond, List, [], _∷_, _++_, map, ℕ, zero, suc, _+_, _≤_, _<_, arith, length, drop, getD, append-nil}
 use Rattle.rows.proofs.Prelude.{drop-cons}
 use Prim.Native.String.{String}

@@ -21,7 +21,7 @@ pub fn put_comma(out: &mut [u8], at: usize, first: bool) -> usize
     put(out, at, b",")
 }
 
-// The names from number 8 on.
+// The names of the application resources, which stand in `names` after the five of security.
 fn put_application(out: &mut [u8], at: usize, n: u16) -> usize
     ensures { λ r. ⌜ Puts (now (out .entry)) at (ascii (lookup n (drop 5 names) "")) (now (out .exit)) r ⌝ }
 {
@@ -77,6 +77,7 @@ fn put_wildcard(out: &mut [u8], at: usize, first: bool, named: bool, text: &[u8]
     put(out, p, text)
 }
 
+// The wildcards: what may be named after the known resources.
 fn put_wildcards(out: &mut [u8], at: usize, first: bool, row: &[u8]) -> usize
     ensures { λ r. ⌜ Puts (now (out .entry)) at (separated first (map braced (picked (drop (length names) (chosen (now (row .entry)))) (drop (length names) choices)))) (now (out .exit)) r ⌝ }
 {
