@@ -4,6 +4,7 @@ use Rattle.rows.proofs.Prelude.{drop-cons}
 use Prim.Native.String.{String}
 use Rattle.text.specs.Text.{ascii}
 use Rattle.text.specs.Buffer.{Puts}
+use Rattle.text.proofs.Buffers.{Writing, writing-step}
 use Rattle.rows.specs.Rows.{Row}
 use Rattle.rules.specs.Lookup.{lookup}
 use Rattle.rules.specs.Bodies.{inSet, acePlus, aceMinus, aceStar}
@@ -29,36 +30,36 @@ getD-map d f [] xs k h = absurd (omega arith)
 getD-map d f (n ∷ ns) xs zero h = refl
 getD-map d f (n ∷ ns) xs (suc k) h = getD-map d f ns xs k (omega arith)
 
-in-number : (w : Row) (k : ℕ) → k < count → inSet w (getD numbers k 0) ≡ getD (chosen w) k false
+pub in-number : (w : Row) (k : ℕ) → k < count → inSet w (getD numbers k 0) ≡ getD (chosen w) k false
 unfolding chosen
 in-number w k h = getD-map false (inSet w) numbers (acePlus w ∷ aceMinus w ∷ aceStar w ∷ []) k h
 
-href-number : (k : ℕ) → k < count → href (lookup (getD numbers k 0) names "") ≡ getD choices k []
+pub href-number : (k : ℕ) → k < count → braced (href (lookup (getD numbers k 0) names "")) ≡ braced (getD choices k [])
 unfolding choices
-href-number k h = getD-map [] (λ (n : ℕ). href (lookup n names "")) numbers (drop count choices) k h
+href-number k h = ap braced (getD-map [] (λ (n : ℕ). href (lookup n names "")) numbers (drop count choices) k h)
 
 -- ---- what is left from choice k on
 
 abbrev pub items : Row → Bool → ℕ → List ℕ
 items w first k = separated first (map braced (picked (drop k (chosen w)) (drop k choices)))
 
--- choice k, if it is named, and then the others
+-- the first, if it is named, and then the others
 one : (first b : Bool) (bs : List Bool) (x : List ℕ) (xs : List (List ℕ))
     → separated first (map braced (picked (b ∷ bs) (x ∷ xs))) ≡ cond b (comma first ++ braced x) [] ++ separated (not b && first) (map braced (picked bs xs))
 one first true bs x xs = refl
 one first false bs x xs = refl
 
 module _ (w : Row) (first : Bool) (k : ℕ) where
-  pub items-next : {b : Bool} → k < count + 3 → b ≡ getD (chosen w) k false → items w first k ≡ cond b (comma first ++ braced (getD choices k [])) [] ++ items w (not b && first) (suc k)
+  items-next : {b : Bool} → k < count + 3 → b ≡ getD (chosen w) k false → items w first k ≡ cond b (comma first ++ braced (getD choices k [])) [] ++ items w (not b && first) (suc k)
   unfolding chosen choices
   items-next {b} h e =
       ap₂ (λ (bs : List Bool) (xs : List (List ℕ)). separated first (map braced (picked bs xs))) (drop-cons (chosen w) k false h) (drop-cons choices k [] h)
       ∙ rw (← e) (one first b (drop (suc k) (chosen w)) (getD choices k []) (drop (suc k) choices))
 
-  -- the resource with the k-th known number
-  pub items-number : {b : Bool} → k < count → b ≡ inSet w (getD numbers k 0)
-      → items w first k ≡ cond b (comma first ++ braced (href (lookup (getD numbers k 0) names ""))) [] ++ items w (not b && first) (suc k)
-  items-number h e = rw (href-number k h) (items-next (omega arith) (e ∙ in-number w k h))
+  -- choice k is put, if it is named: x is its text
+  pub items-put : {o whole out x out′ : List ℕ} {at p p′ : ℕ} {b : Bool} → k < count + 3 → b ≡ getD (chosen w) k false → Writing o at whole (items w first k) out p
+      → Puts out p (cond b (comma first ++ x) []) out′ p′ → x ≡ braced (getD choices k []) → Writing o at whole (items w (not b && first) (suc k)) out′ p′
+  items-put h e v q d = writing-step _ _ v (rw d (items-next h e)) q
 
   -- the wildcards alone
   pub items-last : count ≤ k → k ≤ count → items w first k ≡ items w first count ++ []

@@ -1,8 +1,8 @@
 -- `put_resources`: the items from the k-th known number on are still to be put.
-use Rattle.rows.proofs.Prelude.{refl, _∙_, true, _-_, _≤_, add-one, arith, now, needs}
+use Rattle.rows.proofs.Prelude.{refl, _∙_, true, _-_, _≤_, _<_, add-one, arith, now, needs}
 use Rattle.text.proofs.Buffers.{Writing, writing-start, writing-step, writing-end, writing-length, puts-length}
 use Rattle.rules_office.specs.Office.{resourcesText}
-use Rattle.office_resources.proofs.Chosen.{count, items, items-number, items-last}
+use Rattle.office_resources.proofs.Chosen.{count, items, in-number, href-number, items-put, items-last}
 use Rattle.office_resources.proofs.put_resources.Statement.{statement}
 use Rattle.office_resources.proofs.put_resources.Tie as tie
 
@@ -20,8 +20,10 @@ loop-again c =
     let item = c .before .before in
     let set = item .before .before in
     let loop = set .before .before in
-    let e = items-number (now (loop .before .before .before .args .row)) (loop .loop .first) (loop .loop .k) (omega arith) (set .in-set .ensures) in
-    (omega arith, rw (add-one (loop .loop .k)) (writing-step _ _ (loop .loop .inv .1) e (item .put-item .ensures)))
+    let w = now (loop .before .before .before .args .row) in
+    let k = loop .loop .k in
+    let h : k < count = omega arith in
+    (omega arith, rw (add-one k) (items-put w (loop .loop .first) k (omega arith) (set .in-set .ensures ∙ in-number w k h) (loop .loop .inv .1) (item .put-item .ensures) (href-number k h)))
 
 same-length : tie.Need-same-length Inv-loop μ-loop
 same-length c = let put = c .before .before in puts-length (put .put-wildcards .ensures) ∙ writing-length (put .before .before .before .loop .inv .1)
