@@ -127,7 +127,7 @@ fn drop_gone(rows: u8, creds: &[u8; CRED_ROWS], slots: &mut [u8], count: usize) 
 }
 
 // Whether the round keeps its place beside `count` credential rows: it begins anew, or its seat is one of theirs.
-// Rules out: a round after a seat that no row has; one that begins anew taken for lost.
+// Rules out: a round after a seat that no row has; one lost whose seat a row has. Of a round that begins anew either may be said: it is anew both ways.
 pub fn round_held(count: u8, creds: &[u8; CRED_ROWS], memory: &[u8]) -> bool
     requires { ⌜ IsQueue (now memory) ⌝ }
     ensures { λ r. ⌜ heldRound (seatsIn count (now (creds .entry))) (roundOf (now (memory .entry))) ≡ cond r (roundOf (now (memory .entry))) anew ⌝ }

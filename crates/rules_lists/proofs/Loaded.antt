@@ -177,7 +177,7 @@ reply-loaded d t u q n qs l p ready e =
     (all-may Aces u (storing n) (owner-may u n (ready .isSound) (ready .owner) (ready .number)) (rowsOfReply Aces (toldTo d t q .contents)) qs
     (rw (rows-told d Aces t q p l) (long-bodies Aces t (retrieved-sound d Aces t q p))) e)
 
--- the same of any calls that meet the contract of `judge`, beside memory that is sound where the tables are
+-- the same of any calls that meet the contracts of `judge` and `payload`, beside memory that is sound where the tables are
 pub built-loaded : (d : Defaults) (x : Terminal) (n : ℕ) (b : List ℕ) (qs : List Request) (cs : List Call)
     → listTested b .answer ≡ 0 → Ready n (x .tables) → Whole x → Stores n qs (listed b) → Built d x (map direct qs) cs
     → (map (λ (p : Told). p .answer) (map told cs) ≡ map (λ (q : Request). 0) qs)

@@ -1,18 +1,17 @@
--- Theorem, demand 3 of C calls: what the C functions give, by the very equations that their contracts promise, and the payload read at its start and length
+-- Theorem, demand 3 of C calls: what the C functions give (CHandsIn, CTakes and CJudges, which their contracts cite), with the payload read at its start and length,
 -- are calls as `built-isolation` takes them (rules_waiting/proofs/Built.antt), each on the tables and the memory handed back last.
 use Rattle.rows.proofs.Prelude.{_≡_, sym, ap, _∙_, Bool, List, [], _∷_, ℕ, length, take}
 use Rattle.rules.specs.Record.{Request, Sender}
 use Rattle.rules.specs.Defaults.{Defaults}
 use Rattle.rules.specs.Outcome.{Said, payloadAt}
 use Rattle.rules.specs.Run.{kept}
-use Rattle.rules_waiting.specs.Terminal.{Terminal, terminal, handedIn, taken, judged}
-use Rattle.rules_waiting.specs.Calls.{Leaves}
+use Rattle.rules_waiting.specs.Terminal.{Terminal, terminal, taken, judged}
 use Rattle.rules_waiting.specs.Inputs.{Input, handIn, takeAt, direct, othersTurn}
 use Rattle.rules_waiting.proofs.Isolated.{Premises, AsTheBook}
 use Rattle.rules_waiting.proofs.Built.{Call, Meets, Built, handedBack, callTurns, record-back, built-isolation}
 use Rattle.terminal.specs.declared.Outcome.{Outcome}
 use Rattle.terminal.specs.declared.Turn.{Turn}
-use Rattle.terminal.specs.Interface.{exported, turnOf}
+use Rattle.terminal.specs.Interface.{exported, turnOf, CHandsIn, CTakes, CJudges}
 use Rattle.terminal.proofs.Payload.{partAt, judged-payload, taken-payload, payload-found, payload-taken}
 
 -- ---- what the calls of a run gave
@@ -29,11 +28,10 @@ pub record CCall : Type 0 where
 
 -- what the contract of the input's C function promises on the terminal x; the length that it speaks of is that of the buffer
 abbrev pub Promised : Defaults → Terminal → Input → CCall → Type 0
-Promised d x (handIn r) c = (c .outcome ≡ exported (handedIn x r)) × (c .memory ≡ handedIn x r .terminal .memory)
+Promised d x (handIn r) c = CHandsIn x r (c .outcome) (c .memory)
 Promised d x (takeAt clock room) c =
-    (record { outcome = c .outcome; size = c .size; bytes = c .bytes } ≡ turnOf (taken d x clock room))
-    × (Leaves (taken d x clock room) (c .lent) (c .memory) (c .buffer) × (length (c .lent) ≡ room))
-Promised d x (direct q) c = (c .outcome ≡ exported (judged d x q)) × (Leaves (judged d x q) (c .lent) (c .memory) (c .buffer) × (length (c .lent) ≡ q .room))
+    CTakes d x clock room (record { outcome = c .outcome; size = c .size; bytes = c .bytes }) (c .lent) (c .memory) (c .buffer) × (length (c .lent) ≡ room)
+Promised d x (direct q) c = CJudges d x q (c .outcome) (c .lent) (c .memory) (c .buffer) × (length (c .lent) ≡ q .room)
 
 -- the first call on the terminal x, and each later one on what was handed back last
 abbrev pub CBuilt : Defaults → Terminal → List Input → List CCall → Type 0
@@ -87,14 +85,14 @@ module _ (d : Defaults) (x : Terminal) where
   take-passes clock room u e = rw (e, record-back (taken d x clock room .bytes)) (payload-taken d x clock room ∙ sym (taken-payload d x clock room))
 
   pub c-meets : (i : Input) (c : CCall) → Promised d x i c → Meets d x i (callOf i c)
-  c-meets (handIn r) c p = record { says = ap saidIn (p .0); keeps = p .1 }
+  c-meets (handIn r) c p = record { says = ap saidIn (p .gives); keeps = p .keeps }
   c-meets (takeAt clock room) c p = (
-    record { hands = ap (λ (u : Turn). record { judgement = saidIn (u .outcome); size = u .size; bytes = u .bytes }) (p .0); leaves = p .1 .0 },
-    record { sized = p .1 .1; passes = take-passes clock room _ (p .0) },
+    record { hands = ap (λ (u : Turn). record { judgement = saidIn (u .outcome); size = u .size; bytes = u .bytes }) (p .0 .gives); leaves = p .0 .leaves },
+    record { sized = p .1; passes = take-passes clock room _ (p .0 .gives) },
   )
   c-meets (direct q) c p = (
-    record { says = ap saidIn (p .0); leaves = p .1 .0 },
-    record { sized = p .1 .1; passes = direct-passes q (c .outcome) (p .0) },
+    record { says = ap saidIn (p .0 .gives); leaves = p .0 .leaves },
+    record { sized = p .1; passes = direct-passes q (c .outcome) (p .0 .gives) },
   )
 
 -- ---- the run

@@ -1,12 +1,17 @@
 -- An answer as C sees it: the payload as its start and length within the record.
 -- A payload follows the header's four bytes; of none, both are 0. The reply's bytes stand in the lent buffer.
 use Prim.Native.Nat.{ℕ}
+use mathlib.Core.Path.{_≡_}
 use mathlib.Core.Bool.{cond}
+use mathlib.Core.List.{List}
 use lib.Dec.{eqb}
 use lib.ListN.{length}
+use Rattle.rules.specs.Record.{Request}
+use Rattle.rules.specs.Defaults.{Defaults}
 use Rattle.rules.specs.Outcome.{Said}
 use Rattle.rules_waiting.specs.Slots.{padded}
-use Rattle.rules_waiting.specs.Terminal.{Answered, said}
+use Rattle.rules_waiting.specs.Terminal.{Terminal, Answered, handedIn, taken, judged, said}
+use Rattle.rules_waiting.specs.Calls.{Leaves}
 use Rattle.terminal.specs.declared.Outcome.{Outcome}
 use Rattle.terminal.specs.declared.Turn.{Turn}
 
@@ -34,3 +39,20 @@ exported a = outcomeIn (said a) (length (a .told .payload))
 -- of a take: with it the record, and zeros behind it
 abbrev pub turnOf : Answered → Turn
 turnOf a = record { outcome = exported a; size = length (a .bytes); bytes = padded (a .bytes) }
+
+-- ---- what a C call gives on a terminal x, with default rows d, and what it leaves of the memory and the lent buffer
+
+-- a record is handed in
+pub record CHandsIn (x : Terminal) (r : List ℕ) (o : Outcome) (memory : List ℕ) : Type 0 where
+  pub gives : o ≡ exported (handedIn x r)
+  pub keeps : memory ≡ handedIn x r .terminal .memory
+
+-- a take, at a clock, with a buffer of a length
+pub record CTakes (d : Defaults) (x : Terminal) (clock room : ℕ) (u : Turn) (lent memory buffer : List ℕ) : Type 0 where
+  pub gives : u ≡ turnOf (taken d x clock room)
+  pub leaves : Leaves (taken d x clock room) lent memory buffer
+
+-- a record is judged at once
+pub record CJudges (d : Defaults) (x : Terminal) (q : Request) (o : Outcome) (lent memory buffer : List ℕ) : Type 0 where
+  pub gives : o ≡ exported (judged d x q)
+  pub leaves : Leaves (judged d x q) lent memory buffer

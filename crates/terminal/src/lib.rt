@@ -16,12 +16,11 @@ ghost use Rattle.rules.specs.Record.{received};
 ghost use Rattle.rules.specs.Reading.{filled};
 ghost use Rattle.rules.specs.Checks.{numberOf};
 ghost use Rattle.rules.specs.Outcome.{saidOf};
-ghost use Rattle.rules_waiting.specs.Terminal.{terminal, freshTerminal, clearedTerminal, handedIn, taken, judged};
-ghost use Rattle.rules_waiting.specs.Calls.{Leaves};
+ghost use Rattle.rules_waiting.specs.Terminal.{terminal, freshTerminal, clearedTerminal};
 ghost use Rattle.rules_office.specs.Office.{officeVerdict, officeReply};
 ghost use Rattle.rules_lists.specs.Lists.{listTested};
 ghost use Rattle.rules_legacy.specs.Conversion.{conversionVerdict, conversionReply};
-ghost use Rattle.terminal.specs.Interface.{startOf, outcomeIn, exported, turnOf};
+ghost use Rattle.terminal.specs.Interface.{startOf, outcomeIn, CHandsIn, CTakes, CJudges};
 
 // What becomes of a record. Without a payload both its start and its length are 0; `reply` is the length written to the lent buffer;
 // `first` and `many` are the places of the table to store after a DELETE; `set` and `size` are the links of /yard.
@@ -126,8 +125,7 @@ pub extern "C" fn tillerclover_judge(
     record: &[u8],
     reply: &mut [u8],
 ) -> Outcome
-    ensures said { λ r. ⌜ r ≡ exported (judged (defaults (now (creds .entry)) (now (aces .entry))) (terminal t (now (memory .entry))) (received clock (now («record» .entry)) (length (now (reply .entry))))) ⌝ }
-    ensures left { λ _. ⌜ Leaves (judged (defaults (now (creds .entry)) (now (aces .entry))) (terminal t (now (memory .entry))) (received clock (now («record» .entry)) (length (now (reply .entry))))) (now (reply .entry)) (now (memory .exit)) (now (reply .exit)) ⌝ }
+    ensures { λ r. ⌜ CJudges (defaults (now (creds .entry)) (now (aces .entry))) (terminal t (now (memory .entry))) (received clock (now («record» .entry)) (length (now (reply .entry)))) r (now (reply .entry)) (now (memory .exit)) (now (reply .exit)) ⌝ }
 {
     let mut cred_rows = t.creds;
     let mut ace_rows = t.aces;
@@ -154,8 +152,7 @@ pub extern "C" fn tillerclover_hand_in(
     memory: &mut [u8; MEMORY],
     record: &[u8],
 ) -> Outcome
-    ensures said { λ r. ⌜ r ≡ exported (handedIn (terminal t (now (memory .entry))) (now («record» .entry))) ⌝ }
-    ensures memory { λ _. ⌜ now (memory .exit) ≡ handedIn (terminal t (now (memory .entry))) (now («record» .entry)) .terminal .memory ⌝ }
+    ensures { λ r. ⌜ CHandsIn (terminal t (now (memory .entry))) (now («record» .entry)) r (now (memory .exit)) ⌝ }
 {
     let j = queue_intake::hand_in(t.head(), &t.creds, &t.aces, memory, record);
     export(j, t.creds, t.aces, 0)
@@ -172,8 +169,7 @@ pub extern "C" fn tillerclover_take(
     clock: u32,
     reply: &mut [u8],
 ) -> Turn
-    ensures said { λ r. ⌜ r ≡ turnOf (taken (defaults (now (creds .entry)) (now (aces .entry))) (terminal t (now (memory .entry))) clock (length (now (reply .entry)))) ⌝ }
-    ensures left { λ _. ⌜ Leaves (taken (defaults (now (creds .entry)) (now (aces .entry))) (terminal t (now (memory .entry))) clock (length (now (reply .entry)))) (now (reply .entry)) (now (memory .exit)) (now (reply .exit)) ⌝ }
+    ensures { λ r. ⌜ CTakes (defaults (now (creds .entry)) (now (aces .entry))) (terminal t (now (memory .entry))) clock (length (now (reply .entry))) r (now (reply .entry)) (now (memory .exit)) (now (reply .exit)) ⌝ }
 {
     let mut cred_rows = t.creds;
     let mut ace_rows = t.aces;

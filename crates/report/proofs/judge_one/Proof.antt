@@ -28,7 +28,7 @@ returns : tie.Need-returns
 returns c =
     let call = c .before .before in
     let s = call .before .before .before .before .before .before in
-    as-judged (s .args .t) (lent (s .args .clock) (now (s .args .«record»))) _ (call .tillerclover-judge .ensures .0)
+    as-judged (s .args .t) (lent (s .args .clock) (now (s .args .«record»))) _ (call .tillerclover-judge .ensures .gives)
 
 pub judge-one-spec : {M : Type 1} → statement M
 judge-one-spec =

@@ -25,7 +25,7 @@ returns c =
     let head = call .before .before .before .before .before in
     let s = head .before .before in
     let gives = hands-whole (s .args .t1) (now (s .args .memory)) _ (head .head .ensures) _ _ _ (call .hand-in .ensures) in
-    (kept (terminal (s .args .t1) (now (s .args .memory))) (now (s .args .«record»)) _ _ (gives .says) (c .export .ensures), gives .keeps)
+    record { gives = kept (terminal (s .args .t1) (now (s .args .memory))) (now (s .args .«record»)) _ _ (gives .says) (c .export .ensures); keeps = gives .keeps }
 
 pub tillerclover-hand-in-spec : {M : Type 1} → statement M
 tillerclover-hand-in-spec =

@@ -23,7 +23,7 @@ returns c =
     let head = call .before .before .before .before .before in
     let s = head .before .before .before .before .before .before .before in
     let gives = judges-whole (s .args .t) (now (s .args .memory)) _ (head .head .ensures) _ _ _ _ _ _ (call .judge .ensures) in
-    (told _ _ _ _ _ _ (gives .says) (payload .payload .ensures) (c .export .ensures), gives .leaves)
+    record { gives = told _ _ _ _ _ _ (gives .says) (payload .payload .ensures) (c .export .ensures); leaves = gives .leaves }
 
 pub tillerclover-judge-spec : {M : Type 1} → statement M
 tillerclover-judge-spec =

@@ -64,7 +64,7 @@ returns : tie.Need-returns
 returns c =
     let payload = c .before in
     let call = payload .before .before .before .before .before .before in
-    (told _ _ _ _ (out-of call) _ _ (gives call .hands) (payload .payload .ensures) (c .export .ensures), gives call .leaves)
+    record { gives = told _ _ _ _ (out-of call) _ _ (gives call .hands) (payload .payload .ensures) (c .export .ensures); leaves = gives call .leaves }
 
 pub tillerclover-take-spec : {M : Type 1} → statement M
 tillerclover-take-spec =
