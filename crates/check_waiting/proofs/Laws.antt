@@ -52,7 +52,9 @@ zeros-behind (suc n) m (x ∷ b) h = rw (eq-eqb x x refl) (zeros-behind n m b (o
 
 -- the tests of a slot's bytes, joined as the code has them
 pub tested-slot : (w r : List ℕ) → length w ≡ 260 → r ≡ take (length r) (drop 4 w) → length r ≤ 256 → getD r 2 0 < 256 → getD r 3 0 < 256
-    → (((eqb (getD w 0 0) (getD r 2 0) && eqb (getD w 1 0) (getD r 3 0)) && (eqb (getD w 2 0) (length r / 256) && eqb (getD w 3 0) (length r % 256))) && allZero (drop (length r + 4) w)) ≡ same w (slotOf r)
+    → (((eqb (getD w 0 0) (getD r 2 0) && eqb (getD w 1 0) (getD r 3 0)) && (eqb (getD w 2 0) (length r / 256) && eqb (getD w 3 0) (length r % 256)))
+    && allZero (drop (length r + 4) w))
+    ≡ same w (slotOf r)
 unfolding slotOf seatOf padded word same
 tested-slot [] r l e h x y = absurd (omega arith)
 tested-slot (a ∷ []) r l e h x y = absurd (omega arith)
@@ -93,8 +95,11 @@ module _ (t : Tables) (w r : List ℕ) (is : r ≡ recordOf w) (c : Check) (told
     pub fits : (r ≡ take (length r) (drop 4 w)) × (4 ≤ length r) × (length r ≤ 256)
     unfolding recordOf
     fits =
-        let p = sym told ∙ e in
-        (is ∙ take-again (bits (drop 2 w) 0 16) (drop 4 w) ∙ ap (λ (l : List ℕ). take (length l) (drop 4 w)) (sym is), long-enough r (passed (senderChecks t r) p 2), short-record t r p)
+        let p = sym told ∙ e in (
+          is ∙ take-again (bits (drop 2 w) 0 16) (drop 4 w) ∙ ap (λ (l : List ℕ). take (length l) (drop 4 w)) (sym is),
+          long-enough r (passed (senderChecks t r) p 2),
+          short-record t r p,
+        )
 
     pub kept-is : (b : Bool) → b ≡ same w (slotOf r) → b ≡ slotSound t w
     unfolding slotSound

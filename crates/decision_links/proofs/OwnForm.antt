@@ -48,7 +48,8 @@ pub own-passes : (t : Tables) (r : List ℕ) (n : ℕ) → n < 64 → known n �
 own-passes t r n h k p =
     let by : (m : ℕ) → _ = passed (formChecks t r) p in
     let o = own r n (long-enough r (by 2)) h in
-    sym (skip-at 1 _ _ (by 1) (skip-at 2 _ _ (short r n) (skip-at 3 _ _ (verb-kept t r n o (by 3)) (skip-at 4 _ _ (zeros-kept t r n o) (skip-at 5 _ _ (match-kept t r n o (by 5)) (skip-at 6 _ _ (known-kept t r n o k) (skip-at 7 _ _ (row-kept t r n o (by 7)) none)))))))
+    sym (skip-at 1 _ _ (by 1) (skip-at 2 _ _ (short r n) (skip-at 3 _ _ (verb-kept t r n o (by 3)) (skip-at 4 _ _ (zeros-kept t r n o)
+    (skip-at 5 _ _ (match-kept t r n o (by 5)) (skip-at 6 _ _ (known-kept t r n o k) (skip-at 7 _ _ (row-kept t r n o (by 7)) none)))))))
 
 -- the sender's own row is that of the record that asks
 pub own-row : (t : Tables) (r : List ℕ) (n : ℕ) (w : Row) → n < 64 → verdict (formChecks t r) ≡ Pass → Of (rows Creds t) (sender r) w

@@ -13,10 +13,7 @@ use Rattle.rules.specs.declared.Table.the-variants.{Creds, Aces}
 use Rattle.rules.specs.Tables.{stride, longest, capacity, rowFrom}
 use Rattle.rules.specs.Defaults.{listed, goodList, defaultRows}
 use Rattle.rules.proofs.Bools.{and-left}
-
-pub positive : (k : Table) → 0 < longest k
-positive Creds = omega arith
-positive Aces = omega arith
+use Rattle.rules.proofs.BodyLaws.{two-fit}
 
 -- the whole rows of a list lie within it
 rows-within : (k : Table) (n : ℕ) → n / longest k * longest k ≤ n
@@ -80,10 +77,6 @@ listed-long k b = all-long k (rowsOf (longest k) (length b / longest k) b) (long
 
 pub listed-count : (k : Table) (b : List ℕ) → length (listed k b) ≡ length b / longest k
 listed-count k b = length-map (rowsOf (longest k) (length b / longest k) b) (rowFrom k) ∙ length-rowsOf (longest k) (length b / longest k) b
-
-two-fit : (k : Table) → 2 ≤ capacity k
-two-fit Creds = omega arith
-two-fit Aces = omega arith
 
 module _ (k : Table) (b x : List ℕ) (few : length b / longest k ≤ 2) (over : x ≡ written (replicate (capacity k * stride k) 0) 0 (joined (listed k b))) where
   pub listed-fits : length b / longest k * stride k ≤ capacity k * stride k

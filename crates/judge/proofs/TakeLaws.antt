@@ -1,5 +1,5 @@
 -- Laws of a take, as the code does it: nothing taken, or the record that is due, handed out and judged, and its seat left.
-use Rattle.rows.proofs.Prelude.{_≡_, refl, sym, ap, ap₂, _∙_, true, false, List, ℕ, _-_, _≤_, length, take, replicate, take-at, eqb}
+use Rattle.rows.proofs.Prelude.{_≡_, sym, ap, ap₂, _∙_, true, false, List, ℕ, _-_, _≤_, length, take, replicate, eqb}
 use Rattle.rows.specs.Rows.{Row, hasKey, every, without, distinctNumbers}
 use Rattle.rows.proofs.Kept.{every-without, distinct-without}
 use Rattle.rules.specs.declared.Tables.{Tables}
@@ -18,15 +18,12 @@ use Rattle.rules_waiting.specs.Terminal.{Terminal, terminal, slotSound, soundTe
 use Rattle.rules_waiting.specs.Calls.{Takes}
 use Rattle.rules_waiting.proofs.SlotLaws.{memory-sound, waiting-back, round-back, slots-long}
 use Rattle.rules_waiting.proofs.Held.{few-slots}
+use Rattle.rules_waiting.proofs.Built.{padded-back}
 use Rattle.rules_waiting.proofs.Sound.{Sound, terminal-parts, turn-is, take-passed}
 use Rattle.queue.specs.Queue.{IsQueue}
 use Rattle.queue.proofs.Queues.{memory-queue, sound-queue}
 use Rattle.queue_turn.specs.declared.Due.{Due}
 use Rattle.queue_turn.specs.Turns.{dueOf}
-
-padded-back : (r : List ℕ) → take (length r) (padded r) ≡ r
-unfolding padded
-padded-back r = take-at r (replicate (256 - length r) 0) (length r) refl
 
 -- ---- the record handed to the decision
 
@@ -62,7 +59,8 @@ module _ (t : Tables) (m : List ℕ) (h : soundTerminal (terminal t m) ≡ true)
   can-leave p e = (sound-queue t m h, ap length e ∙ two)
 
   pub left-queue : (m′ : List ℕ) → m′ ≡ memoryOf (after (turn (terminal t m))) others → IsQueue m′
-  left-queue m′ e = rw e (memory-queue t (memoryOf (after (turn (terminal t m))) others) (memory-sound t (after (turn (terminal t m))) others two few all distinct))
+  left-queue m′ e =
+      rw e (memory-queue t (memoryOf (after (turn (terminal t m))) others) (memory-sound t (after (turn (terminal t m))) others two few all distinct))
 
   pub left-round : roundOf (memoryOf (after (turn (terminal t m))) others) ≡ after (turn (terminal t m))
   left-round = round-back (after (turn (terminal t m))) others two
@@ -92,10 +90,16 @@ module _ (d : Defaults) (t : Tables) (m : List ℕ) (clock room : ℕ) (c : Chec
         let v : Pass ≡ verdict (takeChecks (terminal t m)) = sym e ∙ told in
         let r = received clock (due (terminal t m)) room in
         record {
-          hands = ap₂ (λ (k : Said) (z : Due). record { judgement = k; size = z .size; bytes = z .bytes }) (f ∙ ap (λ (i : Request). judgementOf (outcome d t i)) handed-is) is ∙ ap (λ (k : Check). handedOut (takeOf d (terminal t m) r k)) v;
+          hands = ap₂ (λ (k : Said) (z : Due). record { judgement = k; size = z .size; bytes = z .bytes })
+              (f ∙ ap (λ (i : Request). judgementOf (outcome d t i)) handed-is) is
+              ∙ ap (λ (k : Check). handedOut (takeOf d (terminal t m) r k)) v;
           leaves = record {
-            keeps = h ∙ ap (λ (i : Request). memoryAfter d t i (after (turn (terminal t m))) (without (hasKey 0 (turn (terminal t m))) (waiting m))) handed-is ∙ ap (λ (k : Check). takeOf d (terminal t m) r k .terminal .memory) v;
-            fills = g ∙ ap (λ (i : Request). filled b (toldTo d t i .contents)) handed-is ∙ ap (λ (k : Check). filled b (takeOf d (terminal t m) r k .told .contents)) v;
+            keeps = h
+                ∙ ap (λ (i : Request). memoryAfter d t i (after (turn (terminal t m))) (without (hasKey 0 (turn (terminal t m))) (waiting m))) handed-is
+                ∙ ap (λ (k : Check). takeOf d (terminal t m) r k .terminal .memory) v;
+            fills = g
+                ∙ ap (λ (i : Request). filled b (toldTo d t i .contents)) handed-is
+                ∙ ap (λ (k : Check). filled b (takeOf d (terminal t m) r k .told .contents)) v;
           };
         }
 
@@ -109,7 +113,9 @@ nothing-taken d f cs es m clock room c told n e j i z l b =
     let v : Refuse n ≡ verdict (takeChecks x) = sym e ∙ told in
     let q = received clock (due x) room in
     record {
-      hands = ap₂ (λ (k : Judgement) (y : List ℕ). takenOf (record { judgement = k; size = 0; bytes = y }) cs es) (i ∙ ap (λ (k : Check). refusal f (numberOf k)) e) l ∙ ap (λ (k : Check). handedOut (takeOf d x q k)) v;
+      hands = ap₂ (λ (k : Judgement) (y : List ℕ). takenOf (record { judgement = k; size = 0; bytes = y }) cs es)
+          (i ∙ ap (λ (k : Check). refusal f (numberOf k)) e) l
+          ∙ ap (λ (k : Check). handedOut (takeOf d x q k)) v;
       leaves = record {
         keeps = ap (λ (k : Check). takeOf d x q k .terminal .memory) v;
         fills = ap (λ (k : Check). filled b (takeOf d x q k .told .contents)) v;

@@ -34,8 +34,16 @@ keyed k a l b m c n d e = simp (append-assoc, append-nil)
 
 -- the text of a row, by its number and its permission
 pub row-puts : {o o′ : List ℕ} {at r : ℕ} (w : Row) (n p : ℕ) → n ≡ rowNumber w → p ≡ acePermission w
-    → Puts o at (((((ascii "{\"aceid\":" ++ decimal n) ++ (ascii ",\"subject\":" ++ subjectText w)) ++ (ascii ",\"resources\":[" ++ resourcesText w)) ++ (ascii "],\"permission\":" ++ decimal p)) ++ ascii "}") o′ r
+    → Puts o at (((((ascii "{\"aceid\":" ++ decimal n) ++ (ascii ",\"subject\":" ++ subjectText w)) ++ (ascii ",\"resources\":[" ++ resourcesText w))
+    ++ (ascii "],\"permission\":" ++ decimal p))
+    ++ ascii "}")
+    o′ r
     → Puts o at (rowText w) o′ r
 unfolding rowText
 row-puts w n p e f h =
-    rw (← e, ← f, ← keyed (ascii "{\"aceid\":") (decimal n) (ascii ",\"subject\":") (subjectText w) (ascii ",\"resources\":[") (resourcesText w) (ascii "],\"permission\":") (decimal p) (ascii "}")) h
+    rw (
+      ← e,
+      ← f,
+      ← keyed (ascii "{\"aceid\":") (decimal n) (ascii ",\"subject\":") (subjectText w)
+          (ascii ",\"resources\":[") (resourcesText w) (ascii "],\"permission\":") (decimal p) (ascii "}"),
+    ) h

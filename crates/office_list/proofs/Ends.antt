@@ -30,7 +30,8 @@ one-more first n b = go (seasonal (take 36 b))
     rest = rowsWritten (rowsOf 36 n (drop 36 b))
 
     go : (x : Bool)
-        → separated first (map rowText (cond x rest (take 36 b ∷ rest))) ≡ cond x [] (comma first ++ rowText (take 36 b)) ++ separated (x && first) (map rowText rest)
+        → separated first (map rowText (cond x rest (take 36 b ∷ rest)))
+        ≡ cond x [] (comma first ++ rowText (take 36 b)) ++ separated (x && first) (map rowText rest)
     go true = refl
     go false = refl
 
@@ -52,7 +53,8 @@ pub list-puts : {o o₁ o₂ o₃ : List ℕ} {at r₁ r₂ r₃ : ℕ} (t : Tab
     → Puts o at (officeText t) o₃ r₃
 unfolding listText rowsIn joined
 list-puts t n h e p q r =
-    rw (← e, append-nil, ← append-assoc (ascii "{\"aclist2\":[") (rowsText (rowsWritten (rowsOf 36 n (t .aces)))) (ascii "]}")) (puts-then h (puts-then h p q) r)
+    rw (← e, append-nil, ← append-assoc (ascii "{\"aclist2\":[") (rowsText (rowsWritten (rowsOf 36 n (t .aces)))) (ascii "]}"))
+    (puts-then h (puts-then h p q) r)
 
 -- ---- the three ends
 

@@ -1,5 +1,6 @@
 -- A resource's name by its number, which choices a row names, and the texts that are left from a choice on.
-use Rattle.rows.proofs.Prelude.{_≡_, refl, ap, ap₂, sym, _∙_, Bool, true, false, not, _&&_, cond, List, [], _∷_, _++_, map, ℕ, zero, suc, _+_, _≤_, _<_, arith, length, drop, getD, append-nil}
+use Rattle.rows.proofs.Prelude.{_≡_, refl, ap, ap₂, sym, _∙_, Bool, true, false, not, _&&_, cond, List, [], _∷_, _++_}
+use Rattle.rows.proofs.Prelude.{map, ℕ, zero, suc, _+_, _≤_, _<_, arith, length, drop, getD, append-nil}
 use Rattle.rows.proofs.Prelude.{drop-cons}
 use Prim.Native.String.{String}
 use Rattle.text.specs.Text.{ascii}
@@ -13,7 +14,8 @@ use Rattle.rules_office.specs.Office.{comma, separated, names, href, choices, c
 -- ---- a resource's name by its number
 
 -- the name beside a number that is known
-pub name-puts : {n j at r : ℕ} {o x o′ : List ℕ} (es : List (ℕ × String)) → n ≡ j → ascii (lookup j es "") ≡ x → Puts o at x o′ r → Puts o at (ascii (lookup n es "")) o′ r
+pub name-puts : {n j at r : ℕ} {o x o′ : List ℕ} (es : List (ℕ × String))
+    → n ≡ j → ascii (lookup j es "") ≡ x → Puts o at x o′ r → Puts o at (ascii (lookup n es "")) o′ r
 name-puts es e h p = rw (ap (λ (m : ℕ). ascii (lookup m es "")) e ∙ h) p
 
 -- ---- the choices with a number
@@ -50,14 +52,18 @@ one first true bs x xs = refl
 one first false bs x xs = refl
 
 module _ (w : Row) (first : Bool) (k : ℕ) where
-  items-next : {b : Bool} → k < count + 3 → b ≡ getD (chosen w) k false → items w first k ≡ cond b (comma first ++ braced (getD choices k [])) [] ++ items w (not b && first) (suc k)
+  items-next : {b : Bool}
+      → k < count + 3
+      → b ≡ getD (chosen w) k false
+      → items w first k ≡ cond b (comma first ++ braced (getD choices k [])) [] ++ items w (not b && first) (suc k)
   unfolding chosen choices
   items-next {b} h e =
       ap₂ (λ (bs : List Bool) (xs : List (List ℕ)). separated first (map braced (picked bs xs))) (drop-cons (chosen w) k false h) (drop-cons choices k [] h)
       ∙ rw (← e) (one first b (drop (suc k) (chosen w)) (getD choices k []) (drop (suc k) choices))
 
   -- choice k is put, if it is named: x is its text
-  pub items-put : {o whole out x out′ : List ℕ} {at p p′ : ℕ} {b : Bool} → k < count + 3 → b ≡ getD (chosen w) k false → Writing o at whole (items w first k) out p
+  pub items-put : {o whole out x out′ : List ℕ} {at p p′ : ℕ} {b : Bool}
+      → k < count + 3 → b ≡ getD (chosen w) k false → Writing o at whole (items w first k) out p
       → Puts out p (cond b (comma first ++ x) []) out′ p′ → x ≡ braced (getD choices k []) → Writing o at whole (items w (not b && first) (suc k)) out′ p′
   items-put h e v q d = writing-step _ _ v (rw d (items-next h e)) q
 

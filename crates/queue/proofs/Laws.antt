@@ -113,7 +113,8 @@ module _ (m r s : List ℕ) (q : IsQueue m) (free : getD m 0 0 < 25) (made : s �
   pub rows-few : length rows ≤ 25
   rows-few =
       rw (length-stored s (rowsOf 260 (getD m 0 0) (slotsOf m)))
-      (cond-cases (λ (n : ℕ). n ≤ 25) (some (numberedAs s) (rowsOf 260 (getD m 0 0) (slotsOf m))) (λ _. omega (arith, length-rowsOf 260 (getD m 0 0) (slotsOf m))) (λ _. omega (arith, length-rowsOf 260 (getD m 0 0) (slotsOf m))))
+      (cond-cases (λ (n : ℕ). n ≤ 25) (some (numberedAs s) (rowsOf 260 (getD m 0 0) (slotsOf m)))
+      (λ _. omega (arith, length-rowsOf 260 (getD m 0 0) (slotsOf m))) (λ _. omega (arith, length-rowsOf 260 (getD m 0 0) (slotsOf m))))
 
   pub room : length rows * 260 ≤ length (slotsOf m)
   room = omega (arith, rows-few, slots-long m q)
@@ -141,7 +142,9 @@ module _ (s n : ℕ) (b : List ℕ) (t : IsTable s n b) where
 
   pub used-table : IsTable s n (take (n * s) b)
   unfolding allZero
-  used-table = let few : length (take (n * s) b) ≤ n * s = omega (arith, used-long) in record { numbered = t .numbered; fits = rw used-long (omega arith); zeros = ap allZero (drop-of-length-le (take (n * s) b) few) }
+  used-table =
+      let few : length (take (n * s) b) ≤ n * s = omega (arith, used-long) in
+      record { numbered = t .numbered; fits = rw used-long (omega arith); zeros = ap allZero (drop-of-length-le (take (n * s) b) few) }
 
   -- what is left of them, with the zeros behind
   pub used-packed : (ws : List Row) (last : List ℕ) → last ≡ packed (length (take (n * s) b)) ws → length last ≡ length (take (n * s) b)
@@ -151,7 +154,9 @@ module _ (s n : ℕ) (b : List ℕ) (t : IsTable s n b) where
       let zeros = zeros-replicate (drop (n * s) b) (t .zeros) in
       let free = length (take (n * s) b) - length (joined ws) in
       packed-is (length b) (free + length (drop (n * s) b)) (last ++ drop (n * s) b) ws
-      (ap₂ (λ (x y : List ℕ). x ++ y) e zeros ∙ append-assoc (joined ws) (replicate free 0) (replicate (length (drop (n * s) b)) 0) ∙ ap (λ (x : List ℕ). joined ws ++ x) (more-zeros free (length (drop (n * s) b))))
+      (ap₂ (λ (x y : List ℕ). x ++ y) e zeros
+      ∙ append-assoc (joined ws) (replicate free 0) (replicate (length (drop (n * s) b)) 0)
+      ∙ ap (λ (x : List ℕ). joined ws ++ x) (more-zeros free (length (drop (n * s) b))))
       (length-append last (drop (n * s) b) ∙ omega (arith, l, used-long, length-drop (n * s) b, t .fits))
 
 -- ---- seats

@@ -5,7 +5,7 @@ use Rattle.rows.specs.declared.Found.{Found}
 use Rattle.rows.specs.declared.Found.the-variants.{At, Nothing}
 use Rattle.rows.specs.Rows.{Row, rowsOf, hasKey, some, every, firstRow}
 use Rattle.rows.specs.Contracts.{placeOf}
-use Rattle.rows.proofs.Laws.{some-place, isAt, take-rest, length-rowsOf, place-row}
+use Rattle.rows.proofs.Laws.{some-place, isAt, take-rest, place-row}
 use Rattle.rows.proofs.Kept.{same-true}
 use Rattle.rules.specs.declared.Tables.{Tables}
 use Rattle.rules.specs.declared.Table.the-variants.{Creds}
@@ -46,7 +46,10 @@ slot-none ws (p ∷ ps) e = go (placeOf (hasKey 0 p) ws) refl e (slot-none ws ps
 turn-some : (x : Terminal) → soundTerminal x ≡ true → eqb (length (waiting (x .memory))) 0 ≡ false
     → some (occupied (waiting (x .memory))) (inTurn (roundOf (x .memory)) (seats (x .tables))) ≡ true
 unfolding held
-turn-some x h w = let u = turn-is x h w in first-least (occupied (waiting (x .memory))) (turn x) (inTurn (roundOf (x .memory)) (seats (x .tables))) (turn-in (turn x) (roundOf (x .memory)) (seats (x .tables)) (u .there)) (u .waits) .0
+turn-some x h w =
+    let u = turn-is x h w in
+    first-least (occupied (waiting (x .memory))) (turn x) (inTurn (roundOf (x .memory)) (seats (x .tables)))
+    (turn-in (turn x) (roundOf (x .memory)) (seats (x .tables)) (u .there)) (u .waits) .0
 
 -- ---- in a sound terminal
 
@@ -60,10 +63,6 @@ module _ (t : Tables) (m : List ℕ) (h : soundTerminal (terminal t m) ≡ true)
   pub few : getD m 0 0 ≤ 25
   few = leb-true _ _ (memory-of .few)
 
-  pub count-is : length (waiting m) ≡ getD m 0 0
-  unfolding waiting
-  count-is = length-rowsOf 260 (min (getD m 0 0) 25) (drop 4 m) ∙ min-eq-left few
-
   pub slots-room : getD m 0 0 * 260 ≤ length (take (length m - 4) (drop 4 m))
   slots-room = omega (arith, few, ap length (take-rest 4 m), length-drop 4 m, six)
 
@@ -71,17 +70,21 @@ module _ (t : Tables) (m : List ℕ) (h : soundTerminal (terminal t m) ≡ true)
   unfolding waiting
   waiting-are = rw (take-rest 4 m, min-eq-left few)
 
-  module _ (n : ℕ) (counted : n ≡ min (t .ncreds) 24) (at : Found) (is : at ≡ slotIn (rowsOf 260 (getD m 0 0) (take (length m - 4) (drop 4 m))) (inTurn (roundOf m) (nobody ∷ map (take 2) (rowsOf (stride Creds) n (t .creds))))) where
-    at-is : at ≡ slotIn (waiting m) (inTurn (roundOf m) (seats t))
-    unfolding seats rowsIn
-    at-is = is ∙ ap₂ (λ (ws : List Row) (k : ℕ). slotIn ws (inTurn (roundOf m) (nobody ∷ map (take 2) (rowsOf (stride Creds) k (t .creds))))) waiting-are counted
+  module _ (n : ℕ) (counted : n ≡ min (t .ncreds) 24) (at : Found)
+      (is : at ≡ slotIn (rowsOf 260 (getD m 0 0) (take (length m - 4) (drop 4 m)))
+      (inTurn (roundOf m) (nobody ∷ map (take 2) (rowsOf (stride Creds) n (t .creds)))))
+    where
+      at-is : at ≡ slotIn (waiting m) (inTurn (roundOf m) (seats t))
+      unfolding seats rowsIn
+      at-is =
+          is ∙ ap₂ (λ (ws : List Row) (k : ℕ). slotIn ws (inTurn (roundOf m) (nobody ∷ map (take 2) (rowsOf (stride Creds) k (t .creds))))) waiting-are counted
 
-    pub due-found : (i : ℕ) → at ≡ At i → placeOf (hasKey 0 (turn (terminal t m))) (waiting m) ≡ At i
-    unfolding turn firstInTurn
-    due-found i e = slot-found (waiting m) (inTurn (roundOf m) (seats t)) i (sym at-is ∙ e)
+      pub due-found : (i : ℕ) → at ≡ At i → placeOf (hasKey 0 (turn (terminal t m))) (waiting m) ≡ At i
+      unfolding turn firstInTurn
+      due-found i e = slot-found (waiting m) (inTurn (roundOf m) (seats t)) i (sym at-is ∙ e)
 
-    pub due-none : eqb (length (waiting m)) 0 ≡ false → at ≡ Nothing → ⊥
-    due-none w e = true≢false (sym (turn-some (terminal t m) h w) ∙ slot-none (waiting m) (inTurn (roundOf m) (seats t)) (sym at-is ∙ e))
+      pub due-none : eqb (length (waiting m)) 0 ≡ false → at ≡ Nothing → ⊥
+      due-none w e = true≢false (sym (turn-some (terminal t m) h w) ∙ slot-none (waiting m) (inTurn (roundOf m) (seats t)) (sym at-is ∙ e))
 
 -- ---- the record that is due
 
@@ -93,7 +96,8 @@ first-every q p (w ∷ ws) h o =
     (λ _. and-left (q w) _ h)
     (λ e. first-every q p ws (and-right (q w) _ h) (or-not-left (p w) _ o e))
 
-module _ (t : Tables) (m : List ℕ) (h : soundTerminal (terminal t m) ≡ true) (w : eqb (length (waiting m)) 0 ≡ false) (i : ℕ) (at : placeOf (hasKey 0 (turn (terminal t m))) (waiting m) ≡ At i) where
+module _ (t : Tables) (m : List ℕ) (h : soundTerminal (terminal t m) ≡ true) (w : eqb (length (waiting m)) 0 ≡ false)
+    (i : ℕ) (at : placeOf (hasKey 0 (turn (terminal t m))) (waiting m) ≡ At i) where
   abbrev slot : Row
   slot = take 260 (drop (i * 260) (drop 4 m))
 
@@ -112,7 +116,9 @@ module _ (t : Tables) (m : List ℕ) (h : soundTerminal (terminal t m) ≡ true)
   waits = turn-is (terminal t m) h w .waits
 
   slot-is-sound : slotSound t slot ≡ true
-  slot-is-sound = ap (slotSound t) (sym (found-row .1)) ∙ first-every (slotSound t) (hasKey 0 (turn (terminal t m))) (waiting m) (terminal-parts (terminal t m) h .keeps) waits
+  slot-is-sound =
+      ap (slotSound t) (sym (found-row .1))
+      ∙ first-every (slotSound t) (hasKey 0 (turn (terminal t m))) (waiting m) (terminal-parts (terminal t m) h .keeps) waits
 
   pub slot-whole-long : length slot ≡ 260
   slot-whole-long = slot-length t slot slot-is-sound
@@ -136,7 +142,8 @@ module _ (t : Tables) (m : List ℕ) (h : soundTerminal (terminal t m) ≡ true)
   two-bytes (x ∷ []) l = absurd (omega arith)
   two-bytes (x ∷ y ∷ b) l = refl
 
-  pub due-record-is : (v bytes r : List ℕ) → v ≡ slot → bytes ≡ drop 4 v → r ≡ recordOf v → record { bytes = bytes; size = length r; seat = getD v 0 0 ∷ getD v 1 0 ∷ [] } ≡ dueOf (terminal t m)
+  pub due-record-is : (v bytes r : List ℕ)
+      → v ≡ slot → bytes ≡ drop 4 v → r ≡ recordOf v → record { bytes = bytes; size = length r; seat = getD v 0 0 ∷ getD v 1 0 ∷ [] } ≡ dueOf (terminal t m)
   due-record-is v bytes r e b f =
       let x : bytes ≡ padded (due (terminal t m)) = b ∙ ap (drop 4) e ∙ bytes-are in
       let y : r ≡ due (terminal t m) = f ∙ ap recordOf e ∙ sym due-is in

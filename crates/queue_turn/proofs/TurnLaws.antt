@@ -21,14 +21,16 @@ use Rattle.queue_turn.specs.Turns.{orElse, slotIn, before}
 
 -- one row more
 slot-more : (ws : List Row) (left : ℕ) (rest : List ℕ) → 0 < left
-    → slotIn ws (map (take 2) (rowsOf (stride Creds) left rest)) ≡ orElse (placeOf (hasKey 0 (take 2 rest)) ws) (slotIn ws (map (take 2) (rowsOf (stride Creds) (left - 1) (drop (stride Creds) rest))))
+    → slotIn ws (map (take 2) (rowsOf (stride Creds) left rest))
+    ≡ orElse (placeOf (hasKey 0 (take 2 rest)) ws) (slotIn ws (map (take 2) (rowsOf (stride Creds) (left - 1) (drop (stride Creds) rest))))
 unfolding slotIn
 slot-more ws left rest h = rw (rowsOf-suc (stride Creds) left rest h, take-take 2 (stride Creds) rest (omega arith))
 
 module _ (creds slots : List ℕ) (count kept : ℕ) where
   pub record Inv (rest : List ℕ) (left : ℕ) : Type 0 where
     pub room : left * stride Creds ≤ length rest
-    pub slot : slotIn (rowsOf 260 kept slots) (map (take 2) (rowsOf (stride Creds) count creds)) ≡ slotIn (rowsOf 260 kept slots) (map (take 2) (rowsOf (stride Creds) left rest))
+    pub slot : slotIn (rowsOf 260 kept slots) (map (take 2) (rowsOf (stride Creds) count creds))
+        ≡ slotIn (rowsOf 260 kept slots) (map (take 2) (rowsOf (stride Creds) left rest))
 
   module _ (rest : List ℕ) (left : ℕ) (inv : Inv rest left) (more : 0 < left) where
     pub row-here : (stride Creds) ≤ length rest
@@ -65,7 +67,8 @@ index-place k p (w ∷ ws) l = rw (key-same p w l) (go (same p (take 2 w)) (inde
     later false i = refl
 
     go : (b : Bool) → placeFrom (k + 1) (hasKey 0 p) ws ≡ cond (some (same p) (map (take 2) ws)) (At (k + 1 + rowsBefore (same p) (map (take 2) ws))) Nothing
-        → cond b (At k) (placeFrom (k + 1) (hasKey 0 p) ws) ≡ cond (b || some (same p) (map (take 2) ws)) (At (k + cond b 0 (suc (rowsBefore (same p) (map (take 2) ws))))) Nothing
+        → cond b (At k) (placeFrom (k + 1) (hasKey 0 p) ws)
+        ≡ cond (b || some (same p) (map (take 2) ws)) (At (k + cond b 0 (suc (rowsBefore (same p) (map (take 2) ws))))) Nothing
     go true e = ap At (omega arith)
     go false e = e ∙ later (some (same p) (map (take 2) ws)) (rowsBefore (same p) (map (take 2) ws))
 
@@ -85,7 +88,8 @@ module _ (count : ℕ) (creds m : List ℕ) where
   before-bound anew = omega (arith, length-numbers)
   before-bound (after p) =
       cond-cases (λ (j : ℕ). j ≤ count) (same p nobody) (λ _. omega arith)
-      (λ _. cond-cases (λ (j : ℕ). j ≤ count) (some (same p) numbers) (λ e. omega (arith, index-bound p numbers e, length-numbers)) (λ _. omega (arith, length-numbers)))
+      (λ _. cond-cases (λ (j : ℕ). j ≤ count) (some (same p) numbers)
+      (λ e. omega (arith, index-bound p numbers e, length-numbers)) (λ _. omega (arith, length-numbers)))
 
   module _ (some-round : getD m 1 0 ≡ 0 → ⊥) (four : 4 ≤ length m) where
     abbrev seat : Seat
@@ -162,8 +166,10 @@ turned anew ns = anew-turned ns
 turned (after p) ns = go (same p nobody) (some (same p) ns)
   where
     go : (a b : Bool)
-        → drop (cond (a || b) (suc (cond a 0 (suc (rowsBefore (same p) ns)))) 0) (nobody ∷ ns) ++ take (cond (a || b) (suc (cond a 0 (suc (rowsBefore (same p) ns)))) 0) (nobody ∷ ns)
-        ≡ drop (cond a 0 (cond b (suc (rowsBefore (same p) ns)) (length ns))) ns ++ nobody ∷ take (cond a 0 (cond b (suc (rowsBefore (same p) ns)) (length ns))) ns
+        → drop (cond (a || b) (suc (cond a 0 (suc (rowsBefore (same p) ns)))) 0) (nobody ∷ ns)
+        ++ take (cond (a || b) (suc (cond a 0 (suc (rowsBefore (same p) ns)))) 0) (nobody ∷ ns)
+        ≡ drop (cond a 0 (cond b (suc (rowsBefore (same p) ns)) (length ns))) ns
+        ++ nobody ∷ take (cond a 0 (cond b (suc (rowsBefore (same p) ns)) (length ns))) ns
     go true b = refl
     go false true = refl
     go false false = anew-turned ns
@@ -182,20 +188,34 @@ pub before-fits : (count : ℕ) (creds m : List ℕ) (k : ℕ) → k ≡ before 
 before-fits count creds m k e = omega (arith, before-bound count creds m (roundOf m))
 
 -- the three steps of the code
-module _ (ws : List Row) (last : Round) (count : ℕ) (creds : List ℕ) (k : ℕ) (here : k ≡ before last (map (take 2) (rowsOf (stride Creds) count creds))) (fits : k ≤ count) where
+module _ (ws : List Row) (last : Round) (count : ℕ) (creds : List ℕ) (k : ℕ)
+    (here : k ≡ before last (map (take 2) (rowsOf (stride Creds) count creds))) (fits : k ≤ count) where
   abbrev whole : Found
   whole = slotIn ws (inTurn last (nobody ∷ map (take 2) (rowsOf (stride Creds) count creds)))
 
-  parts : inTurn last (nobody ∷ map (take 2) (rowsOf (stride Creds) count creds)) ≡ map (take 2) (rowsOf (stride Creds) (count - k) (drop (k * stride Creds) creds)) ++ nobody ∷ map (take 2) (rowsOf (stride Creds) k creds)
+  parts : inTurn last (nobody ∷ map (take 2) (rowsOf (stride Creds) count creds))
+      ≡ map (take 2) (rowsOf (stride Creds) (count - k) (drop (k * stride Creds) creds)) ++ nobody ∷ map (take 2) (rowsOf (stride Creds) k creds)
   parts =
       turned last (map (take 2) (rowsOf (stride Creds) count creds))
-      ∙ rw (← here, map-drop k (rowsOf (stride Creds) count creds), map-take k (rowsOf (stride Creds) count creds), rowsOf-drop (stride Creds) k count creds fits, rowsOf-take (stride Creds) k count creds fits)
+      ∙ rw (
+        ← here,
+        map-drop k (rowsOf (stride Creds) count creds),
+        map-take k (rowsOf (stride Creds) count creds),
+        rowsOf-drop (stride Creds) k count creds fits,
+        rowsOf-take (stride Creds) k count creds fits,
+      )
 
-  steps : whole ≡ orElse (slotIn ws (map (take 2) (rowsOf (stride Creds) (count - k) (drop (k * stride Creds) creds)))) (orElse (placeOf (hasKey 0 nobody) ws) (slotIn ws (map (take 2) (rowsOf (stride Creds) k creds))))
+  steps : whole
+      ≡ orElse (slotIn ws (map (take 2) (rowsOf (stride Creds) (count - k) (drop (k * stride Creds) creds))))
+      (orElse (placeOf (hasKey 0 nobody) ws) (slotIn ws (map (take 2) (rowsOf (stride Creds) k creds))))
   unfolding slotIn
-  steps = ap (slotIn ws) parts ∙ slot-append ws (map (take 2) (rowsOf (stride Creds) (count - k) (drop (k * stride Creds) creds))) (nobody ∷ map (take 2) (rowsOf (stride Creds) k creds))
+  steps =
+      ap (slotIn ws) parts
+      ∙ slot-append ws (map (take 2) (rowsOf (stride Creds) (count - k) (drop (k * stride Creds) creds)))
+      (nobody ∷ map (take 2) (rowsOf (stride Creds) k creds))
 
-  module _ (x : Found) (is : x ≡ slotIn ws (map (take 2) (rowsOf (stride Creds) (count - k) (take (length creds - k * stride Creds) (drop (k * stride Creds) creds))))) where
+  module _ (x : Found)
+      (is : x ≡ slotIn ws (map (take 2) (rowsOf (stride Creds) (count - k) (take (length creds - k * stride Creds) (drop (k * stride Creds) creds))))) where
     pub next-first : (i : ℕ) → x ≡ At i → At i ≡ whole
     next-first i e = sym (steps ∙ rw (sym (rw (take-rest (k * stride Creds) creds) at is), e))
 

@@ -34,7 +34,8 @@ module _ (clock : ℕ) (p : Row) where
     last-new h =
         bool-cases (free clock p)
         (λ e. rw (e, append-nil new))
-        (λ e. let f : sameRole new p ≡ true = not-false (sameRole new p) (and-false-right (not (free clock p)) (not (sameRole new p)) h (ap not e)) in rw (e, f, append-nil new))
+        (λ e. let f : sameRole new p ≡ true = not-false (sameRole new p)
+        (and-false-right (not (free clock p)) (not (sameRole new p)) h (ap not e)) in rw (e, f, append-nil new))
 
 -- ---- both places of a row, p and q
 
@@ -66,7 +67,8 @@ module _ (clock : ℕ) (w p q : Row) (first : p ≡ firstRole w) (second : q ≡
 
 -- ---- the row
 
-module _ (clock : ℕ) (new w : Row) (h : credHeld w ≡ true) (l : length new ≡ 8) (v : noRole new ≡ false) (n : bothTaken new (rolesInForce clock w) ≡ false) where
+module _ (clock : ℕ) (new w : Row) (h : credHeld w ≡ true) (l : length new ≡ 8)
+    (v : noRole new ≡ false) (n : bothTaken new (rolesInForce clock w) ≡ false) where
   abbrev roles : List ℕ
   roles = joined (withRole new (rolesInForce clock w))
 

@@ -22,7 +22,10 @@ row-number s (suc i) (w ∷ ws) z a two h =
     ap (take 2) (past i (joined ws ++ z) (append-assoc w (joined ws) z)) ∙ row-number s i ws z (a .1) two (omega arith)
   where
     past : (i : ℕ) (rest : List ℕ) {all : List ℕ} → all ≡ w ++ rest → drop (suc i * s) all ≡ drop (i * s) rest
-    past i rest {all} e = ap (λ (n : ℕ). drop n all) (suc-mul i s ∙ add-comm (i * s) s ∙ ap (λ (n : ℕ). n + i * s) (sym (a .0))) ∙ ap (drop (length w + i * s)) e ∙ drop-append-add w rest (i * s)
+    past i rest {all} e =
+        ap (λ (n : ℕ). drop n all) (suc-mul i s ∙ add-comm (i * s) s ∙ ap (λ (n : ℕ). n + i * s) (sym (a .0)))
+        ∙ ap (drop (length w + i * s)) e
+        ∙ drop-append-add w rest (i * s)
 
 pub number-held : (s size i : ℕ) (ws : List Row) → AllLong s ws → 2 ≤ s → i < length ws → numberAt s i (packed size ws) ≡ take 2 (getD ws i [])
 unfolding numberAt packed
@@ -83,7 +86,8 @@ module _ (goes : Row → Bool) where
       go : (t : Bool) (i : ℕ) → cond t 0 (suc (rowsBefore goes ws)) ≤ i → i < suc (length ws)
           → ((i : ℕ) → rowsBefore goes ws ≤ i → i < length ws → From (suc i) i (length (without goes ws)) ws (getD (without goes ws) i []))
           → From (suc i) i (length (cond t (without goes ws) (w ∷ without goes ws))) (w ∷ ws) (getD (cond t (without goes ws) (w ∷ without goes ws)) i [])
-      go true i f h ih = let l = later ws i in record { place = suc (l .place); behind = omega (arith, l .behind); is = l .is; inside = λ k. omega (arith, l .inside k) }
+      go true i f h ih =
+          let l = later ws i in record { place = suc (l .place); behind = omega (arith, l .behind); is = l .is; inside = λ k. omega (arith, l .inside k) }
       go false zero f h ih = absurd (omega arith)
       go false (suc i) f h ih =
           let l = ih i (omega arith) (omega arith) in
@@ -155,7 +159,8 @@ numbers-apart (w ∷ ws) i (suc j) d h l e = go (some (numberedAs w) ws) refl d 
         → ((i : ℕ) → distinctNumbers ws ≡ true → i < j → take 2 (getD ws j []) ≡ take 2 (getD ws i []) → ⊥)
         → take 2 (getD ws j []) ≡ take 2 (getD (w ∷ ws) i []) → ⊥
     go true s d i h ih e = false≢true d
-    go false s d zero h ih e = true≢false (sym (same-refl (take 2 w)) ∙ ap (λ (x : List ℕ). same x (take 2 w)) (sym e) ∙ not-some (numberedAs w) ws j s (omega arith))
+    go false s d zero h ih e =
+        true≢false (sym (same-refl (take 2 w)) ∙ ap (λ (x : List ℕ). same x (take 2 w)) (sym e) ∙ not-some (numberedAs w) ws j s (omega arith))
     go false s d (suc i) h ih e = ih i d (omega arith) e
 
 -- ---- the whole: a table of distinct numbers, none of them 0

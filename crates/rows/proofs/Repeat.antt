@@ -13,11 +13,11 @@ pub distinct-end : (rows : List Row) (new : Row) → distinctNumbers rows ≡ tr
     → distinctNumbers (rows ++ (new ∷ [])) ≡ true
 distinct-end rows new d n = ap distinctNumbers (sym (store-absent new rows n)) ∙ distinct-stored new rows d
 
-or-left : (a b : Bool) → (a || b) ≡ false → a ≡ false
+pub or-left : (a b : Bool) → (a || b) ≡ false → a ≡ false
 or-left true b h = h
 or-left false b h = refl
 
-or-right : (a b : Bool) → (a || b) ≡ false → b ≡ false
+pub or-right : (a b : Bool) → (a || b) ≡ false → b ≡ false
 or-right true b h = absurd (true≢false h)
 or-right false b h = h
 

@@ -75,5 +75,6 @@ module _ (passes : List ℕ → Bool) (s count : ℕ) (b₀ : List ℕ) where
     unfolding without
     end h =
         let few : length (rowsOf s n b) ≤ i = rw length-rowsOf h in
-        let e : without passes (rowsOf s count b₀) ≡ rowsOf s n b = g .rows ∙ rw (take-all i (rowsOf s n b) few, drop-of-length-le (rowsOf s n b) few, append-nil) in
+        let e : without passes (rowsOf s count b₀) ≡ rowsOf s n b =
+        g .rows ∙ rw (take-all i (rowsOf s n b) few, drop-of-length-le (rowsOf s n b) few, append-nil) in
         rw (e, ← g .long) (sym (length-rowsOf s n b), kept s n b (g .table))

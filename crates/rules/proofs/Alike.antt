@@ -1,4 +1,5 @@
--- Two sound tables that differ in the asserted roles of the chosen partners alone give a record of the others the same answer, permission, reply, places and links.
+-- Two sound tables that differ in the asserted roles of the chosen partners alone give a
+-- record of the others the same answer, permission, reply, places and links.
 -- Afterwards they still differ in these roles alone.
 use Rattle.rows.proofs.Prelude.{_≡_, refl, sym, ap, ap₂, _∙_, Bool, true, false, not, _&&_, _||_, cond, List, [], _∷_, _++_, map, ℕ, _+_, _/_, _^_, _≤_, _<_}
 use Rattle.rows.proofs.Prelude.{arith, length, take, length-append, length-map, length-replicate, length-take, eqb, leb, ones}
@@ -17,7 +18,8 @@ use Rattle.rules.specs.Directory.{links, someSecurity}
 use Rattle.rules.specs.Bodies.{isNil, newOwner, rowNumber, credSubject}
 use Rattle.rules.specs.Roles.{bodyOf, withoutRoles, asserted}
 use Rattle.rules.specs.Tables.{storable, rowOf, rows, withRows, rowOwner, sound, withState, withOwner, withRowOwner}
-use Rattle.rules.specs.Permission.{numbered, credentialIn, ownRow, connectionOf, isRow, subjectIs, names, isOwner, byOwner, byNoOwner, effectiveOf, permission}
+use Rattle.rules.specs.Permission.{numbered, credentialIn, ownRow, connectionOf, isRow, subjectIs}
+use Rattle.rules.specs.Permission.{names, isOwner, byOwner, byNoOwner, effectiveOf, permission}
 use Rattle.rules.specs.States.{stateAllows, moveAllowed}
 use Rattle.rules.specs.Places.{gapOf, placesOf}
 use Rattle.rules.specs.Reading.{ownBody, rowBytes, contents, reads, replyOf, tooShort}
@@ -34,7 +36,8 @@ use Rattle.rules.proofs.BodyLaws.{Valid, action-valid, sized}
 use Rattle.rules.proofs.TableLaws.{table-is, few-rows, rows-long, rows-with}
 use Rattle.rules.proofs.SoundKept.{SoundRows, Passed, passed-all, stored-sound, removed-sound, asserted-sound}
 use Rattle.rules.proofs.LinkLaws.{own-sender}
-use Rattle.rules.proofs.RowMaps.{without-roles-body, part-same, key-same, numbered-same, as-same, some-map, before-map, without-map, first-map, stored-map, bodies-map}
+use Rattle.rules.proofs.RowMaps.{without-roles-body, part-same, key-same, numbered-same, as-same}
+use Rattle.rules.proofs.RowMaps.{some-map, before-map, without-map, first-map, stored-map, bodies-map}
 use Rattle.rules.proofs.OwnRow.{first-passes, numbered-two, number-is}
 
 -- ---- a sender's number has 16 bits
@@ -45,7 +48,8 @@ Small (partner n) = n < 65536
 
 pub sender-small : (r : List ℕ) → Small (sender r)
 unfolding sender
-sender-small r = cond-cases Small (leb 4 (length r) && eqb (connection r) 1) {x = partner (credential r)} {y = unauthenticated} (λ _. bits-small r 16 16) (λ _. tt)
+sender-small r =
+    cond-cases Small (leb 4 (length r) && eqb (connection r) 1) {x = partner (credential r)} {y = unauthenticated} (λ _. bits-small r 16 16) (λ _. tt)
 
 -- where no row passes, the first is none
 first-none : (p : Row → Bool) (ws : List Row) → some p ws ≡ false → firstRow p ws ≡ []
@@ -74,7 +78,8 @@ links-below = (omega arith, (omega arith, (omega arith, (omega arith, (omega ari
 -- ---- a credential row with this subject, if it is one, names an owner
 
 abbrev ownsAs : Tables → Bool → List ℕ → Bool
-ownsAs t isOne subject = someSecurity (λ n. isOne && ((not (isNil (t .devowner)) && same (t .devowner) subject) || (not (isNil (rowOwner t n)) && same (rowOwner t n) subject)))
+ownsAs t isOne subject =
+    someSecurity (λ n. isOne && ((not (isNil (t .devowner)) && same (t .devowner) subject) || (not (isNil (rowOwner t n)) && same (rowOwner t n) subject)))
 
 -- ---- a row whose asserted roles are hidden
 
@@ -152,10 +157,12 @@ module _ (chosen : Sender → Bool) where
     creds-alike = sym (rows-hidden s hs) ∙ ap (rows Creds) e ∙ rows-hidden t ht
 
     own-alike : (x : Sender) → Small x → chosen x ≡ false → ownRow s x ≡ ownRow t x
-    own-alike x l c = sym (credential-hidden x l c (rows Creds s)) ∙ ap (λ (ws : List Row). credentialIn ws x) creds-alike ∙ credential-hidden x l c (rows Creds t)
+    own-alike x l c =
+        sym (credential-hidden x l c (rows Creds s)) ∙ ap (λ (ws : List Row). credentialIn ws x) creds-alike ∙ credential-hidden x l c (rows Creds t)
 
     bodies-alike : map bodyOf (rows Creds s) ≡ map bodyOf (rows Creds t)
-    bodies-alike = sym (bodies-map (hidden chosen) hidden-body (rows Creds s)) ∙ ap (map bodyOf) creds-alike ∙ bodies-map (hidden chosen) hidden-body (rows Creds t)
+    bodies-alike =
+        sym (bodies-map (hidden chosen) hidden-body (rows Creds s)) ∙ ap (map bodyOf) creds-alike ∙ bodies-map (hidden chosen) hidden-body (rows Creds t)
 
     length-alike : length (rows Creds s) ≡ length (rows Creds t)
     length-alike = sym (length-map (rows Creds s) (hidden chosen)) ∙ ap length creds-alike ∙ length-map (rows Creds t) (hidden chosen)
@@ -169,12 +176,18 @@ module _ (chosen : Sender → Bool) where
     -- a test that sees the body alone
     module _ (p : Row → Bool) (sees : (w : Row) → p (hidden chosen w) ≡ p w) where
       some-alike : some p (rows Creds s) ≡ some p (rows Creds t)
-      some-alike = sym (some-map (hidden chosen) hidden-body p sees (rows Creds s)) ∙ ap (some p) creds-alike ∙ some-map (hidden chosen) hidden-body p sees (rows Creds t)
+      some-alike =
+          sym (some-map (hidden chosen) hidden-body p sees (rows Creds s))
+          ∙ ap (some p) creds-alike
+          ∙ some-map (hidden chosen) hidden-body p sees (rows Creds t)
 
       gap-alike : gapOf p (rows Creds s) ≡ gapOf p (rows Creds t)
       unfolding gapOf
       gap-alike =
-          let before : rowsBefore p (rows Creds s) ≡ rowsBefore p (rows Creds t) = sym (before-map (hidden chosen) hidden-body p sees (rows Creds s)) ∙ ap (rowsBefore p) creds-alike ∙ before-map (hidden chosen) hidden-body p sees (rows Creds t) in
+          let before : rowsBefore p (rows Creds s) ≡ rowsBefore p (rows Creds t) =
+          sym (before-map (hidden chosen) hidden-body p sees (rows Creds s))
+          ∙ ap (rowsBefore p) creds-alike
+          ∙ before-map (hidden chosen) hidden-body p sees (rows Creds t) in
           rw (some-alike, before, length-alike)
 
     -- ---- what an action asks of the tables
@@ -197,16 +210,19 @@ module _ (chosen : Sender → Bool) where
     action-alike c b Read v = record { allows = refl; target = refl; missed = refl; filled = refl; gap = refl }
     action-alike c b (SetRowOwner n) v = record { allows = allows-alike (SetRowOwner n); target = refl; missed = refl; filled = refl; gap = refl }
     action-alike c b (SetOwner o) v = record { allows = allows-alike (SetOwner o); target = refl; missed = refl; filled = refl; gap = refl }
-    action-alike c b (SetState n) v = record { allows = allows-alike (SetState n); target = ap (λ (u : Tables). badTarget u (SetState n)) e; missed = refl; filled = refl; gap = refl }
+    action-alike c b (SetState n) v =
+        record { allows = allows-alike (SetState n); target = ap (λ (u : Tables). badTarget u (SetState n)) e; missed = refl; filled = refl; gap = refl }
     action-alike c b (Store Creds) v =
         record {
           allows = allows-alike (Store Creds);
           target = refl;
           missed = refl;
-          filled = ap₂ (λ (n : ℕ) (h : Bool). leb 24 n && not h) count-alike (some-alike (numberedAs (rowOf Creds b)) (as-same (hidden chosen) hidden-body (rowOf Creds b)));
+          filled = ap₂ (λ (n : ℕ) (h : Bool). leb 24 n && not h) count-alike
+              (some-alike (numberedAs (rowOf Creds b)) (as-same (hidden chosen) hidden-body (rowOf Creds b)));
           gap = refl;
         }
-    action-alike c b (Store Aces) v = record { allows = allows-alike (Store Aces); target = refl; missed = refl; filled = ap (λ (u : Tables). full u b (Store Aces)) e; gap = refl }
+    action-alike c b (Store Aces) v =
+        record { allows = allows-alike (Store Aces); target = refl; missed = refl; filled = ap (λ (u : Tables). full u b (Store Aces)) e; gap = refl }
     action-alike c b (Remove Creds at) v =
         record {
           allows = allows-alike (Remove Creds at);
@@ -216,7 +232,13 @@ module _ (chosen : Sender → Bool) where
           gap = gap-alike (hasKey at b) (key-sees at b v);
         }
     action-alike c b (Remove Aces at) v =
-        record { allows = allows-alike (Remove Aces at); target = refl; missed = ap (λ (u : Tables). missing u b (Remove Aces at)) e; filled = refl; gap = ap (λ (u : Tables). placesOf u b (Remove Aces at)) e }
+        record {
+          allows = allows-alike (Remove Aces at);
+          target = refl;
+          missed = ap (λ (u : Tables). missing u b (Remove Aces at)) e;
+          filled = refl;
+          gap = ap (λ (u : Tables). placesOf u b (Remove Aces at)) e;
+        }
     action-alike c b (Assert k) v = record { allows = allows-alike (Assert k); target = refl; missed = refl; filled = refl; gap = refl }
     action-alike c b Malformed v = record { allows = refl; target = refl; missed = refl; filled = refl; gap = refl }
 
@@ -272,7 +294,8 @@ module _ (chosen : Sender → Bool) where
     unfolding linkSet
     links-alike clock r l c =
         ap (λ (m : ℕ). let n = cond (asksLinks r) m 0 in record { set = n; size = ones n })
-        (set-alike (λ n. permits clock s (ownRecord r n)) (λ n. permits clock t (ownRecord r n)) (λ n h. permits-alike clock (ownRecord r n) (ap chosen (own-sender r n h l) ∙ c)) links links-below)
+        (set-alike (λ n. permits clock s (ownRecord r n)) (λ n. permits clock t (ownRecord r n))
+        (λ n h. permits-alike clock (ownRecord r n) (ap chosen (own-sender r n h l) ∙ c)) links links-below)
 
     -- ---- the tables afterwards
     stored-alike : (v w : Row) → v ≡ w → SoundRows Creds (stored v (rows Creds s)) → SoundRows Creds (stored w (rows Creds t))
@@ -309,22 +332,27 @@ module _ (chosen : Sender → Bool) where
         go : (b : Bool) → hiddenIn chosen (cond b (fresh d) (withState s n)) ≡ hiddenIn chosen (cond b (fresh d) (withState t n))
         go true = refl
         go false = ap (λ (u : Tables). withState u n) e
-    effect-alike d q (Store Creds) c x y = stored-alike (rowOf Creds (body (q .bytes))) (rowOf Creds (body (q .bytes))) refl (stored-sound Creds s q hs x) (stored-sound Creds t q ht y)
+    effect-alike d q (Store Creds) c x y =
+        stored-alike (rowOf Creds (body (q .bytes))) (rowOf Creds (body (q .bytes))) refl (stored-sound Creds s q hs x) (stored-sound Creds t q ht y)
     effect-alike d q (Store Aces) c x y = ap (λ (u : Tables). withRows Aces u (stored (rowOf Aces (body (q .bytes))) (rows Aces u))) e
     effect-alike d q (Remove Creds at) c x y = removed-alike (hasKey at (body (q .bytes))) (key-sees at (body (q .bytes)) (x .valid))
     effect-alike d q (Remove Aces at) c x y = ap (λ (u : Tables). withRows Aces u (without (hasKey at (body (q .bytes))) (rows Aces u))) e
-    effect-alike d q (Assert k) c x y = stored-alike _ _ (ap (asserted (q .clock) (body (q .bytes))) (own (q .bytes) c)) (asserted-sound k s q hs x) (asserted-sound k t q ht y)
+    effect-alike d q (Assert k) c x y =
+        stored-alike _ _ (ap (asserted (q .clock) (body (q .bytes))) (own (q .bytes) c)) (asserted-sound k s q hs x) (asserted-sound k t q ht y)
     effect-alike d q Malformed c x y = e
 
     -- ---- the outcome
     module _ (d : Defaults) (q : Request) (c : chosen (sender (q .bytes)) ≡ false) where
       -- where one verdict is given
       verdict-alike : (p : ℕ) (v : Check) → verdict (checks t p q) ≡ v
-          → (outcomeOf d s p q v .told ≡ outcomeOf d t p q v .told) × (hiddenIn chosen (outcomeOf d s p q v .tables) ≡ hiddenIn chosen (outcomeOf d t p q v .tables))
+          → (outcomeOf d s p q v .told ≡ outcomeOf d t p q v .told)
+          × (hiddenIn chosen (outcomeOf d s p q v .tables) ≡ hiddenIn chosen (outcomeOf d t p q v .tables))
       verdict-alike p Pass v =
           let x = passed-all s p q (ap verdict (checks-alike q c p) ∙ v) in
-          let y = passed-all t p q v in
-          (rw (reply-alike q c, places-alike q c, links-alike (q .clock) (q .bytes) (long-enough (q .bytes) (y .long)) c), effect-alike d q (action (q .bytes)) c x y)
+          let y = passed-all t p q v in (
+            rw (reply-alike q c, places-alike q c, links-alike (q .clock) (q .bytes) (long-enough (q .bytes) (y .long)) c),
+            effect-alike d q (action (q .bytes)) c x y,
+          )
       verdict-alike p (Refuse n) v = (refl, e)
 
       outcome-is : outcome d s q ≡ outcomeOf d s (permission (q .clock) t (q .bytes)) q (verdict (checks t (permission (q .clock) t (q .bytes)) q))

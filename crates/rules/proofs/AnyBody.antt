@@ -10,7 +10,8 @@ use Rattle.rules.specs.Defaults.{Defaults}
 use Rattle.rules.specs.Permission.{permission, effective, has, neededBit}
 use Rattle.rules.specs.Action.{action}
 use Rattle.rules.specs.Reading.{reads}
-use Rattle.rules.specs.Checks.{checks, verdict, numberOf, badLength, noVerb, zeroBitSet, mismatch, unknownResource, noRow, noCredential, noEndpoint, notPermitted, notOffered}
+use Rattle.rules.specs.Checks.{checks, verdict, numberOf, badLength, noVerb, zeroBitSet, mismatch}
+use Rattle.rules.specs.Checks.{unknownResource, noRow, noCredential, noEndpoint, notPermitted, notOffered}
 use Rattle.rules.specs.Outcome.{toldTo}
 use Rattle.rules.proofs.Answers.{no-reply-fits}
 use Rattle.rules.proofs.Refusals.{answer-is}
@@ -76,7 +77,8 @@ module _ (h i j k : ℕ) (b : List ℕ) (few : length b ≤ 252) where
     pub any-body : (d : Defaults) (t : Tables) (clock room : ℕ)
         → toldTo d t (received clock whole room) .answer ≡ toldTo d t (received clock bare room) .answer
     any-body d t clock room =
-        let e : verdict (checks t (permission clock t whole) (received clock whole room)) ≡ verdict (checks t (permission clock t bare) (received clock bare room)) =
+        let e : verdict (checks t (permission clock t whole) (received clock whole room))
+        ≡ verdict (checks t (permission clock t bare) (received clock bare room)) =
         rw (
           long-same,
           verb-same,

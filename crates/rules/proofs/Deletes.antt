@@ -13,7 +13,8 @@ use Rattle.rules.specs.Bodies.{isNil, newOwned, ownerBody, target, state
 use Rattle.rules.specs.Roles.{noRole}
 use Rattle.rules.specs.Tables.{storable, rowOf, rows, withRows, sound}
 use Rattle.rules.specs.Defaults.{Defaults}
-use Rattle.rules.specs.Action.{ifAllowed, updateDoxm, updatePstat, storeRow, updateRows, updateRoles, updateAction, deleteNumber, deleteAces, deleteCreds, deleteAction, readAction, securityAction, action}
+use Rattle.rules.specs.Action.{ifAllowed, updateDoxm, updatePstat, storeRow, updateRows, updateRoles, updateAction}
+use Rattle.rules.specs.Action.{deleteNumber, deleteAces, deleteCreds, deleteAction, readAction, securityAction, action}
 use Rattle.rules.specs.Places.{nowhere, gapOf, placesOf, deletes}
 use Rattle.rules.specs.Permission.{permission}
 use Rattle.rules.specs.Checks.{checks, isMalformed, missing}

@@ -1,7 +1,8 @@
 -- The paper's own examples as theorems: the fourteen rows of 'Why a record is turned away', the worked run, the readings to guard against, full tables.
 -- Before them the rows and tables that the examples of all requests are made of.
 use Rattle.rows.proofs.Prelude.{_≡_, refl, false, List, [], _∷_, _++_, map, ℕ, zero, suc, _+_, _*_, _/_, _%_, replicate, ones, onesIn}
-use Rattle.rows.specs.Rows.{Row, rowsBefore, rowsOf, joined, packed, allZero, same, hasKey, numberedAs, firstRow, some, every, without, distinctNumbers, stored, unionOf, withRow}
+use Rattle.rows.specs.Rows.{Row, rowsBefore, rowsOf, joined, packed, allZero, same, hasKey, numberedAs}
+use Rattle.rows.specs.Rows.{firstRow, some, every, without, distinctNumbers, stored, unionOf, withRow}
 use Rattle.rows.specs.Contracts.{placeFrom}
 use Rattle.rules.specs.declared.Tables.{Tables}
 use Rattle.rules.specs.declared.Table.the-variants.{Creds, Aces}
@@ -12,19 +13,29 @@ use Rattle.rules.specs.Bodies.{nil, isNil, ownerBody, stateBody, credSto
 use Rattle.rules.specs.Roles.{noRole, free, sameRole, unasserted, rolesInForce, rolesSound, credHeld, withRole, bothTaken, asserted}
 use Rattle.rules.specs.Tables.{rowsIn, withRows, rowsSound, headSound, sound, empty, rowOwner, withOwner, withState}
 use Rattle.rules.specs.Defaults.{noDefaults, goodList, defaultRows, fresh}
-use Rattle.rules.specs.Permission.{has, forRole, roleFits, subjectIs, subjectFits, resourceFits, inForce, rowFits, gives, names, isOwner, byOwner, byNoOwner, byRoles, effectiveOf, effective, permission}
-use Rattle.rules.specs.Action.{ifAllowed, updateDoxm, updatePstat, storeRow, updateRows, updateRoles, updateAction, deleteNumber, deleteAces, deleteCreds, deleteAction, readAction, securityAction, action}
+use Rattle.rules.specs.Permission.{has, forRole, roleFits, subjectIs, subjectFits, resourceFits, inForce, rowFits, gives}
+use Rattle.rules.specs.Permission.{names, isOwner, byOwner, byNoOwner, byRoles, effectiveOf, effective, permission}
+use Rattle.rules.specs.Action.{ifAllowed, updateDoxm, updatePstat, storeRow, updateRows, updateRoles, updateAction}
+use Rattle.rules.specs.Action.{deleteNumber, deleteAces, deleteCreds, deleteAction, readAction, securityAction, action}
 use Rattle.rules.specs.States.{writeAllowed, moveListed, moveAllowed}
 use Rattle.rules.specs.Places.{nowhere, gapOf}
 use Rattle.rules.specs.Links.{asksLinks, linkSet, noLinks}
 use Rattle.rules.specs.Reading.{ownBody, rowBytes, contents, reads, replyOf, tooShort}
-use Rattle.rules.specs.Checks.{badLength, noVerb, zeroBitSet, mismatch, unknownResource, noCredential, noEndpoint, notPermitted, offered, notOffered, verdict}
+use Rattle.rules.specs.Checks.{badLength, noVerb, zeroBitSet, mismatch, unknownResource}
+use Rattle.rules.specs.Checks.{noCredential, noEndpoint, notPermitted, offered, notOffered, verdict}
 use Rattle.rules.specs.Outcome.{outcomeAt, outcome, entered, toldTo, tablesAfter}
 use Rattle.rules.specs.Run.{replies}
 
 -- `unfolding definitions` opens all that its own line names
 unfoldable pub definitions : Unit {0}
-unfolding ones onesIn rowsBefore gapOf rowsOf joined packed allZero same hasKey numberedAs placeFrom firstRow some every without distinctNumbers stored unionOf withRow bit bits has resourceOf word sender payloadOf nil isNil ownerBody stateBody credStorable credRowOf noRole free sameRole rolesInForce rolesSound credHeld withRole bothTaken asserted setKnown subjectStorable aceStorable everySecond aceRowOf rowsIn rowsSound headSound sound empty goodList defaultRows fresh rowOwner forRole roleFits subjectIs subjectFits resourceFits inForce rowFits gives names isOwner byOwner byNoOwner byRoles effectiveOf permission ownBody rowBytes contents reads replyOf tooShort ifAllowed updateDoxm updatePstat storeRow updateRows updateRoles updateAction deleteNumber deleteAces deleteCreds deleteAction readAction securityAction action writeAllowed moveListed moveAllowed badLength noVerb zeroBitSet mismatch unknownResource noCredential noEndpoint notPermitted offered notOffered verdict entered asksLinks linkSet outcomeAt outcome
+unfolding ones onesIn rowsBefore gapOf rowsOf joined packed allZero same hasKey numberedAs placeFrom firstRow some every without
+    distinctNumbers stored unionOf withRow bit bits has resourceOf word sender payloadOf nil isNil ownerBody stateBody credStorable
+    credRowOf noRole free sameRole rolesInForce rolesSound credHeld withRole bothTaken asserted setKnown subjectStorable aceStorable
+    everySecond aceRowOf rowsIn rowsSound headSound sound empty goodList defaultRows fresh rowOwner forRole roleFits subjectIs
+    subjectFits resourceFits inForce rowFits gives names isOwner byOwner byNoOwner byRoles effectiveOf permission ownBody rowBytes
+    contents reads replyOf tooShort ifAllowed updateDoxm updatePstat storeRow updateRows updateRoles updateAction deleteNumber
+    deleteAces deleteCreds deleteAction readAction securityAction action writeAllowed moveListed moveAllowed badLength noVerb zeroBitSet
+    mismatch unknownResource noCredential noEndpoint notPermitted offered notOffered verdict entered asksLinks linkSet outcomeAt outcome
 definitions = tt
 
 -- a record at clock 0, with a buffer that fits any reply
@@ -85,7 +96,9 @@ unfoldable pub haulier : List ℕ
 haulier = replicate 16 0x22
 
 unfoldable pub yard : Tables
-yard = withCreds (serving (aceRow 1 0 2 0 weight haulier ∷ aceRow 2 2 2 0 weight (connected 0) ∷ [])) (credRow 5 ∷ (0 ∷ 7 ∷ (haulier ++ (0 ∷ 0 ∷ 0 ∷ 0 ∷ 4 ∷ []))) ∷ [])
+yard =
+    withCreds (serving (aceRow 1 0 2 0 weight haulier ∷ aceRow 2 2 2 0 weight (connected 0) ∷ []))
+    (credRow 5 ∷ (0 ∷ 7 ∷ (haulier ++ (0 ∷ 0 ∷ 0 ∷ 0 ∷ 4 ∷ []))) ∷ [])
 
 -- ---- the fourteen rows
 
@@ -96,7 +109,16 @@ credRows (suc n) = credRow (suc n) ∷ credRows n
 
 -- 25 credential rows are claimed where 24 stand: nothing else is wrong
 overfull : Tables
-overfull = record { state = 1; owned = 0; ncreds = 25; naces = 0; devowner = nil; rowners = replicate 64 0; creds = packed 936 (map unasserted (credRows 24)); aces = replicate 1152 0 }
+overfull = record {
+  state = 1;
+  owned = 0;
+  ncreds = 25;
+  naces = 0;
+  devowner = nil;
+  rowners = replicate 64 0;
+  creds = packed 936 (map unasserted (credRows 24));
+  aces = replicate 1152 0;
+}
 
 -- 24 credential rows
 full24 : Tables
@@ -148,7 +170,8 @@ workedRun =
 pub line : Tables → Request → List ℕ
 line t q = toldTo noDefaults t q .answer ∷ toldTo noDefaults t q .permission ∷ tablesAfter noDefaults t q .state ∷ []
 
-pub worked : replies line (tablesAfter noDefaults) (fresh noDefaults) (map lent workedRun) ≡ (0 ∷ 31 ∷ 1 ∷ []) ∷ (0 ∷ 31 ∷ 1 ∷ []) ∷ (8 ∷ 0 ∷ 1 ∷ []) ∷ (0 ∷ 31 ∷ 2 ∷ []) ∷ (12 ∷ 0 ∷ 2 ∷ []) ∷ []
+pub worked : replies line (tablesAfter noDefaults) (fresh noDefaults) (map lent workedRun)
+    ≡ (0 ∷ 31 ∷ 1 ∷ []) ∷ (0 ∷ 31 ∷ 1 ∷ []) ∷ (8 ∷ 0 ∷ 1 ∷ []) ∷ (0 ∷ 31 ∷ 2 ∷ []) ∷ (12 ∷ 0 ∷ 2 ∷ []) ∷ []
 unfolding definitions line workedRun uuid credBody credRow withCreds
 worked = refl
 
@@ -192,6 +215,7 @@ pub crowded : Tables
 crowded = withState (withOwner (withCreds (withRows Aces (fresh noDefaults) (aceRows 32)) (credRows 24)) 1 uuid) 3
 
 -- RETRIEVE of resource 8 by the owner's credential 5
-pub crowded-read : toldTo noDefaults crowded (lent (0x32 ∷ 0x00 ∷ 0x00 ∷ 0x05 ∷ 0x77 ∷ [])) ≡ record { answer = 0; permission = 2; payload = 0x77 ∷ []; contents = []; places = nowhere; links = noLinks }
+pub crowded-read : toldTo noDefaults crowded (lent (0x32 ∷ 0x00 ∷ 0x00 ∷ 0x05 ∷ 0x77 ∷ []))
+    ≡ record { answer = 0; permission = 2; payload = 0x77 ∷ []; contents = []; places = nowhere; links = noLinks }
 unfolding definitions crowded aceRows aceBody aceRow weight credRows credRow uuid withCreds
 crowded-read = refl

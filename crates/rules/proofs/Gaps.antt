@@ -101,7 +101,8 @@ module _ (k : Table) (t : Tables) (goes : Row → Bool) (h : sound t ≡ true) (
       go : (b : Bool) → some goes (rows k t) ≡ b → cond b found nowhere .first ≤ i → i < cond b found nowhere .first + cond b found nowhere .many → ⊥
       go true s f m =
           let n : i < length (rows k t) = omega (arith, gap.before-all goes (rows k t)) in
-          gap.gap-changed goes (stride k) (capacity k * stride k) (rows k t) (two-long k) long long′ i (table-parts k t h .apart) (numbered k (rows k t) (table-parts k t h .stores))
+          gap.gap-changed goes (stride k) (capacity k * stride k) (rows k t) (two-long k) long
+          long′ i (table-parts k t h .apart) (numbered k (rows k t) (table-parts k t h .stores))
           (place-room k i (omega (arith, few-rows k t h))) f n
           (ap (numberAt (stride k) i) (sym (with-bytes k t (without goes (rows k t)))) ∙ e ∙ ap (numberAt (stride k) i) stands)
       go false s f m = omega arith
@@ -132,7 +133,8 @@ module _ (k : Table) (t : Tables) (goes : Row → Bool) (h : sound t ≡ true) (
           → numberAt (stride k) i (bytes k after) ≡ numberAt (stride k) i (bytes k t)
       go true s m =
           ap (numberAt (stride k) i) (with-bytes k t (without goes (rows k t)))
-          ∙ gap.gap-after goes (stride k) (capacity k * stride k) (rows k t) (two-long k) long long′ i (length-without goes (rows k t)) (omega (arith, gap.before-all goes (rows k t))) (place-room k i c)
+          ∙ gap.gap-after goes (stride k) (capacity k * stride k) (rows k t) (two-long k) long long′ i
+          (length-without goes (rows k t)) (omega (arith, gap.before-all goes (rows k t))) (place-room k i c)
           ∙ ap (numberAt (stride k) i) (sym stands)
       go false s m = ap (numberAt (stride k) i) (none-same s)
 

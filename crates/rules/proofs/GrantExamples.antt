@@ -26,10 +26,14 @@ foreman a = replicate 13 0 ++ (a ∷ 0 ∷ 7 ∷ [])
 
 -- U on resource 8 for the role of authority 1, R for that of our works
 pub foremen : Tables
-foremen = withCreds (serving (aceRow 1 1 4 0 weight (foreman 1) ∷ aceRow 2 1 2 0 weight (foreman 0) ∷ [])) (credRow 5 ∷ foremanRow 1 1 ∷ foremanRow 2 2 ∷ foremanRow 3 0 ∷ [])
+foremen =
+    withCreds (serving (aceRow 1 1 4 0 weight (foreman 1) ∷ aceRow 2 1 2 0 weight (foreman 0) ∷ []))
+    (credRow 5 ∷ foremanRow 1 1 ∷ foremanRow 2 2 ∷ foremanRow 3 0 ∷ [])
 
 -- a role fits with its authority alone
-pub roles-fit : effective 0 foremen (partner 1) 8 ∷ effective 0 foremen (partner 2) 8 ∷ effective 0 foremen (partner 3) 8 ∷ effective 0 foremen (partner 5) 8 ∷ [] ≡ 4 ∷ 0 ∷ 2 ∷ 0 ∷ []
+pub roles-fit : effective 0 foremen (partner 1) 8 ∷ effective 0 foremen (partner 2) 8
+    ∷ effective 0 foremen (partner 3) 8 ∷ effective 0 foremen (partner 5) 8 ∷ []
+    ≡ 4 ∷ 0 ∷ 2 ∷ 0 ∷ []
 unfolding definitions foremen foremanRow foreman owned5 serving aceBody aceRow weight uuid credRow withCreds
 roles-fit = refl
 
@@ -73,17 +77,23 @@ unfolding definitions harvest seasonRow haulierRow owned5 serving aceBody aceRow
 periods-owner = refl
 
 -- a run in which each record has its own clock: the contractor reads resource 8
-pub season-run : replies (λ t q. toldTo noDefaults t q .answer) (tablesAfter noDefaults) harvest (map (λ clock. received clock (0x32 ∷ 0x00 ∷ 0x00 ∷ 0x07 ∷ []) 0) (9 ∷ 10 ∷ 20 ∷ 21 ∷ 15 ∷ [])) ≡ 8 ∷ 0 ∷ 0 ∷ 8 ∷ 0 ∷ []
+pub season-run : replies (λ t q. toldTo noDefaults t q .answer) (tablesAfter noDefaults) harvest
+    (map (λ clock. received clock (0x32 ∷ 0x00 ∷ 0x00 ∷ 0x07 ∷ []) 0) (9 ∷ 10 ∷ 20 ∷ 21 ∷ 15 ∷ []))
+    ≡ 8 ∷ 0 ∷ 0 ∷ 8 ∷ 0 ∷ []
 unfolding definitions harvest seasonRow haulierRow owned5 serving aceBody aceRow weight uuid credRow withCreds
 season-run = refl
 
 -- the premise of demand 3 counts a row of any period: this one gives U on acl2 from second 10 to second 20
-pub season-grant : mayAlter (withCreds (serving ((aceBody 1 0 4 0 (0x10 ∷ replicate 7 0) (replicate 16 0x22) ++ (0 ∷ 0 ∷ 0 ∷ 10 ∷ 0 ∷ 0 ∷ 0 ∷ 20 ∷ [])) ∷ [])) (credRow 5 ∷ haulierRow 7 ∷ [])) (partner 7) ≡ true
+pub season-grant : mayAlter (withCreds (serving ((aceBody 1 0 4 0 (0x10 ∷ replicate 7 0) (replicate 16 0x22) ++ (0 ∷ 0 ∷ 0 ∷ 10 ∷ 0 ∷ 0 ∷ 0 ∷ 20 ∷ [])) ∷ []))
+    (credRow 5 ∷ haulierRow 7 ∷ []))
+    (partner 7)
+    ≡ true
 unfolding definitions rowAlters mayFit mayAlter someSecurity haulierRow owned5 serving aceBody aceRow uuid credRow withCreds
 season-grant = refl
 
 -- 28 bytes store the row of 36 that holds for every second
-pub periods-stored : aceRowOf (aceBody 1 0 2 0 weight uuid) ∷ aceRowOf (aceRow 1 0 2 0 weight uuid) ∷ [] ≡ aceRow 1 0 2 0 weight uuid ∷ aceRow 1 0 2 0 weight uuid ∷ []
+pub periods-stored : aceRowOf (aceBody 1 0 2 0 weight uuid) ∷ aceRowOf (aceRow 1 0 2 0 weight uuid) ∷ []
+    ≡ aceRow 1 0 2 0 weight uuid ∷ aceRow 1 0 2 0 weight uuid ∷ []
 unfolding definitions aceBody aceRow weight uuid
 periods-stored = refl
 

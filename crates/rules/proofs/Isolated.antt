@@ -1,4 +1,5 @@
--- Theorem, demand 3 over the rules: what the chosen senders send changes nothing for the others, nor the tables at the end but for the roles that chosen partners asserted.
+-- Theorem, demand 3 over the rules: what the chosen senders send changes nothing for the
+-- others, nor the tables at the end but for the roles that chosen partners asserted.
 -- One claim over the whole list, from 'The others alone'; the premise is read along the others' run. Each request has its clock and its buffer's length.
 use Rattle.rows.proofs.Prelude.{_≡_, refl, sym, ap, _∙_, Bool, true, false, not, _||_, true≢false, List, ℕ, length, eqb, eqb-true, not-false, not-true}
 use Rattle.rows.specs.Rows.{stored}
@@ -101,7 +102,8 @@ module _ (d : Defaults) (chosen : Sender → Bool) where
       ∙ asserted-without (q .clock) b w (own-held t r h a) (x .valid .1) (x .valid .2) (x .placed)
       ∙ sym (hidden-chosen chosen w (a .number) (a .small) (own-two t r h a) one) in
       hidden-with chosen t (stored new (rows Creds t)) (asserted-sound c t q h x)
-      ∙ ap (withRows Creds t) (stored-over (hidden chosen) (hidden-body chosen) new (rows Creds t) (asserted-number t r h a (q .clock) b) (same ∙ ap (hidden chosen) (sym (asserted-first t r h a (q .clock) b))))
+      ∙ ap (withRows Creds t) (stored-over (hidden chosen) (hidden-body chosen) new (rows Creds t) (asserted-number t r h a (q .clock) b)
+      (same ∙ ap (hidden chosen) (sym (asserted-first t r h a (q .clock) b))))
 
   still-hidden : (t : Tables) (q : Request) (a : Action) → Still a → chosen (sender (q .bytes)) ≡ true → sound t ≡ true → Passed t q a
       → hiddenIn chosen (effect d (q .clock) t (q .bytes) a) ≡ hiddenIn chosen t
@@ -129,7 +131,8 @@ module _ (d : Defaults) (chosen : Sender → Bool) where
       go : (v : Check) → verdict (checks t p q) ≡ v → hiddenIn chosen (outcomeOf d t p q v .tables) ≡ hiddenIn chosen t
       go Pass e =
           still-hidden t q (action (q .bytes))
-          (action-still (q .bytes) p (λ sec other. effective-lacks (q .clock) chosen t (sender (q .bytes)) (resource (q .bytes)) safe c sec other) (not-false _ (passed (checks t p q) e 8)))
+          (action-still (q .bytes) p (λ sec other. effective-lacks (q .clock) chosen t (sender (q .bytes)) (resource (q .bytes)) safe c sec other)
+          (not-false _ (passed (checks t p q) e 8)))
           c h (passed-all t p q e)
       go (Refuse n) e = refl
 
@@ -189,5 +192,6 @@ module _ (d : Defaults) (chosen : Sender → Bool) where
       → (keptOf (isOthers chosen) qs (replies (toldTo d) (tablesAfter d) t qs) ≡ replies (toldTo d) (tablesAfter d) t (kept (isOthers chosen) qs))
       × (compared chosen (final (tablesAfter d) t qs) ≡ compared chosen (final (tablesAfter d) t (kept (isOthers chosen) qs)))
   isolation t qs premise =
-      let both = simulation (toldTo d) (tablesAfter d) (isOthers chosen) (Premise chosen) Related silent alike t t qs premise (record { same = refl; sound = refl }) in
+      let both = simulation (toldTo d) (tablesAfter d) (isOthers chosen) (Premise chosen)
+      Related silent alike t t qs premise (record { same = refl; sound = refl }) in
       (both .0, both .1 .same)

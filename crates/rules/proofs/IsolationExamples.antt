@@ -38,7 +38,9 @@ yard-answers = refl
 
 -- the premise for these two senders, as a test
 unfoldable pub calm : Tables → Bool
-calm t = not (eqb (t .owned) 0) && not (namesOwner t unauthenticated) && not (namesOwner t (partner 7)) && not (mayAlter t unauthenticated) && not (mayAlter t (partner 7))
+calm t =
+    not (eqb (t .owned) 0) && not (namesOwner t unauthenticated) && not (namesOwner t (partner 7))
+    && not (mayAlter t unauthenticated) && not (mayAlter t (partner 7))
 
 record Calm (t : Tables) : Type 0 where
   owned : not (eqb (t .owned) 0) ≡ true
@@ -64,11 +66,14 @@ calm-harmless t h = let p = calm-parts t h in record { hasOwner = λ s c. not-tr
     granted p (partner n) c = rw (eqb-true n 7 c) (not-true _ (p .haulier-alters))
 
 yard-premise : Along (tablesAfter noDefaults) (Premise chosen7) yard (kept (isOthers chosen7) yardRun)
-unfolding definitions calm namesOwner rowAlters mayFit mayAlter someSecurity owned5 serving aceBody aceRow weight none connected uuid credRow haulier yard yardRun chosen7 withCreds
+unfolding definitions calm namesOwner rowAlters mayFit mayAlter someSecurity owned5 serving
+    aceBody aceRow weight none connected uuid credRow haulier yard yardRun chosen7 withCreds
 yard-premise = (λ _. calm-harmless _ refl, (λ _. calm-harmless _ refl, (λ _. calm-harmless _ refl, λ _. calm-harmless _ refl)))
 
 -- so the owner's answers, and the tables at the end, are those of the owner's records alone
 pub yard-isolated :
-    (keptOf (isOthers chosen7) yardRun (replies (toldTo noDefaults) (tablesAfter noDefaults) yard yardRun) ≡ replies (toldTo noDefaults) (tablesAfter noDefaults) yard (kept (isOthers chosen7) yardRun))
-    × (compared chosen7 (final (tablesAfter noDefaults) yard yardRun) ≡ compared chosen7 (final (tablesAfter noDefaults) yard (kept (isOthers chosen7) yardRun)))
+    (keptOf (isOthers chosen7) yardRun (replies (toldTo noDefaults) (tablesAfter noDefaults) yard yardRun)
+    ≡ replies (toldTo noDefaults) (tablesAfter noDefaults) yard (kept (isOthers chosen7) yardRun))
+    × (compared chosen7 (final (tablesAfter noDefaults) yard yardRun)
+    ≡ compared chosen7 (final (tablesAfter noDefaults) yard (kept (isOthers chosen7) yardRun)))
 yard-isolated = isolation noDefaults chosen7 yard yardRun yard-premise

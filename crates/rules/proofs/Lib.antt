@@ -1,4 +1,5 @@
--- The laws of the definitions, and the theorems over them: Refusals, SoundKept, ReadBack, RowsStored, Restored, Gaps, Wear, SubjectRows, LinkLaws, AnyBody, YardSet, Isolated, PremiseNeeded; and the Examples, by what they show.
+-- The laws of the definitions, and the theorems over them: Refusals, SoundKept, ReadBack, RowsStored, Restored, Gaps,
+-- Wear, SubjectRows, LinkLaws, AnyBody, YardSet, Isolated, PremiseNeeded; and the Examples, by what they show.
 pub mod Bools
 pub mod BitLaws
 pub mod RecordLaws

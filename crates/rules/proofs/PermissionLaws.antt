@@ -11,7 +11,8 @@ use Rattle.rules.specs.Directory.{isSecurity, roles, someBelow, someSecu
 use Rattle.rules.specs.Record.{Sender, unauthenticated, partner}
 use Rattle.rules.specs.Bodies.{aceKind, acePermission, inSet}
 use Rattle.rules.specs.Tables.{rows}
-use Rattle.rules.specs.Permission.{C, U, has, isRow, ownRow, connectionOf, roleFits, subjectIs, subjectFits, resourceFits, inForce, rowFits, gives, isOwner, byOwner, byNoOwner, byRoles, effectiveOf, effective}
+use Rattle.rules.specs.Permission.{C, U, has, isRow, ownRow, connectionOf, roleFits, subjectIs, subjectFits, resourceFits}
+use Rattle.rules.specs.Permission.{inForce, rowFits, gives, isOwner, byOwner, byNoOwner, byRoles, effectiveOf, effective}
 use Rattle.rules.specs.Isolation.{Harmless, alters, namesOwner, rowAlters, mayFit, mayAlter}
 use Rattle.rules.proofs.Bools.{cond-cases, contradiction, and-left, and-right, and-both, and-false-right, or-neither, or-left, or-right, bool-cases}
 use Rattle.rules.proofs.BodyLaws.{security-number}
@@ -62,7 +63,8 @@ below-lacks (suc m) n q l h =
 
 pub security-lacks : (p : ℕ → Bool) (n : ℕ) → isSecurity n ≡ true → someSecurity p ≡ false → p n ≡ false
 unfolding someSecurity
-security-lacks p n h l = and-false-right (isSecurity n) (p n) (below-lacks (length directory) n (λ m. isSecurity m && p m) (omega (arith, security-number n h)) l) h
+security-lacks p n h l =
+    and-false-right (isSecurity n) (p n) (below-lacks (length directory) n (λ m. isSecurity m && p m) (omega (arith, security-number n h)) l) h
 
 -- tests that agree at each security resource
 below-same : (p q : ℕ → Bool) → ((n : ℕ) → isSecurity n ≡ true → p n ≡ q n) → (m : ℕ)
@@ -114,7 +116,10 @@ gives-lacks clock w c n k a one sec sub e =
     (λ f.
     let both = and-left (subjectFits clock w c a && resourceFits n a) _ f in
     let may = fits-may clock w c a one (and-left (subjectFits clock w c a) _ both) in
-    and-false-right (mayFit w c a && resourceFits n a) _ (and-weaken (mayFit w c a) (someSecurity (λ m. resourceFits m a)) (alters (acePermission a)) (resourceFits n a) (has (acePermission a) (2 ^ k)) e (security-lacks (λ m. resourceFits m a) n sec) (sub (acePermission a))) (and-both _ _ may (and-right (subjectFits clock w c a) _ both)))
+    and-false-right (mayFit w c a && resourceFits n a) _
+    (and-weaken (mayFit w c a) (someSecurity (λ m. resourceFits m a)) (alters (acePermission a)) (resourceFits n a)
+    (has (acePermission a) (2 ^ k)) e (security-lacks (λ m. resourceFits m a) n sec) (sub (acePermission a)))
+    (and-both _ _ may (and-right (subjectFits clock w c a) _ both)))
     (λ _. has-zero (2 ^ k))
 
 -- what holds of each of the bits C, U, D
@@ -126,7 +131,8 @@ alters-lacks p h =
     (h 2 (λ q e. or-right (has q C) _ (or-left (has q C || has q U) _ e))))
     (h 3 (λ q e. or-right (has q C || has q U) _ e))
 
-module _ (clock : ℕ) (chosen : Sender → Bool) (t : Tables) (s : Sender) (n : ℕ) (safe : Harmless chosen t) (c : chosen s ≡ true) (sec : isSecurity n ≡ true) (other : eqb n roles ≡ false) where
+module _ (clock : ℕ) (chosen : Sender → Bool) (t : Tables) (s : Sender) (n : ℕ) (safe : Harmless chosen t)
+    (c : chosen s ≡ true) (sec : isSecurity n ≡ true) (other : eqb n roles ≡ false) where
   owner-none : byOwner t (ownRow t s) n ≡ 0
   unfolding byOwner namesOwner
   owner-none = rw (sec, security-lacks (isOwner t (ownRow t s)) n sec (safe .notOwner s c))
@@ -152,7 +158,8 @@ module _ (clock : ℕ) (chosen : Sender → Bool) (t : Tables) (s : Sender) (n :
       ∙ or-neither _ _
       (has-or granted (byOwner t w n) k
       ∙ or-neither _ _
-      (union-lacks (gives clock w (connectionOf s) n) (λ a. mayFit w (connectionOf s) a && rowAlters a) k (λ a e. gives-lacks clock w (connectionOf s) n k a (row-partner t s) sec sub e) (rows Aces t) (safe .notGranted s c))
+      (union-lacks (gives clock w (connectionOf s) n) (λ a. mayFit w (connectionOf s) a && rowAlters a) k
+      (λ a e. gives-lacks clock w (connectionOf s) n k a (row-partner t s) sec sub e) (rows Aces t) (safe .notGranted s c))
       (none k owner-none))
       (none k unowned-none))
       (none k elsewhere-none)

@@ -73,7 +73,8 @@ answers run t = replies (λ x q. toldTo noDefaults x q .answer) (tablesAfter noD
 
 -- `unfolding the-runs` opens all that these examples say
 the-runs : Unit {0}
-unfolding definitions namesOwner rowAlters mayFit mayAlter someSecurity compared only7 parts around resetRun deleteRun answers haulierRow haulier owned5 serving aceBody aceRow uuid credRow withCreds
+unfolding definitions namesOwner rowAlters mayFit mayAlter someSecurity compared only7 parts around
+    resetRun deleteRun answers haulierRow haulier owned5 serving aceBody aceRow uuid credRow withCreds
 the-runs = tt
 
 -- ---- no owner: RFOTM, a credential row for each

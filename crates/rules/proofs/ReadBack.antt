@@ -1,7 +1,7 @@
 -- Theorems, U1: the rows that a reply tells, sent as bodies one after the other, make the table again, but for asserted roles; and how long a reply gets.
 -- The lengths of the owners' fields are those that the struct's types give.
 use Rattle.rows.proofs.Prelude.{_≡_, refl, sym, ap, ap₂, _∙_, Bool, true, false, cond, List, [], _∷_, _++_, map, append-nil, ℕ, zero, suc, _+_, _-_, _*_, _/_}
-use Rattle.rows.proofs.Prelude.{_≤_, _<_, arith, length, take, drop, drop-of-length-le, length-append, length-drop, length-map, length-take, drop-at}
+use Rattle.rows.proofs.Prelude.{_≤_, arith, length, take, drop, drop-of-length-le, length-append, length-drop, length-map, length-take, drop-at}
 use Rattle.rows.proofs.Prelude.{length-take-le, ltb, le-ltb, ne-eqb}
 use native.Mathlib.Nat.{mul-div-cancel}
 use Rattle.rows.specs.Rows.{Row, rowsOf, joined, every, distinctNumbers, storedAll}
@@ -19,7 +19,7 @@ use Rattle.rules.specs.Permission.{ownRow}
 use Rattle.rules.specs.Reading.{ownBody, rowBytes, contents, reads, replyOf, tooShort, holder, bare, rowsOfReply}
 use Rattle.rules.proofs.Bools.{and-left, and-right}
 use Rattle.rules.proofs.Answers.{table-parts}
-use Rattle.rules.proofs.BodyLaws.{sized}
+use Rattle.rules.proofs.BodyLaws.{sized, positive}
 use Rattle.rules.proofs.TableLaws.{few-rows}
 use Rattle.rules.proofs.RoleLaws.{body-long, in-force-short}
 use Rattle.rules.proofs.RowMaps.{without-roles-body, distinct-map}
@@ -49,10 +49,6 @@ bodies-long (w ∷ ws) a = (body-long w (a .0), bodies-long ws (a .1))
 pub long-bodies : (k : Table) (t : Tables) → sound t ≡ true → AllLong (longest k) (bodies k (rows k t))
 long-bodies Creds t h = bodies-long (rows Creds t) (long-rows Creds t h)
 long-bodies Aces t h = long-rows Aces t h
-
-positive : (k : Table) → 0 < longest k
-positive Creds = omega arith
-positive Aces = omega arith
 
 pub read-rows : (k : Table) (owner : List ℕ) (ws : List Row) → length owner ≡ 16 → AllLong (longest k) ws → rowsOfReply k (owner ++ joined ws) ≡ ws
 read-rows k owner ws l a =

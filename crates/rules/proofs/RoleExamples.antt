@@ -24,7 +24,9 @@ use Rattle.rules.proofs.Isolated.{isolation}
 
 -- state 3, the owner in row 5, a haulier in row 7; role 7 of authority 1 may read /tare and read and update /yard
 pub today : Tables
-today = withCreds (serving (aceRow 1 1 2 0 (0 ∷ 0x40 ∷ replicate 6 0) (foreman 1) ∷ aceRow 2 1 6 0 (0 ∷ 0 ∷ 0x80 ∷ replicate 5 0) (foreman 1) ∷ [])) (credRow 5 ∷ haulierRow 7 ∷ [])
+today =
+    withCreds (serving (aceRow 1 1 2 0 (0 ∷ 0x40 ∷ replicate 6 0) (foreman 1) ∷ aceRow 2 1 6 0 (0 ∷ 0 ∷ 0x80 ∷ replicate 5 0) (foreman 1) ∷ []))
+    (credRow 5 ∷ haulierRow 7 ∷ [])
 
 -- a body of 8 bytes
 pub role : ℕ → ℕ → ℕ → List ℕ
@@ -49,7 +51,8 @@ answers qs = replies (λ t q. toldTo noDefaults t q .answer) (tablesAfter noDefa
 
 -- `unfolding the-day` opens all that these examples say
 the-day : Unit {0}
-unfolding definitions permits ownRecord setOf rowAlters mayFit mayAlter someSecurity today role asserts tare haulierWith rolesAfter answers haulierRow foreman owned5 serving aceBody aceRow weight connected uuid credRow withCreds haulier yard chosen7
+unfolding definitions permits ownRecord setOf rowAlters mayFit mayAlter someSecurity today role asserts tare haulierWith
+    rolesAfter answers haulierRow foreman owned5 serving aceBody aceRow weight connected uuid credRow withCreds haulier yard chosen7
 the-day = tt
 
 -- ---- before it is asserted, while it holds, on its last second and after
@@ -74,7 +77,8 @@ pub added : final (tablesAfter noDefaults) today (asserts 50 (role 1 7 100) ∷ 
 unfolding the-day two-roles
 added = refl
 
-pub renewed-in-place : rows Creds (tablesAfter noDefaults two-roles (asserts 60 (role 1 7 80))) ≡ unasserted (credRow 5) ∷ haulierWith (role 1 7 80 ++ role 0 3 90) ∷ []
+pub renewed-in-place : rows Creds (tablesAfter noDefaults two-roles (asserts 60 (role 1 7 80)))
+    ≡ unasserted (credRow 5) ∷ haulierWith (role 1 7 80 ++ role 0 3 90) ∷ []
 unfolding the-day two-roles
 renewed-in-place = refl
 
@@ -86,17 +90,20 @@ third = refl
 
 pub closed-up :
     map (λ clock. rows Creds (tablesAfter noDefaults two-roles (asserts clock (role 0 4 200)))) (91 ∷ 101 ∷ [])
-    ≡ (unasserted (credRow 5) ∷ haulierWith (role 1 7 100 ++ role 0 4 200) ∷ []) ∷ (unasserted (credRow 5) ∷ haulierWith (role 0 4 200 ++ replicate 8 0) ∷ []) ∷ []
+    ≡ (unasserted (credRow 5) ∷ haulierWith (role 1 7 100 ++ role 0 4 200) ∷ []) ∷
+    (unasserted (credRow 5) ∷ haulierWith (role 0 4 200 ++ replicate 8 0) ∷ []) ∷ []
 unfolding the-day two-roles
 closed-up = refl
 
 -- the first is over before the second: the second comes to the first place
-pub moved-up : rolesAfter (asserts 50 (role 1 7 80) ∷ asserts 50 (role 0 3 90) ∷ asserts 81 (role 0 4 200) ∷ []) ≡ unasserted (credRow 5) ∷ haulierWith (role 0 3 90 ++ role 0 4 200) ∷ []
+pub moved-up : rolesAfter (asserts 50 (role 1 7 80) ∷ asserts 50 (role 0 3 90) ∷ asserts 81 (role 0 4 200) ∷ [])
+    ≡ unasserted (credRow 5) ∷ haulierWith (role 0 3 90 ++ role 0 4 200) ∷ []
 unfolding the-day
 moved-up = refl
 
 -- a role that is over goes first, so that its equal arrives at the end
-pub arrives-anew : rolesAfter (asserts 50 (role 1 7 80) ∷ asserts 50 (role 0 3 90) ∷ asserts 81 (role 1 7 200) ∷ []) ≡ unasserted (credRow 5) ∷ haulierWith (role 0 3 90 ++ role 1 7 200) ∷ []
+pub arrives-anew : rolesAfter (asserts 50 (role 1 7 80) ∷ asserts 50 (role 0 3 90) ∷ asserts 81 (role 1 7 200) ∷ [])
+    ≡ unasserted (credRow 5) ∷ haulierWith (role 0 3 90 ++ role 1 7 200) ∷ []
 unfolding the-day
 arrives-anew = refl
 
@@ -107,7 +114,8 @@ already-over = refl
 
 -- ---- refusals
 
--- outside RFNOP; over connection 0 while there is no owner, in RFOTM; role 0; 16 bytes; 7 bytes; DELETE, by a partner and by the owner; UPDATE over connection 0; a partner without a row
+-- outside RFNOP; over connection 0 while there is no owner, in RFOTM; role 0; 16 bytes; 7 bytes;
+-- DELETE, by a partner and by the owner; UPDATE over connection 0; a partner without a row
 pub refused-today :
     map (λ (e : Tables × List ℕ). toldTo noDefaults (e .0) (received 50 (e .1) 0) .answer)
     ((withState today 2, 0x51 ∷ 0x00 ∷ 0x00 ∷ 0x07 ∷ role 1 7 100)
@@ -125,7 +133,9 @@ unfolding the-day
 refused-today = refl
 
 -- permission on roles: a partner, the device owner, nobody in particular, and anybody while there is no owner
-pub permitted-today : effective 0 today (partner 7) 4 ∷ effective 0 today (partner 5) 4 ∷ effective 0 today unauthenticated 4 ∷ effective 0 (fresh noDefaults) unauthenticated 4 ∷ [] ≡ 6 ∷ 31 ∷ 0 ∷ 31 ∷ []
+pub permitted-today : effective 0 today (partner 7) 4 ∷ effective 0 today (partner 5) 4 ∷ effective 0
+    today unauthenticated 4 ∷ effective 0 (fresh noDefaults) unauthenticated 4 ∷ []
+    ≡ 6 ∷ 31 ∷ 0 ∷ 31 ∷ []
 unfolding the-day
 permitted-today = refl
 
@@ -142,10 +152,12 @@ pub read-today :
     ∷ read-as 90 16 (0x31 ∷ 0x00 ∷ 0x00 ∷ 0x05 ∷ [])
     ∷ read-as 90 15 (0x31 ∷ 0x00 ∷ 0x00 ∷ 0x07 ∷ [])
     ∷ read-as 90 0 (0x91 ∷ 0x00 ∷ 0x00 ∷ 0x07 ∷ [])
-    ∷ (toldTo noDefaults (fresh noDefaults) (received 90 (0x21 ∷ 0x00 ∷ 0x00 ∷ 0x00 ∷ []) 0) .answer ∷ toldTo noDefaults (fresh noDefaults) (received 90 (0x21 ∷ 0x00 ∷ 0x00 ∷ 0x00 ∷ []) 0) .contents)
+    ∷ (toldTo noDefaults (fresh noDefaults) (received 90 (0x21 ∷ 0x00 ∷ 0x00 ∷ 0x00 ∷ []) 0) .answer ∷
+    toldTo noDefaults (fresh noDefaults) (received 90 (0x21 ∷ 0x00 ∷ 0x00 ∷ 0x00 ∷ []) 0) .contents)
     ∷ read-as 90 62 (0x30 ∷ 0x80 ∷ 0x00 ∷ 0x05 ∷ [])
     ∷ []
-    ≡ (0 ∷ (role 1 7 100 ++ role 0 3 90)) ∷ (0 ∷ role 1 7 100) ∷ (0 ∷ []) ∷ (0 ∷ []) ∷ (15 ∷ []) ∷ (0 ∷ []) ∷ (0 ∷ []) ∷ (0 ∷ (nil ++ credRow 5 ++ haulierRow 7)) ∷ []
+    ≡ (0 ∷ (role 1 7 100 ++ role 0 3 90)) ∷ (0 ∷ role 1 7 100) ∷ (0 ∷ []) ∷ (0 ∷ [])
+    ∷ (15 ∷ []) ∷ (0 ∷ []) ∷ (0 ∷ []) ∷ (0 ∷ (nil ++ credRow 5 ++ haulierRow 7)) ∷ []
 unfolding the-day two-roles read-as
 read-today = refl
 
@@ -174,7 +186,8 @@ pub dropped :
     ∷ rows Creds (owner-does (0x70 ∷ 0x80 ∷ 0x00 ∷ 0x05 ∷ []) [])
     ∷ rows Creds (owner-does (0x50 ∷ 0x80 ∷ 0x00 ∷ 0x05 ∷ []) (credRow 5))
     ∷ []
-    ≡ (unasserted (credRow 5) ∷ unasserted (haulierRow 7) ∷ []) ∷ (unasserted (credRow 5) ∷ []) ∷ (unasserted (credRow 5) ∷ []) ∷ [] ∷ (unasserted (credRow 5) ∷ haulierWith (role 1 7 100 ++ role 0 3 90) ∷ []) ∷ []
+    ≡ (unasserted (credRow 5) ∷ unasserted (haulierRow 7) ∷ []) ∷ (unasserted (credRow 5) ∷ []) ∷
+    (unasserted (credRow 5) ∷ []) ∷ [] ∷ (unasserted (credRow 5) ∷ haulierWith (role 1 7 100 ++ role 0 3 90) ∷ []) ∷ []
 unfolding the-day two-roles owner-does
 dropped = refl
 
@@ -182,7 +195,8 @@ pub dropped-by-reset : owner-does (0x50 ∷ 0x40 ∷ 0x00 ∷ 0x05 ∷ []) (0x00
 unfolding the-day two-roles owner-does
 dropped-by-reset = refl
 
--- ---- what sound tables hold: nothing; one role; two; not the second place alone; not a role twice; no role 0 with an authority; no byte in a place that is not used
+-- ---- what sound tables hold: nothing; one role; two; not the second place alone; not a
+-- role twice; no role 0 with an authority; no byte in a place that is not used
 
 pub roles-held :
     map (λ roles. credHeld (haulierWith roles))
@@ -206,7 +220,8 @@ pub yard-today :
 unfolding the-day two-roles
 yard-today = refl
 
--- ---- the premise of demand 3 counts every role as a chosen partner's: one that may update acl2 counts for partner 7, who has none, and not for the unauthenticated
+-- ---- the premise of demand 3 counts every role as a chosen partner's: one that may
+-- update acl2 counts for partner 7, who has none, and not for the unauthenticated
 
 pub role-grant : Tables
 role-grant = withRows Aces today (aceRow 1 1 4 0 (0x10 ∷ replicate 7 0) (foreman 9) ∷ [])
@@ -215,7 +230,8 @@ pub every-role : mayAlter role-grant (partner 7) ∷ mayAlter role-grant unauthe
 unfolding the-day role-grant
 every-role = refl
 
--- without this part of the premise the claim is false: role 7 may update pstat, and partner 7 asserts it and leaves RFNOP; what the owner reads then is another state
+-- without this part of the premise the claim is false: role 7 may update pstat, and
+-- partner 7 asserts it and leaves RFNOP; what the owner reads then is another state
 pub openedRun : List Request
 openedRun =
     map (λ r. received 50 r 17)
@@ -261,8 +277,10 @@ unfolding the-day calm namesOwner roleRun
 role-premise = (λ _. calm-harmless _ refl, (λ _. calm-harmless _ refl, (λ _. calm-harmless _ refl, λ _. calm-harmless _ refl)))
 
 pub role-isolated :
-    (keptOf (isOthers chosen7) roleRun (replies (toldTo noDefaults) (tablesAfter noDefaults) yard roleRun) ≡ replies (toldTo noDefaults) (tablesAfter noDefaults) yard (kept (isOthers chosen7) roleRun))
-    × (compared chosen7 (final (tablesAfter noDefaults) yard roleRun) ≡ compared chosen7 (final (tablesAfter noDefaults) yard (kept (isOthers chosen7) roleRun)))
+    (keptOf (isOthers chosen7) roleRun (replies (toldTo noDefaults) (tablesAfter noDefaults) yard roleRun)
+    ≡ replies (toldTo noDefaults) (tablesAfter noDefaults) yard (kept (isOthers chosen7) roleRun))
+    × (compared chosen7 (final (tablesAfter noDefaults) yard roleRun)
+    ≡ compared chosen7 (final (tablesAfter noDefaults) yard (kept (isOthers chosen7) roleRun)))
 role-isolated = isolation noDefaults chosen7 yard roleRun role-premise
 
 -- the tables themselves are not the same

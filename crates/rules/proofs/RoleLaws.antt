@@ -7,7 +7,8 @@ use Rattle.rows.specs.Rows.{Row, joined, packed, allZero, same, some, without}
 use Rattle.rows.proofs.Kept.{length-packed, same-true, same-sym}
 use Rattle.rules.specs.Bits.{bit, bits}
 use Rattle.rules.specs.Bodies.{credStorable}
-use Rattle.rules.specs.Roles.{noRole, free, sameRole, unasserted, bodyOf, firstRole, secondRole, rolesInForce, rolesSound, credHeld, withoutRoles, withRole, bothTaken, asserted}
+use Rattle.rules.specs.Roles.{noRole, free, sameRole, unasserted, bodyOf, firstRole, secondRole, rolesInForce}
+use Rattle.rules.specs.Roles.{rolesSound, credHeld, withoutRoles, withRole, bothTaken, asserted}
 use Rattle.rules.proofs.Bools.{contradiction, and-left, and-right, and-both, or-left}
 
 -- the parts of a credential row
@@ -20,7 +21,11 @@ pub held-parts : (w : Row) → credHeld w ≡ true → Held w
 unfolding credHeld
 held-parts w h =
     let both = and-left (eqb (length w) 39 && credStorable (bodyOf w)) (rolesSound w) h in
-    record { long = eqb-true (length w) 39 (and-left (eqb (length w) 39) (credStorable (bodyOf w)) both); body = and-right (eqb (length w) 39) (credStorable (bodyOf w)) both; roles = and-right (eqb (length w) 39 && credStorable (bodyOf w)) (rolesSound w) h }
+    record {
+      long = eqb-true (length w) 39 (and-left (eqb (length w) 39) (credStorable (bodyOf w)) both);
+      body = and-right (eqb (length w) 39) (credStorable (bodyOf w)) both;
+      roles = and-right (eqb (length w) 39 && credStorable (bodyOf w)) (rolesSound w) h;
+    }
 
 held-whole : (w : Row) → Held w → credHeld w ≡ true
 unfolding credHeld
@@ -192,7 +197,8 @@ module _ (clock : ℕ) (b : List ℕ) (w : Row) (p : Held w) where
     pub asserted-held : Held (asserted clock b w)
     unfolding asserted
     asserted-held =
-        held-with (bodyOf w) (body-long w (p .long)) (packed 16 (withRole b (rolesInForce clock w))) (p .body) (few-long (withRole b (rolesInForce clock w)) few) (sound-few (withRole b (rolesInForce clock w)) few)
+        held-with (bodyOf w) (body-long w (p .long)) (packed 16 (withRole b (rolesInForce clock w))) (p .body)
+        (few-long (withRole b (rolesInForce clock w)) few) (sound-few (withRole b (rolesInForce clock w)) few)
 
     pub asserted-storable : credHeld (asserted clock b w) ≡ true
     asserted-storable = held-whole (asserted clock b w) asserted-held

@@ -26,7 +26,8 @@ module _ (clock : ℕ) (w : Row) where
 
   -- both places hold other roles than this one
   pub both-taken : (new : Row)
-      → bothTaken new (rolesInForce clock w) ≡ ((not (free clock (firstRole w)) && not (sameRole new (firstRole w))) && (not (free clock (secondRole w)) && not (sameRole new (secondRole w))))
+      → bothTaken new (rolesInForce clock w)
+      ≡ ((not (free clock (firstRole w)) && not (sameRole new (firstRole w))) && (not (free clock (secondRole w)) && not (sameRole new (secondRole w))))
   unfolding rolesInForce without bothTaken some
   both-taken new = go (free clock (firstRole w)) (free clock (secondRole w)) (sameRole new (firstRole w)) refl (sameRole new (secondRole w)) refl
     where

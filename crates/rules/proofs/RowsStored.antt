@@ -18,7 +18,8 @@ use Rattle.rules.specs.Directory.{isSecurity, resourceOf}
 use Rattle.rules.specs.Record.{Request, Sender, unauthenticated, partner, sender, verb, resource, body}
 use Rattle.rules.specs.Tables.{longest, capacity, storable, rowOf, count, bytes, rows, rowsIn, rowOwner, withRows, sound, stride}
 use Rattle.rules.specs.Defaults.{Defaults}
-use Rattle.rules.specs.Permission.{U, has, numbered, ownRow, connectionOf, gives, isOwner, byOwner, byNoOwner, byRoles, effectiveOf, effective, permission}
+use Rattle.rules.specs.Permission.{U, has, numbered, ownRow, connectionOf, gives, isOwner, byOwner}
+use Rattle.rules.specs.Permission.{byNoOwner, byRoles, effectiveOf, effective, permission}
 use Rattle.rules.specs.Action.{ifAllowed, storeRow, updateRows, updateAction, securityAction, action}
 use Rattle.rules.specs.States.{writeAllowed}
 use Rattle.rules.specs.Reading.{reads, replyOf, tooShort, holder}

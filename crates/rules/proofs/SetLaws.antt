@@ -45,7 +45,10 @@ and-turn false b c = refl
 unknown-part : (r : Row) (n w : ℕ) → allUnknown n w ≡ true → setKnown r (n + w) ≡ (eqb (bits r (32 + n) w) 0 && setKnown r n)
 unfolding setKnown bits
 unknown-part r n zero h = rw add-zero
-unknown-part r n (suc w) h = ap (setKnown r) (add-suc n w) ∙ split (unknown-part r n w (and-right (not (known (n + w))) (allUnknown n w) h)) ∙ ap (λ (b : Bool). b && setKnown r n) joined
+unknown-part r n (suc w) h =
+    ap (setKnown r) (add-suc n w)
+    ∙ split (unknown-part r n w (and-right (not (known (n + w))) (allUnknown n w) h))
+    ∙ ap (λ (b : Bool). b && setKnown r n) joined
   where
     split : setKnown r (n + w) ≡ (eqb (bits r (32 + n) w) 0 && setKnown r n)
         → ((not (inSet r (n + w)) || known (n + w)) && setKnown r (n + w)) ≡ ((not (inSet r (n + w)) && eqb (bits r (32 + n) w) 0) && setKnown r n)

@@ -26,7 +26,7 @@ use Rattle.rules.specs.Permission.{permission, ownRow}
 use Rattle.rules.specs.Run.{final}
 use Rattle.rules.proofs.Bools.{cond-cases, bool-cases, contradiction, and-left, and-right, and-both, or-not-left, or-true-right}
 use Rattle.rules.proofs.Answers.{RowsSound, Sound, sound-parts, table-parts, rows-counted, passed}
-use Rattle.rules.proofs.BodyLaws.{Valid, action-valid, sized, two-long}
+use Rattle.rules.proofs.BodyLaws.{Valid, action-valid, sized, two-long, two-fit}
 use Rattle.rules.proofs.TableLaws.{few-rows, few-stored, few-without}
 use Rattle.rules.proofs.Refusals.{unsound-refused}
 use Rattle.rules.proofs.RoleLaws.{asserted-storable}
@@ -57,8 +57,12 @@ pub record SoundRows (k : Table) (ws : List Row) : Type 0 where
 
 pub sound-with : (k : Table) (t : Tables) (ws : List Row) → sound t ≡ true → SoundRows k ws → sound (withRows k t ws) ≡ true
 unfolding headSound
-sound-with Creds t ws h x = let s = sound-parts t h in let few = x .few in sound-whole _ (record { head = s .head; creds = rows-sound Creds 936 ws (omega arith) few (x .stores) (x .apart); aces = s .aces })
-sound-with Aces t ws h x = let s = sound-parts t h in let few = x .few in sound-whole _ (record { head = s .head; creds = s .creds; aces = rows-sound Aces 1152 ws (omega arith) few (x .stores) (x .apart) })
+sound-with Creds t ws h x =
+    let s = sound-parts t h in
+    let few = x .few in sound-whole _ (record { head = s .head; creds = rows-sound Creds 936 ws (omega arith) few (x .stores) (x .apart); aces = s .aces })
+sound-with Aces t ws h x =
+    let s = sound-parts t h in
+    let few = x .few in sound-whole _ (record { head = s .head; creds = s .creds; aces = rows-sound Aces 1152 ws (omega arith) few (x .stores) (x .apart) })
 
 -- the parts of the head
 record Head (t : Tables) : Type 0 where
@@ -81,10 +85,6 @@ empty-sound = refl
 
 -- ---- the default rows are few, storable and distinct
 
-two-fit : (k : Table) → 2 ≤ capacity k
-two-fit Creds = omega arith
-two-fit Aces = omega arith
-
 record Good (k : Table) (b : List ℕ) : Type 0 where
   few : length b / longest k ≤ 2
   stores : every (storable k) (listed k b) ≡ true
@@ -103,7 +103,12 @@ unfolding defaultRows
 default-sound k b =
     cond-cases (SoundRows k) (goodList k b)
     (λ e. let g = good-parts k b e in
-    record { few = rw (length-map (rowsOf (longest k) (length b / longest k) b) (rowFrom k), length-rowsOf (longest k) (length b / longest k) b) (omega (arith, g .few, two-fit k)); stores = g .stores; apart = g .apart })
+    record {
+      few = rw (length-map (rowsOf (longest k) (length b / longest k) b) (rowFrom k), length-rowsOf (longest k) (length b / longest k) b)
+          (omega (arith, g .few, two-fit k));
+      stores = g .stores;
+      apart = g .apart;
+    })
     (λ _. no-rows k)
 
 -- fresh tables are sound, whatever the lists
@@ -167,12 +172,20 @@ pub stored-sound : (k : Table) (t : Tables) (q : Request) → sound t ≡ true �
 stored-sound k t q h x =
     let s = table-parts k t h in
     let b = body (q .bytes) in
-    record { few = few-stored k t b h (x .fits); stores = every-stored (storable k) (rowOf k b) (rows k t) (x .valid) (s .stores); apart = distinct-stored (rowOf k b) (rows k t) (s .apart) }
+    record {
+      few = few-stored k t b h (x .fits);
+      stores = every-stored (storable k) (rowOf k b) (rows k t) (x .valid) (s .stores);
+      apart = distinct-stored (rowOf k b) (rows k t) (s .apart);
+    }
 
 pub removed-sound : (k : Table) (t : Tables) (goes : Row → Bool) → sound t ≡ true → SoundRows k (without goes (rows k t))
 removed-sound k t goes h =
     let s = table-parts k t h in
-    record { few = few-without k t goes h; stores = every-without (storable k) goes (rows k t) (s .stores); apart = distinct-without goes (rows k t) (s .apart) }
+    record {
+      few = few-without k t goes h;
+      stores = every-without (storable k) goes (rows k t) (s .stores);
+      apart = distinct-without goes (rows k t) (s .apart);
+    }
 
 pub asserted-sound : (c : ℕ) (t : Tables) (q : Request) → sound t ≡ true → Passed t q (Assert c)
     → SoundRows Creds (stored (asserted (q .clock) (body (q .bytes)) (ownRow t (sender (q .bytes)))) (rows Creds t))
@@ -184,7 +197,8 @@ asserted-sound c t q h x =
     let new = asserted (q .clock) b w in
     record {
       few = rw (asserted-count t (q .bytes) h a (q .clock) b) (few-rows Creds t h);
-      stores = every-stored (storable Creds) new (rows Creds t) (asserted-storable (q .clock) b w (own-held t (q .bytes) h a) (x .valid .1) (x .valid .2) (x .placed)) (s .stores);
+      stores = every-stored (storable Creds) new (rows Creds t)
+          (asserted-storable (q .clock) b w (own-held t (q .bytes) h a) (x .valid .1) (x .valid .2) (x .placed)) (s .stores);
       apart = distinct-stored new (rows Creds t) (s .apart);
     }
 
@@ -194,18 +208,38 @@ effect-sound d t q Serve h x = h
 effect-sound d t q Read h x = h
 effect-sound d t q (SetRowOwner n) h x =
     let s = sound-parts t h in let p = head-parts t h in
-    sound-whole _ (record { head = head-whole _ (record { low = p .low; high = p .high; agrees = p .agrees; ready = p .ready }); creds = s .creds; aces = s .aces })
+    sound-whole _
+    (record { head = head-whole _ (record { low = p .low; high = p .high; agrees = p .agrees; ready = p .ready }); creds = s .creds; aces = s .aces })
 effect-sound d t q (SetOwner o) h x =
     let s = sound-parts t h in let p = head-parts t h in
-    sound-whole _ (record { head = head-whole _ (record { low = p .low; high = p .high; agrees = eq-eqb o _ (x .valid .1); ready = owner-ready (t .state) o (p .low) (p .high) (x .allowed) }); creds = s .creds; aces = s .aces })
+    sound-whole _ (record {
+      head = head-whole _ (record {
+        low = p .low;
+        high = p .high;
+        agrees = eq-eqb o _ (x .valid .1);
+        ready = owner-ready (t .state) o (p .low) (p .high) (x .allowed);
+      });
+      creds = s .creds;
+      aces = s .aces;
+    })
 effect-sound d t q (SetState n) h x =
     cond-cases (λ u. sound u ≡ true) (eqb n 0)
     (λ _. fresh-sound d)
     (λ e. let s = sound-parts t h in let p = head-parts t h in
-    sound-whole _ (record { head = head-whole _ (record { low = positive n e; high = x .valid; agrees = p .agrees; ready = or-true-right (eqb n 1) _ (move-owned t n p e (not-false _ (x .listed))) }); creds = s .creds; aces = s .aces }))
+    sound-whole _ (record {
+      head = head-whole _ (record {
+        low = positive n e;
+        high = x .valid;
+        agrees = p .agrees;
+        ready = or-true-right (eqb n 1) _ (move-owned t n p e (not-false _ (x .listed)));
+      });
+      creds = s .creds;
+      aces = s .aces;
+    }))
 effect-sound d t q (Store k) h x = sound-with k t (stored (rowOf k (body (q .bytes))) (rows k t)) h (stored-sound k t q h x)
 effect-sound d t q (Remove k at) h x = sound-with k t (without (hasKey at (body (q .bytes))) (rows k t)) h (removed-sound k t (hasKey at (body (q .bytes))) h)
-effect-sound d t q (Assert c) h x = sound-with Creds t (stored (asserted (q .clock) (body (q .bytes)) (ownRow t (sender (q .bytes)))) (rows Creds t)) h (asserted-sound c t q h x)
+effect-sound d t q (Assert c) h x =
+    sound-with Creds t (stored (asserted (q .clock) (body (q .bytes)) (ownRow t (sender (q .bytes)))) (rows Creds t)) h (asserted-sound c t q h x)
 effect-sound d t q Malformed h x = h
 
 -- at any permission

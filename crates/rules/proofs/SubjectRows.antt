@@ -118,7 +118,8 @@ module _ (d : Defaults) (t : Tables) (q : Request) (asks : deletes Creds (q .byt
       let is-delete = delete-is Creds r asks in
       let i : action r ≡ Remove Creds 2 = is-delete ∙ subject-is b long (ap isMalformed (sym is-delete) ∙ passed (earlier t p r) e 10) in
       let m : missing t b (Remove Creds 2) ≡ not some-has =
-      ap (λ (n : ℕ). not (eqb n 0) && not (some (hasKey 2 b) (rows Creds t))) long ∙ ap (λ (g : Row → Bool). not (some g (rows Creds t))) (key-subject b long) in
+      ap (λ (n : ℕ). not (eqb n 0) && not (some (hasKey 2 b) (rows Creds t))) long
+      ∙ ap (λ (g : Row → Bool). not (some g (rows Creds t))) (key-subject b long) in
       let v : verdict (checks t p q) ≡ cond some-has Pass (Refuse 13) =
       sym (skip-all (earlier t p r) (rowChecks (q .clock) t r (action r) ++ roomChecks t q) refl e refl)
       ∙ ap (λ (a : Action). verdict (rowChecks (q .clock) t r a ++ roomChecks t q)) i

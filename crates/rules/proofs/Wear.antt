@@ -95,5 +95,6 @@ no-places d t q = record {
   no-rows = λ k h same. places-unless d t q (λ z.
       let x = deleted d t q k h z in
       let ws = without (hasKey (x .at) (body (q .bytes))) (rows k t) in
-      x .places ∙ gap-none (hasKey (x .at) (body (q .bytes))) (rows k t) (sym (with-count k t ws) ∙ ap (count k) (sym (x .tables)) ∙ same ∙ sym (held k t (x .sound))));
+      x .places
+      ∙ gap-none (hasKey (x .at) (body (q .bytes))) (rows k t) (sym (with-count k t ws) ∙ ap (count k) (sym (x .tables)) ∙ same ∙ sym (held k t (x .sound))));
 }

@@ -83,7 +83,8 @@ yard-set d t q asks z =
     let passes : ℕ → Bool = λ n. permits (q .clock) t (ownRecord r n) in
     let e = permitted-passes d t q z in
     let l = long-enough r (passed (checks t (permission (q .clock) t r) q) e 2) in
-    let plain : (n : ℕ) → n < 64 → leb 8 n ≡ true → isSecurity (resource (ownRecord r n)) ≡ false = λ n h m. ap (λ (i : ℕ). isSecurity i) (own r n l h .resource-is) ∙ link-plain n m in
+    let plain : (n : ℕ) → n < 64 → leb 8 n ≡ true → isSecurity (resource (ownRecord r n)) ≡ false =
+    λ n h m. ap (λ (i : ℕ). isSecurity i) (own r n l h .resource-is) ∙ link-plain n m in
     let are : toldTo d t q .links ≡ linksOf (q .clock) t r = ap (λ (o : Outcome). o .told .links) (permitted-outcome d t q z) in
     let is : toldTo d t q .links .set ≡ setOf passes (from 8 7) = ap (λ (x : Links). x .set) are ∙ asked-set (q .clock) t r asks in
     let small : toldTo d t q .links .set < 2 ^ 64 = rw is (le-trans (set-below passes 7 7 (omega arith)) (omega arith)) in

@@ -35,7 +35,8 @@ mayFit w connection a = subjectIs (eqb connection 1) w connection a
 unfoldable pub mayAlter : Tables → Sender → Bool
 mayAlter t s = some (λ a. mayFit (ownRow t s) (connectionOf s) a && rowAlters a) (rows Aces t)
 
--- where anybody is chosen: there is an owner, no chosen sender's credential row names one, and no access row that may fit a chosen sender gives create, update or delete on a security resource
+-- where anybody is chosen: there is an owner, no chosen sender's credential row names one, and no
+-- access row that may fit a chosen sender gives create, update or delete on a security resource
 pub record Harmless (chosen : Sender → Bool) (t : Tables) : Type 0 where
   pub hasOwner : (s : Sender) → chosen s ≡ true → eqb (t .owned) 0 ≡ false
   pub notOwner : (s : Sender) → chosen s ≡ true → namesOwner t s ≡ false

@@ -13,7 +13,8 @@ use Rattle.rules.specs.Bits.{word}
 use Rattle.rules.specs.Lookup.{lookup}
 use Rattle.rules.specs.Directory.{resourceOf, isSecurity, roles, starReaches, plusReaches, minusReaches}
 use Rattle.rules.specs.Record.{Sender, unauthenticated, partner, sender, resource}
-use Rattle.rules.specs.Bodies.{isNil, credSubject, credRole, credAuthority, aceKind, acePermission, acePlus, aceMinus, aceStar, inSet, aceSubject, aceAuthority, aceRole, aceConnection, aceFirst, aceLast}
+use Rattle.rules.specs.Bodies.{isNil, credSubject, credRole, credAuthority, aceKind, acePermission, acePlus, aceMinus}
+use Rattle.rules.specs.Bodies.{aceStar, inSet, aceSubject, aceAuthority, aceRole, aceConnection, aceFirst, aceLast}
 use Rattle.rules.specs.Roles.{assertedAuthority, assertedRole, rolesInForce}
 use Rattle.rules.specs.Tables.{rows, rowOwner}
 

@@ -11,12 +11,15 @@ use Rattle.rules.proofs.Examples.{definitions, uuid, credRow, withCreds, owned5
 use Rattle.rules_lists.specs.Lists.{badSize, unfit, excessive, said, accepted, rowsTested, listTested}
 use Rattle.rules_lists.specs.Loading.{ownsDevice, storing, Loaded}
 use Rattle.rules_legacy.specs.OldList.{oldRows, isAnybody, oldFits, oldGives, oldUnion, opensSecurity, badRow, badFile}
-use Rattle.rules_legacy.specs.Conversion.{entry, uuidEntry, connectionEntry, entriesOf, allEntries, numberedFrom, rowsMade, tooManyRows, bufferTooShort, conversionVerdict, conversionReply}
+use Rattle.rules_legacy.specs.Conversion.{entry, uuidEntry, connectionEntry, entriesOf, allEntries, numberedFrom}
+use Rattle.rules_legacy.specs.Conversion.{rowsMade, tooManyRows, bufferTooShort, conversionVerdict, conversionReply}
 use Rattle.rules_legacy.proofs.TakenOver.{rows-loaded}
 
 -- opens the definitions of the rules, of the test of a list, and of the conversion
 converting : Unit {0}
-unfolding definitions refuseIf rowAlters someSecurity badSize unfit excessive rowsTested listTested oldRows isAnybody oldFits oldGives oldUnion opensSecurity badRow badFile entry uuidEntry connectionEntry entriesOf allEntries numberedFrom rowsMade tooManyRows bufferTooShort conversionVerdict conversionReply
+unfolding definitions refuseIf rowAlters someSecurity badSize unfit excessive rowsTested listTested
+    oldRows isAnybody oldFits oldGives oldUnion opensSecurity badRow badFile entry uuidEntry connectionEntry
+    entriesOf allEntries numberedFrom rowsMade tooManyRows bufferTooShort conversionVerdict conversionReply
 converting = tt
 
 -- ---- old rows: each byte of the subject, the byte of permission and zero bits, and the first three bytes of the set

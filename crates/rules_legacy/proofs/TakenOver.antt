@@ -26,7 +26,8 @@ without-rows clock t r z =
     let w = credentialIn (rows Creds t) (sender r) in
     let c = connectionOf (sender r) in
     effective-parts clock t (sender r) (resource r)
-    ∙ ap (λ (ws : List Row). bitOr (unionOf (gives clock w c (resource r)) ws) (effective clock (withRows Aces t []) (sender r) (resource r))) (none-held Aces t z)
+    ∙ ap (λ (ws : List Row). bitOr (unionOf (gives clock w c (resource r)) ws) (effective clock (withRows Aces t []) (sender r) (resource r)))
+    (none-held Aces t z)
 
 module _ (f : List ℕ) (good : badFile f ≡ false) (few : tooManyRows f ≡ false) (closed : some opensSecurity (oldRows f) ≡ false) where
   module _ (d : Defaults) (t : Tables) (n : ℕ) (qs : List Request) (ready : Ready n t) (stores : Stores n qs (rowsMade f)) where

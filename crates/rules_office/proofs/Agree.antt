@@ -74,7 +74,8 @@ module _ (r s : List ℕ) where
           let j : start + (i / 8 - start) ≡ i / 8 = omega arith in
           let k : i / 8 - start < count = omega arith in
           ap (λ (x : ℕ). x / 2 ^ (7 - i % 8) % 2)
-          (ap (λ (n : ℕ). getD r n 0) (sym j) ∙ sym (at-part r start count (i / 8 - start) k) ∙ ap (λ (w : List ℕ). getD w (i / 8 - start) 0) e ∙ at-part s start count (i / 8 - start) k ∙ ap (λ (n : ℕ). getD s n 0) j)
+          (ap (λ (n : ℕ). getD r n 0) (sym j) ∙ sym (at-part r start count (i / 8 - start) k)
+          ∙ ap (λ (w : List ℕ). getD w (i / 8 - start) 0) e ∙ at-part s start count (i / 8 - start) k ∙ ap (λ (n : ℕ). getD s n 0) j)
 
   bits-agree : (b width : ℕ) → ((i : ℕ) → b ≤ i → i < b + width → bit r i ≡ bit s i) → bits r b width ≡ bits s b width
   unfolding bits

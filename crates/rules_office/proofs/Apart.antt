@@ -13,7 +13,8 @@ use Rattle.rules.proofs.Bools.{and-left, and-right, and-both}
 use Rattle.rules.proofs.BitLaws.{bits-small, bit-small}
 use Rattle.rules.proofs.SetLaws.{set-ranges}
 use Rattle.rules.proofs.Answers.{table-parts}
-use Rattle.rules_office.specs.Office.{href, choices, chosen, picked, braced, resourcesText, rowText, rowsText, listText, always, seasonal, rowsWritten, officeText}
+use Rattle.rules_office.specs.Office.{href, choices, chosen, picked, braced, resourcesText, rowText}
+use Rattle.rules_office.specs.Office.{rowsText, listText, always, seasonal, rowsWritten, officeText}
 use Rattle.rules_office.proofs.Codes.{all, span, elements-told, all-picked, different, picked-told}
 use Rattle.rules_office.proofs.Decimals.{decimal-told}
 use Rattle.rules_office.proofs.Agree.{isByte, Agree, agree-none, agree-bit, agree-field, agree-all}
@@ -145,7 +146,8 @@ row-told w v s t hw hv e =
     let gw = stored w hw in
     let gv = stored v hv in
     let n = decimal-told (rowNumber w) (rowNumber v) refl refl (append-cancel-left (ascii "{\"aceid\":") _ _ (simp append-assoc at e)) in
-    let u = subject-told w v (gw .size ∙ sym (gv .size)) (gw .bytes) (gv .bytes) (gw .subject) (gv .subject) (append-cancel-left (ascii ",\"subject\":") _ _ (n .1)) in
+    let u = subject-told w v (gw .size ∙ sym (gv .size)) (gw .bytes) (gv .bytes) (gw .subject)
+    (gv .subject) (append-cancel-left (ascii ",\"subject\":") _ _ (n .1)) in
     let r = resources-told w v _ _ (append-cancel-left (ascii ",\"resources\":[") _ _ (u .1)) in
     let p = decimal-told (acePermission w) (acePermission v) refl refl (append-cancel-left (ascii ",\"permission\":") _ _ (r .1)) in
     (row-same w v gw gv (r .0) (n .0) (u .0) (p .0), tail-eq-of-cons-eq (p .1))
@@ -167,7 +169,10 @@ rows-stored (suc n) b h k =
   where
     go : (x : Bool) → always (take 36 b) ≡ x → all storedRow (rowsWritten (rowsOf 36 n (drop 36 b))) ≡ true
         → all storedRow (cond (not x) (rowsWritten (rowsOf 36 n (drop 36 b))) (take 36 b ∷ rowsWritten (rowsOf 36 n (drop 36 b)))) ≡ true
-    go true e more = and-both (storedRow (take 36 b)) _ (and-both (aceStorable (take 36 b) && all isByte (take 36 b)) _ (and-both (aceStorable (take 36 b)) _ (and-left _ _ k) (all-take isByte 36 b h)) e) more
+    go true e more =
+        and-both (storedRow (take 36 b)) _ (and-both (aceStorable (take 36 b) && all isByte (take 36 b)) _
+        (and-both (aceStorable (take 36 b)) _ (and-left _ _ k) (all-take isByte 36 b h)) e)
+        more
     go false e more = more
 
 -- sound tables with the same office text have the same access rows, but for those that are left out

@@ -16,7 +16,9 @@ use Rattle.rules_waiting.specs.Terminal.{Terminal, soundTerminal}
 use Rattle.rules.specs.Checks.{verdict}
 use Rattle.rules.proofs.Bools.{cond-cases}
 use Rattle.rules.proofs.BitLaws.{bits-below}
-use Rattle.rules_office.specs.Office.{dashed, dash, hexByte, uuidFrom, uuidText, comma, separated, uuidSubject, roleSubject, connectionSubject, subjectText, href, choices, chosen, picked, braced, resourcesText, rowText, rowsText, listText, seasonal, rowsWritten, officeText, officeVerdict}
+use Rattle.rules_office.specs.Office.{dashed, dash, hexByte, uuidFrom, uuidText, comma, separated, uuidSubject, roleSubject}
+use Rattle.rules_office.specs.Office.{connectionSubject, subjectText, href, choices, chosen, picked, braced, resourcesText}
+use Rattle.rules_office.specs.Office.{rowText, rowsText, listText, seasonal, rowsWritten, officeText, officeVerdict}
 
 -- ---- numbers
 

@@ -5,11 +5,13 @@ use Rattle.rows.specs.Rows.{Row, without, joined, same, allZero}
 use Rattle.rules.specs.Bits.{bit, bits}
 use Rattle.rules.specs.Directory.{resourceOf, known}
 use Rattle.rules.specs.Bodies.{nil, isNil, setKnown, subjectStorable, aceStorable, everySecond, aceRowOf}
-use Rattle.rules_office.specs.Office.{hexDigit, dashed, dash, hexByte, uuidText, comma, uuidSubject, roleSubject, connectionSubject, subjectText, names, href, choices, chosen, braced, resourcesText, rowText, rowsText, listText, always, seasonal, rowsWritten}
+use Rattle.rules_office.specs.Office.{hexDigit, dashed, dash, hexByte, uuidText, comma, uuidSubject, roleSubject, connectionSubject, subjectText, names}
+use Rattle.rules_office.specs.Office.{href, choices, chosen, braced, resourcesText, rowText, rowsText, listText, always, seasonal, rowsWritten}
 use Rattle.rules_office.proofs.Apart.{storedRow}
 
 definitions : Unit {0}
-unfolding ascii decimalIn decimal joined bit bits hexDigit dashed dash hexByte uuidText comma uuidSubject roleSubject connectionSubject subjectText href choices chosen braced resourcesText rowText rowsText listText
+unfolding ascii decimalIn decimal joined bit bits hexDigit dashed dash hexByte uuidText comma uuidSubject
+    roleSubject connectionSubject subjectText href choices chosen braced resourcesText rowText rowsText listText
 definitions = tt
 
 -- the known numbers from n on, of so many
@@ -48,13 +50,15 @@ pub no-rows-text : listText [] ≡ ascii "{\"aclist2\":[]}"
 unfolding definitions
 no-rows-text = refl
 
--- number 258, a UUID, permission 31, "+" and "*", resources 3 and 14; number 65535, role 7 of our works, nothing; number 10, connection 1, permission 16, "-"; number 11, role 7 of authority 258
+-- number 258, a UUID, permission 31, "+" and "*", resources 3 and 14; number 65535, role 7 of our works,
+-- nothing; number 10, connection 1, permission 16, "-"; number 11, role 7 of authority 258
 pub four-text : listText (rowsWritten (map aceRowOf (
     (0x01 ∷ 0x02 ∷ 0x3f ∷ 0x40 ∷ 0x10 ∷ 0x02 ∷ replicate 6 0 ++ (0xab ∷ 0xcd ∷ 0x00 ∷ 0x01 ∷ replicate 12 0x11))
     ∷ (0xff ∷ 0xff ∷ 0x40 ∷ 0x00 ∷ replicate 23 0 ++ (0x07 ∷ []))
     ∷ (0x00 ∷ 0x0a ∷ 0xa0 ∷ 0x80 ∷ replicate 23 0 ++ (0x01 ∷ []))
     ∷ (0x00 ∷ 0x0b ∷ 0x40 ∷ 0x00 ∷ replicate 20 0 ++ (0x01 ∷ 0x02 ∷ 0x00 ∷ 0x07 ∷ []))
     ∷ [])))
-    ≡ ascii "{\"aclist2\":[{\"aceid\":258,\"subject\":{\"uuid\":\"abcd0001-1111-1111-1111-111111111111\"},\"resources\":[{\"href\":\"/oic/sec/acl2\"},{\"href\":\"/display\"},{\"wc\":\"+\"},{\"wc\":\"*\"}],\"permission\":31},{\"aceid\":65535,\"subject\":{\"authority\":\"0\",\"role\":\"7\"},\"resources\":[],\"permission\":0},{\"aceid\":10,\"subject\":{\"conntype\":\"auth-crypt\"},\"resources\":[{\"wc\":\"-\"}],\"permission\":16},{\"aceid\":11,\"subject\":{\"authority\":\"258\",\"role\":\"7\"},\"resources\":[],\"permission\":0}]}"
+    ≡ ascii
+    "{\"aclist2\":[{\"aceid\":258,\"subject\":{\"uuid\":\"abcd0001-1111-1111-1111-111111111111\"},\"resources\":[{\"href\":\"/oic/sec/acl2\"},{\"href\":\"/display\"},{\"wc\":\"+\"},{\"wc\":\"*\"}],\"permission\":31},{\"aceid\":65535,\"subject\":{\"authority\":\"0\",\"role\":\"7\"},\"resources\":[],\"permission\":0},{\"aceid\":10,\"subject\":{\"conntype\":\"auth-crypt\"},\"resources\":[{\"wc\":\"-\"}],\"permission\":16},{\"aceid\":11,\"subject\":{\"authority\":\"258\",\"role\":\"7\"},\"resources\":[],\"permission\":0}]}"
 unfolding definitions always seasonal without everySecond aceRowOf
 four-text = refl

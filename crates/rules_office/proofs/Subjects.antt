@@ -57,7 +57,9 @@ unfolding subjectStorable subjectText
 subject w h = go (eqb (aceKind w) 0) (eqb (aceKind w) 1) (eqb (aceKind w) 2) refl refl refl h
   where
     go : (a b c : Bool) → eqb (aceKind w) 0 ≡ a → eqb (aceKind w) 1 ≡ b → eqb (aceKind w) 2 ≡ c
-        → cond a (not (isNil (aceSubject w))) (cond b (allZero (take 12 (aceSubject w)) && not (eqb (aceRole w) 0)) (cond c (allZero (take 15 (aceSubject w)) && eqb (bits w 216 7) 0) false)) ≡ true
+        → cond a (not (isNil (aceSubject w))) (cond b (allZero (take 12 (aceSubject w)) && not (eqb (aceRole w) 0))
+        (cond c (allZero (take 15 (aceSubject w)) && eqb (bits w 216 7) 0) false))
+        ≡ true
         → Subject w
     go true b c p q o h = uuid (eqb-true _ 0 p) (rw p)
     go false true c p q o h = role (eqb-true _ 1 q) (rw (p, q)) (and-left _ _ h)
@@ -125,7 +127,8 @@ module _ (w v : Row) (l : length w ≡ length v) where
   unfolding uuidSubject uuidText joined ascii
   uuids {s} {t} bw bv h =
       let r =
-      uuid-told 0 (aceSubject w) (aceSubject v) (simp (length-take, length-drop, l)) (all-take isByte 16 (drop 12 w) (all-drop isByte 12 w bw)) (all-take isByte 16 (drop 12 v) (all-drop isByte 12 v bv))
+      uuid-told 0 (aceSubject w) (aceSubject v) (simp (length-take, length-drop, l))
+      (all-take isByte 16 (drop 12 w) (all-drop isByte 12 w bw)) (all-take isByte 16 (drop 12 v) (all-drop isByte 12 v bv))
       (append-cancel-left (ascii "{\"uuid\":\"") _ _ (simp append-assoc at h))
       in
       (r .0, append-cancel-left (ascii "\"}") s t (r .1))
@@ -149,11 +152,23 @@ module _ (w v : Row) (l : length w ≡ length v) where
       let r = uuids bw bv (rw (e, e′) at h) in
       (record { kind = k ∙ sym k′; bytes = λ f. agree-part w v 12 16 f (r .0) }, r .1)
   both {s} {t} bw bv (role k e z) (role k′ e′ z′) h =
-      let r = roles (rw (e, e′) at h) in
-      (record { kind = k ∙ sym k′; bytes = λ f. agree-field w v 208 16 (agree-field w v 192 16 (agree-part w v 12 12 f (part 12 (omega arith) (zeros-same _ _ (length-part 12) z z′))) (r .0)) (r .1) }, r .2)
+      let r = roles (rw (e, e′) at h) in (
+        record {
+          kind = k ∙ sym k′;
+          bytes = λ f. agree-field w v 208 16
+              (agree-field w v 192 16 (agree-part w v 12 12 f (part 12 (omega arith) (zeros-same _ _ (length-part 12) z z′))) (r .0)) (r .1);
+        },
+        r .2,
+      )
   both {s} {t} bw bv (connection k e z b) (connection k′ e′ z′ b′) h =
-      let r = connections (rw (e, e′) at h) in
-      (record { kind = k ∙ sym k′; bytes = λ f. agree-field w v 223 1 (agree-field w v 216 7 (agree-part w v 12 15 f (part 15 (omega arith) (zeros-same _ _ (length-part 15) z z′))) (b ∙ sym b′)) (r .0) }, r .1)
+      let r = connections (rw (e, e′) at h) in (
+        record {
+          kind = k ∙ sym k′;
+          bytes = λ f. agree-field w v 223 1
+              (agree-field w v 216 7 (agree-part w v 12 15 f (part 15 (omega arith) (zeros-same _ _ (length-part 15) z z′))) (b ∙ sym b′)) (r .0);
+        },
+        r .1,
+      )
   both {s} {t} bw bv (uuid k e) (role k′ e′ z′) h = absurd (omega (arith, letters s t (uuid k e) (role k′ e′ z′) h))
   both {s} {t} bw bv (uuid k e) (connection k′ e′ z′ b′) h = absurd (omega (arith, letters s t (uuid k e) (connection k′ e′ z′ b′) h))
   both {s} {t} bw bv (role k e z) (uuid k′ e′) h = absurd (omega (arith, letters s t (role k e z) (uuid k′ e′) h))

@@ -8,7 +8,9 @@ use Rattle.rules.specs.declared.Tables.{Tables}
 use Rattle.rules.specs.Bodies.{rowNumber, aceKind, acePermission, aceSubject, aceAuthority, aceRole, aceConnection}
 use Rattle.rules.specs.Tables.{rowsIn}
 use Rattle.rules.proofs.Bools.{and-left, and-right, and-both, cond-cases}
-use Rattle.rules_office.specs.Office.{hexDigit, dashed, dash, hexByte, uuidFrom, uuidText, comma, separated, uuidSubject, roleSubject, connectionSubject, subjectText, href, choices, chosen, picked, braced, resourcesText, rowText, rowsText, listText, seasonal, rowsWritten, officeText}
+use Rattle.rules_office.specs.Office.{hexDigit, dashed, dash, hexByte, uuidFrom, uuidText, comma, separated, uuidSubject}
+use Rattle.rules_office.specs.Office.{roleSubject, connectionSubject, subjectText, href, choices, chosen, picked, braced}
+use Rattle.rules_office.specs.Office.{resourcesText, rowText, rowsText, listText, seasonal, rowsWritten, officeText}
 use Rattle.rules_office.proofs.Codes.{all, all-join, all-picked}
 use Rattle.rules_office.proofs.Decimals.{isDigit, digits}
 use Rattle.rules_office.proofs.Agree.{isByte}
@@ -104,7 +106,8 @@ braced-visible x h = joined-visible _ (rw h)
 
 resources-visible : (w : Row) → Visible (resourcesText w)
 unfolding resourcesText
-resources-visible w = separated-visible braced (all visible) braced-visible true (picked (chosen w) choices) (all-picked (all visible) (chosen w) choices choices-visible)
+resources-visible w =
+    separated-visible braced (all visible) braced-visible true (picked (chosen w) choices) (all-picked (all visible) (chosen w) choices choices-visible)
 
 row-visible : (w : Row) → all isByte w ≡ true → Visible (rowText w)
 unfolding rowText ascii

@@ -13,7 +13,8 @@ use Rattle.rules.specs.declared.Table.the-variants.{Aces}
 use Rattle.rules.specs.declared.Check.{Check}
 use Rattle.rules.specs.declared.Check.the-variants.{Pass, Refuse}
 use Rattle.rules.specs.Lookup.{lookup}
-use Rattle.rules.specs.Bodies.{rowNumber, aceKind, acePermission, acePlus, aceMinus, aceStar, inSet, aceSubject, aceAuthority, aceRole, aceConnection, aceFirst, aceLast}
+use Rattle.rules.specs.Bodies.{rowNumber, aceKind, acePermission, acePlus, aceMinus, aceStar, inSet}
+use Rattle.rules.specs.Bodies.{aceSubject, aceAuthority, aceRole, aceConnection, aceFirst, aceLast}
 use Rattle.rules.specs.Tables.{rows}
 use Rattle.rules.specs.Checks.{verdict}
 use Rattle.rules_waiting.specs.Terminal.{Terminal, soundTerminal}

@@ -1,5 +1,6 @@
 -- Theorem, U14: terminals whose tables differ only in the order of their access rows answer every run the same, but for that order.
--- A run is of hand-ins, takes and records that are judged at once, mixed in any way, each with its clock and its buffer's length. One claim over the whole list.
+-- A run is of hand-ins, takes and records that are judged at once, mixed in any way,
+-- each with its clock and its buffer's length. One claim over the whole list.
 use Rattle.rows.proofs.Prelude.{_≡_, refl, sym, ap, ap₂, _∙_, Bool, true, List, [], _∷_, ℕ, length}
 use Rattle.rows.specs.Rows.{Row, packed, every}
 use Rattle.rows.proofs.Laws.{length-rowsOf, kept}
@@ -24,7 +25,8 @@ use Rattle.rules_order.proofs.OneInput.{owners-next, input-step}
 
 -- ---- two runs over the same inputs, with a relation between their states, and one between what is said
 
-module _ {State Input Output : Type 0} (reply : State → Input → Output) (next : State → Input → State) (R : State → State → Type 0) (S : Input → Output → Output → Type 0) where
+module _ {State Input Output : Type 0} (reply : State → Input → Output) (next : State → Input → State)
+    (R : State → State → Type 0) (S : Input → Output → Output → Type 0) where
   -- an input is answered in relation, and leaves both states in relation
   abbrev pub Step : Type 0
   Step = (s b : State) (i : Input) → R s b → S i (reply s i) (reply b i) × R (next s i) (next b i)
@@ -80,7 +82,11 @@ order-whole x y s l =
 reordered-rows : (t : Tables) (ws : List Row) → sound t ≡ true → Reordered (rows Aces t) ws → SoundRows Aces ws
 reordered-rows t ws h o =
     let p = table-parts Aces t h in
-    record { few = rw (← order-length o) (few-rows Aces t h); stores = sym (order-every (storable Aces) o) ∙ p .stores; apart = sym (order-distinct o) ∙ p .apart }
+    record {
+      few = rw (← order-length o) (few-rows Aces t h);
+      stores = sym (order-every (storable Aces) o) ∙ p .stores;
+      apart = sym (order-distinct o) ∙ p .apart;
+    }
 
 -- what waits is sound beside any tables with the same seats
 beside : (t u : Tables) (m : List ℕ) → seats u ≡ seats t → every (slotSound t) (waiting m) ≡ true → memorySound t m ≡ true → memorySound u m ≡ true
@@ -95,7 +101,8 @@ reordered-in-step x ws h o =
     let r = reordered-rows t ws (s .tables) o in
     record {
       soundLeft = h;
-      soundRight = terminal-whole (withAccess x ws) (sound-with Aces t ws (s .tables) r) (beside t (withRows Aces t ws) (x .memory) refl (s .keeps) (s .memory));
+      soundRight = terminal-whole (withAccess x ws) (sound-with Aces t ws (s .tables) r)
+          (beside t (withRows Aces t ws) (x .memory) refl (s .keeps) (s .memory));
       memory = refl;
       tables = record {
         others = refl;

@@ -1,4 +1,5 @@
--- U14 of any calls that meet the contracts of `hand_in`, `take` and `judge`, and of `payload` beside the last two, each on the tables and the memory handed back last.
+-- U14 of any calls that meet the contracts of `hand_in`, `take` and `judge`, and of
+-- `payload` beside the last two, each on the tables and the memory handed back last.
 -- What such calls show is what is answered.
 use Rattle.rows.proofs.Prelude.{_≡_, refl, sym, ap, ap₂, _∙_, Bool, true, false, not, List, [], _∷_, ℕ, arith, length, take, eqb}
 use Rattle.rules.specs.declared.Check.{Check}
@@ -12,10 +13,11 @@ use Rattle.rules.specs.Outcome.{payloadAt}
 use Rattle.rules.specs.Run.{replies, final}
 use Rattle.rules.proofs.Bools.{cond-cases}
 use Rattle.rules.proofs.Refusals.{payload-is}
-use Rattle.rules_waiting.specs.Terminal.{Terminal, terminal, Answered, soundTerminal, handInChecks, handInOf, handedIn, takeChecks, due, takeOf, taken, directChecks, directOf, judged, said, HandedOut}
+use Rattle.rules_waiting.specs.Terminal.{Terminal, terminal, Answered, soundTerminal, handInChecks, handInOf, handedIn}
+use Rattle.rules_waiting.specs.Terminal.{takeChecks, due, takeOf, taken, directChecks, directOf, judged, said, HandedOut}
 use Rattle.rules_waiting.specs.Calls.{Leaves}
 use Rattle.rules_waiting.specs.Inputs.{Input, handIn, takeAt, direct, answered, next}
-use Rattle.rules_waiting.proofs.Built.{Call, told, recordGiven, Lends, Meets, left, Built, handedBack, record-back, told-is, call-left}
+use Rattle.rules_waiting.proofs.Built.{Call, told, recordGiven, Lends, Meets, left, Built, handedBack, padded-back, told-is, call-left}
 use Rattle.rules_order.specs.Order.{InStep, SameAnswer, InPairs}
 use Rattle.rules_order.proofs.AnyOrder.{any-order}
 
@@ -23,7 +25,11 @@ use Rattle.rules_order.proofs.AnyOrder.{any-order}
 abbrev pub shown : Input → Call → Answered
 shown (handIn r) c =
     let j = c .judgement in
-    record { bytes = []; told = record { answer = j .answer; permission = j .permission; payload = []; contents = []; places = j .places; links = j .links }; terminal = left c }
+    record {
+      bytes = [];
+      told = record { answer = j .answer; permission = j .permission; payload = []; contents = []; places = j .places; links = j .links };
+      terminal = left c;
+    }
 shown (takeAt clock room) c = record { bytes = recordGiven c; told = told c; terminal = left c }
 shown (direct q) c = record { bytes = []; told = told c; terminal = left c }
 
@@ -62,7 +68,8 @@ module _ (d : Defaults) (x : Terminal) where
   take-payload q Pass = payload-is d (x .tables) q
   take-payload q (Refuse n) = no-record n
 
-  direct-payload : (q : Request) (v : Check) → verdict (directChecks x) ≡ v → let a = directOf d x q v in payloadAt (a .told .answer) (q .bytes) ≡ a .told .payload
+  direct-payload : (q : Request) (v : Check)
+      → verdict (directChecks x) ≡ v → let a = directOf d x q v in payloadAt (a .told .answer) (q .bytes) ≡ a .told .payload
   direct-payload q Pass e = payload-is d (x .tables) q
   direct-payload q (Refuse n) e = refused-1 (not (soundTerminal x)) n (q .bytes) e
 
@@ -76,11 +83,12 @@ module _ (d : Defaults) (x : Terminal) where
   shown-is (handIn r) c m = hand-shown r c (verdict (handInChecks x r)) (m .says) (m .keeps)
   shown-is (takeAt clock room) c m =
       let a = taken d x clock room in
-      let r : recordGiven c ≡ a .bytes = ap (λ (t : HandedOut). take (t .size) (t .bytes)) (m .0 .hands) ∙ record-back (a .bytes) in
+      let r : recordGiven c ≡ a .bytes = ap (λ (t : HandedOut). take (t .size) (t .bytes)) (m .0 .hands) ∙ padded-back (a .bytes) in
       lent-shown a room (recordGiven c) (recordGiven c) c (ap (λ (t : HandedOut). t .judgement) (m .0 .hands)) (m .0 .leaves) (m .1)
       (ap (payloadAt (a .told .answer)) r ∙ take-payload (received clock (due x) room) (verdict (takeChecks x))) r
   shown-is (direct q) c m =
-      lent-shown (judged d x q) (q .room) (q .bytes) [] c (m .0 .says) (m .0 .leaves) (m .1) (direct-payload q (verdict (directChecks x)) refl) (direct-bytes q (verdict (directChecks x)))
+      lent-shown (judged d x q) (q .room) (q .bytes) [] c (m .0 .says) (m .0 .leaves) (m .1)
+      (direct-payload q (verdict (directChecks x)) refl) (direct-bytes q (verdict (directChecks x)))
 
 -- ---- the run
 

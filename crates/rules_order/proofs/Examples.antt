@@ -14,7 +14,8 @@ use Rattle.rules.specs.Run.{replies, final}
 use Rattle.rules.proofs.Examples.{definitions, uuid, credRow, withCreds, owned5, aceBody, aceRow, weight, connected, serving}
 use Rattle.rules_waiting.specs.Slots.{seatOf, padded, slotOf, recordOf, roundOf, waiting, memoryOf, freshMemory}
 use Rattle.rules_waiting.specs.Round.{seats, held, occupied, start, inTurn, firstInTurn, gone}
-use Rattle.rules_waiting.specs.Terminal.{Terminal, terminal, slotSound, memorySound, soundTerminal, withRecord, handedIn, clears, asMany, memoryAfter, turn, due, taken, judged}
+use Rattle.rules_waiting.specs.Terminal.{Terminal, terminal, slotSound, memorySound, soundTerminal, withRecord}
+use Rattle.rules_waiting.specs.Terminal.{handedIn, clears, asMany, memoryAfter, turn, due, taken, judged}
 use Rattle.rules_waiting.specs.Inputs.{Input, handIn, takeAt, direct, answered, next}
 use Rattle.rules_order.specs.Reorder.{none, keep, swap, then, inserted, sorted}
 use Rattle.rules_order.specs.Order.{OrderOnly, InStep, withAccess, SameAnswer, InPairs}
@@ -55,7 +56,9 @@ day =
 
 -- `unfolding orders` opens all that these examples say
 orders : Unit {0}
-unfolding definitions seatOf padded slotOf recordOf roundOf waiting memoryOf seats held occupied start inTurn firstInTurn gone slotSound memorySound soundTerminal withRecord handedIn clears asMany memoryAfter turn due taken judged inserted sorted first second third numbered shuffled day owned5 serving aceBody aceRow weight connected uuid credRow withCreds
+unfolding definitions seatOf padded slotOf recordOf roundOf waiting memoryOf seats held occupied start inTurn firstInTurn
+    gone slotSound memorySound soundTerminal withRecord handedIn clears asMany memoryAfter turn due taken judged inserted
+    sorted first second third numbered shuffled day owned5 serving aceBody aceRow weight connected uuid credRow withCreds
 orders = tt
 
 -- ---- everybody is permitted: each input's answer and permission, and the record handed out
@@ -98,11 +101,13 @@ placed x i = answered noDefaults x i .told .places
 abbrev places : ℕ → ℕ → Places
 places n m = record { first = n; many = m }
 
-pub numbered-placed : replies placed (next noDefaults) numbered day ≡ nowhere ∷ nowhere ∷ nowhere ∷ nowhere ∷ nowhere ∷ nowhere ∷ places 0 3 ∷ nowhere ∷ nowhere ∷ []
+pub numbered-placed : replies placed (next noDefaults) numbered day
+    ≡ nowhere ∷ nowhere ∷ nowhere ∷ nowhere ∷ nowhere ∷ nowhere ∷ places 0 3 ∷ nowhere ∷ nowhere ∷ []
 unfolding orders
 numbered-placed = refl
 
-pub shuffled-placed : replies placed (next noDefaults) shuffled day ≡ nowhere ∷ nowhere ∷ nowhere ∷ nowhere ∷ nowhere ∷ nowhere ∷ places 1 2 ∷ nowhere ∷ nowhere ∷ []
+pub shuffled-placed : replies placed (next noDefaults) shuffled day
+    ≡ nowhere ∷ nowhere ∷ nowhere ∷ nowhere ∷ nowhere ∷ nowhere ∷ places 1 2 ∷ nowhere ∷ nowhere ∷ []
 unfolding orders
 shuffled-placed = refl
 
@@ -116,7 +121,8 @@ pub in-step : InStep numbered shuffled
 unfolding orders
 in-step = record { soundLeft = refl; soundRight = refl; memory = refl; tables = record { others = refl; counted = refl; order = then (keep swap) swap } }
 
-pub day-any-order : InPairs SameAnswer day (replies (answered noDefaults) (next noDefaults) numbered day) (replies (answered noDefaults) (next noDefaults) shuffled day)
+pub day-any-order : InPairs SameAnswer day (replies (answered noDefaults) (next noDefaults) numbered day)
+    (replies (answered noDefaults) (next noDefaults) shuffled day)
     × InStep (final (next noDefaults) numbered day) (final (next noDefaults) shuffled day)
 unfolding orders
 day-any-order = any-order noDefaults numbered shuffled day in-step refl

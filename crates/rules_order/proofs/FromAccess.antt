@@ -7,7 +7,8 @@ use Rattle.rules.specs.declared.Action.the-variants.{Serve, Read, SetRowOwner, 
 use Rattle.rules.specs.Directory.{isSecurity, doxm, pstat, cred, acl2, roles}
 use Rattle.rules.specs.Record.{verb, connection, resource, body}
 use Rattle.rules.specs.Bodies.{newOwned, target}
-use Rattle.rules.specs.Action.{ifAllowed, updateDoxm, updatePstat, storeRow, updateRows, updateRoles, updateAction, deleteNumber, deleteCreds, deleteAction, readAction, securityAction, action}
+use Rattle.rules.specs.Action.{ifAllowed, updateDoxm, updatePstat, storeRow, updateRows, updateRoles, updateAction}
+use Rattle.rules.specs.Action.{deleteNumber, deleteCreds, deleteAction, readAction, securityAction, action}
 use Rattle.rules.proofs.Bools.{cond-cases, contradiction}
 
 abbrev pub fromAccess : Action → Bool
@@ -39,9 +40,11 @@ update-not : (c n : ℕ) (b : List ℕ) → NotFrom (updateAction c n b)
 unfolding updateAction updateDoxm updatePstat updateRoles
 update-not c n b =
     cond-cases NotFrom (eqb n doxm)
-    (λ _. cond-cases NotFrom (eqb (length b) 16) (λ _. refl) (λ _. cond-cases NotFrom (eqb (length b) 17) (λ _. allowed-not _ (SetOwner (newOwned b)) refl) (λ _. refl)))
+    (λ _. cond-cases NotFrom (eqb (length b) 16) (λ _. refl)
+    (λ _. cond-cases NotFrom (eqb (length b) 17) (λ _. allowed-not _ (SetOwner (newOwned b)) refl) (λ _. refl)))
     (λ _. cond-cases NotFrom (eqb n pstat)
-    (λ _. cond-cases NotFrom (eqb (length b) 16) (λ _. refl) (λ _. cond-cases NotFrom (eqb (length b) 1) (λ _. allowed-not _ (SetState (target b)) refl) (λ _. refl)))
+    (λ _. cond-cases NotFrom (eqb (length b) 16) (λ _. refl)
+    (λ _. cond-cases NotFrom (eqb (length b) 1) (λ _. allowed-not _ (SetState (target b)) refl) (λ _. refl)))
     (λ _. cond-cases NotFrom (eqb n cred) (λ _. rows-not cred Creds b)
     (λ _. cond-cases NotFrom (eqb n acl2) (λ _. rows-not acl2 Aces b)
     (λ _. cond-cases NotFrom (eqb n roles)

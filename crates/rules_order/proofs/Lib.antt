@@ -1,4 +1,5 @@
--- The laws of another order (ReorderLaws), one record (FromAccess, OneRecord), one input (OwnersKept, OneInput), and the theorems of U14: AnyOrder, Calls, Lists, Examples.
+-- The laws of another order (ReorderLaws), one record (FromAccess, OneRecord), one input
+-- (OwnersKept, OneInput), and the theorems of U14: AnyOrder, Calls, Lists, Examples.
 pub mod ReorderLaws
 pub mod FromAccess
 pub mod OneRecord

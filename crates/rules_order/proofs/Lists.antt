@@ -46,6 +46,9 @@ loaded-any-order d t n b c qs rs l o h ready e f =
     let v = final (tablesAfter d) t rs in
     record {
       others = one .others ∙ sym (other .others);
-      counted = counted u (run-sound d t qs (ready .isSound)) ∙ ap length (one .held) ∙ order-length o ∙ sym (counted v (run-sound d t rs (ready .isSound)) ∙ ap length (other .held));
+      counted = counted u (run-sound d t qs (ready .isSound))
+          ∙ ap length (one .held)
+          ∙ order-length o
+          ∙ sym (counted v (run-sound d t rs (ready .isSound)) ∙ ap length (other .held));
       order = rw (one .held, other .held) o;
     }

@@ -14,7 +14,8 @@ use Rattle.rules.specs.Checks.{verdict}
 use Rattle.rules.specs.Outcome.{toldTo, tablesAfter}
 use Rattle.rules_waiting.specs.Slots.{Round}
 use Rattle.rules_waiting.specs.Round.{seats, firstInTurn}
-use Rattle.rules_waiting.specs.Terminal.{Terminal, terminal, Answered, numberAlone, soundTerminal, handInChecks, handInOf, handedIn, isReset, clears, asMany, memoryAfter, takeChecks, turn, due, takeOf, taken, directChecks, directOf, judged}
+use Rattle.rules_waiting.specs.Terminal.{Terminal, terminal, Answered, numberAlone, soundTerminal, handInChecks, handInOf, handedIn, isReset}
+use Rattle.rules_waiting.specs.Terminal.{clears, asMany, memoryAfter, takeChecks, turn, due, takeOf, taken, directChecks, directOf, judged}
 use Rattle.rules_waiting.specs.Inputs.{Input, handIn, takeAt, direct, answered, next}
 use Rattle.rules_waiting.proofs.Sound.{terminal-parts, sound-next}
 use Rattle.rules_order.specs.Reorder.{Reordered}
@@ -28,7 +29,8 @@ seats-same : (t u : Tables) → OrderOnly t u → seats t ≡ seats u
 unfolding seats
 seats-same t u o = ap seats (o .others)
 
-module _ (d : Defaults) (t u : Tables) (q : Request) (o : OrderOnly t u) (a : toldTo d t q .answer ≡ toldTo d u q .answer) (p : OrderOnly (tablesAfter d t q) (tablesAfter d u q)) where
+module _ (d : Defaults) (t u : Tables) (q : Request) (o : OrderOnly t u)
+    (a : toldTo d t q .answer ≡ toldTo d u q .answer) (p : OrderOnly (tablesAfter d t q) (tablesAfter d u q)) where
   clears-same : clears d t q ≡ clears d u q
   unfolding clears
   clears-same = ap (λ (n : ℕ). eqb n 0 && isReset (action (q .bytes))) a
@@ -146,8 +148,13 @@ owners-next d x (direct q) l = go (verdict (directChecks x))
 pub input-step : (d : Defaults) (x y : Terminal) (i : Input) → InStep x y → length (x .tables .rowners) ≡ 64
     → SameAnswer i (answered d x i) (answered d y i) × InStep (next d x i) (next d y i)
 input-step d x y i s l =
-    let is : y ≡ terminal (withBytes (x .tables) (y .tables .aces)) (x .memory) = ap₂ terminal (order-is (x .tables) (y .tables) (s .tables)) (sym (s .memory)) in
+    let is : y ≡ terminal (withBytes (x .tables) (y .tables .aces)) (x .memory) =
+    ap₂ terminal (order-is (x .tables) (y .tables) (s .tables)) (sym (s .memory)) in
     let both =
-    subst (λ (w : Terminal). soundTerminal w ≡ true → Reordered (rows Aces (x .tables)) (rows Aces (w .tables)) → Stepped i (answered d x i) (answered d w i)) (sym is)
-    (λ k o. stepped d (x .tables) (y .tables .aces) (x .memory) o (s .soundLeft) k l i) (s .soundRight) (s .tables .order) in
-    (both .same, record { soundLeft = sound-next d x i (s .soundLeft); soundRight = sound-next d y i (s .soundRight); memory = both .memory; tables = both .tables })
+    subst (λ (w : Terminal). soundTerminal w ≡ true → Reordered (rows Aces (x .tables))
+    (rows Aces (w .tables)) → Stepped i (answered d x i) (answered d w i))
+    (sym is)
+    (λ k o. stepped d (x .tables) (y .tables .aces) (x .memory) o (s .soundLeft) k l i) (s .soundRight) (s .tables .order) in (
+      both .same,
+      record { soundLeft = sound-next d x i (s .soundLeft); soundRight = sound-next d y i (s .soundRight); memory = both .memory; tables = both .tables },
+    )

@@ -1,4 +1,5 @@
--- One record, judged on two sound tables that differ only in the order of their access rows (U14): the same is said of it but for that order, and afterwards the tables differ at most so.
+-- One record, judged on two sound tables that differ only in the order of their access rows (U14):
+-- the same is said of it but for that order, and afterwards the tables differ at most so.
 -- The second tables are the first with other bytes of access rows, so that whatever does not look at these is the same by itself.
 use Rattle.rows.proofs.Prelude.{_≡_, refl, sym, ap, ap₂, subst, _∙_, Bool, true, false, not, _&&_, List, [], _∷_, _++_, ℕ, arith, length, length-append}
 use Rattle.rows.proofs.Prelude.{take-at, eqb, leb, bitOr, eqb-true}
@@ -40,12 +41,22 @@ SameLength x y = length x ≡ length y
 
 abbrev pub withBytes : Tables → List ℕ → Tables
 withBytes t x =
-    record { state = t .state; owned = t .owned; ncreds = t .ncreds; naces = t .naces; devowner = t .devowner; rowners = t .rowners; creds = t .creds; aces = x }
+    record {
+      state = t .state;
+      owned = t .owned;
+      ncreds = t .ncreds;
+      naces = t .naces;
+      devowner = t .devowner;
+      rowners = t .rowners;
+      creds = t .creds;
+      aces = x;
+    }
 
 -- tables that differ only in the order are these
 pub order-is : (t u : Tables) → OrderOnly t u → u ≡ withBytes t (u .aces)
 order-is t u o =
-    ap₂ (λ (x : Tables) (n : ℕ). record { state = x .state; owned = x .owned; ncreds = x .ncreds; naces = n; devowner = x .devowner; rowners = x .rowners; creds = x .creds; aces = u .aces })
+    ap₂ (λ (x : Tables) (n : ℕ). record
+    { state = x .state; owned = x .owned; ncreds = x .ncreds; naces = n; devowner = x .devowner; rowners = x .rowners; creds = x .creds; aces = u .aces })
     (sym (o .others)) (sym (o .counted))
 
 set-same : (p q : ℕ → Bool) → ((n : ℕ) → p n ≡ q n) → (ns : List ℕ) → setOf p ns ≡ setOf q ns
@@ -108,9 +119,19 @@ module _ (t : Tables) (x : List ℕ) (o : Reordered (rows Aces t) (rows Aces (wi
   action-same b (SetOwner owned) = record { target = refl; missed = refl; filled = refl; gap = λ _. refl }
   action-same b (SetState target) = record { target = refl; missed = refl; filled = refl; gap = λ _. refl }
   action-same b (Store Creds) = record { target = refl; missed = refl; filled = refl; gap = λ _. refl }
-  action-same b (Store Aces) = record { target = refl; missed = refl; filled = ap (λ (h : Bool). leb 32 (t .naces) && not h) (order-some (numberedAs (rowOf Aces b)) o); gap = λ _. refl }
+  action-same b (Store Aces) = record {
+    target = refl;
+    missed = refl;
+    filled = ap (λ (h : Bool). leb 32 (t .naces) && not h) (order-some (numberedAs (rowOf Aces b)) o);
+    gap = λ _. refl;
+  }
   action-same b (Remove Creds at) = record { target = refl; missed = refl; filled = refl; gap = λ _. refl }
-  action-same b (Remove Aces at) = record { target = refl; missed = ap (λ (h : Bool). not (eqb (length b) 0) && not h) (order-some (hasKey at b) o); filled = refl; gap = λ e. contradiction refl e }
+  action-same b (Remove Aces at) = record {
+    target = refl;
+    missed = ap (λ (h : Bool). not (eqb (length b) 0) && not h) (order-some (hasKey at b) o);
+    filled = refl;
+    gap = λ e. contradiction refl e;
+  }
   action-same b (Assert c) = record { target = refl; missed = refl; filled = refl; gap = λ _. refl }
   action-same b Malformed = record { target = refl; missed = refl; filled = refl; gap = λ _. refl }
 
@@ -155,7 +176,8 @@ module _ (t : Tables) (x : List ℕ) (o : Reordered (rows Aces t) (rows Aces (wi
 
   -- other access rows on both sides
   with-order : (vs ws : List Row) → Reordered vs ws → SoundRows Aces vs → SoundRows Aces ws → OrderOnly (withRows Aces t vs) (withRows Aces other ws)
-  with-order vs ws p v w = record { others = refl; counted = order-length p; order = rw (rows-with Aces t vs (v .few) (v .stores), rows-with Aces other ws (w .few) (w .stores)) p }
+  with-order vs ws p v w =
+      record { others = refl; counted = order-length p; order = rw (rows-with Aces t vs (v .few) (v .stores), rows-with Aces other ws (w .few) (w .stores)) p }
 
   effect-order : (d : Defaults) (q : Request) (a : Action) → sound t ≡ true → sound other ≡ true → Passed t q a → Passed other q a
       → OrderOnly (effect d (q .clock) t (q .bytes) a) (effect d (q .clock) other (q .bytes) a)
@@ -165,15 +187,18 @@ module _ (t : Tables) (x : List ℕ) (o : Reordered (rows Aces t) (rows Aces (wi
   effect-order d q (SetRowOwner n) h k v w = record { others = refl; counted = refl; order = o }
   effect-order d q (SetOwner owned) h k v w = record { others = refl; counted = refl; order = o }
   effect-order d q (SetState n) h k v w =
-      cond-both OrderOnly (eqb n 0) (λ _. record { others = refl; counted = refl; order = order-refl (rows Aces (fresh d)) }) (λ _. record { others = refl; counted = refl; order = o })
+      cond-both OrderOnly (eqb n 0) (λ _. record { others = refl; counted = refl; order = order-refl (rows Aces (fresh d)) })
+      (λ _. record { others = refl; counted = refl; order = o })
   effect-order d q (Store Creds) h k v w = record { others = refl; counted = refl; order = o }
   effect-order d q (Store Aces) h k v w =
       let new = rowOf Aces (body (q .bytes)) in
-      with-order (stored new (rows Aces t)) (stored new (rows Aces other)) (order-stored new o (table-parts Aces t h .apart)) (stored-sound Aces t q h v) (stored-sound Aces other q k w)
+      with-order (stored new (rows Aces t)) (stored new (rows Aces other))
+      (order-stored new o (table-parts Aces t h .apart)) (stored-sound Aces t q h v) (stored-sound Aces other q k w)
   effect-order d q (Remove Creds at) h k v w = record { others = refl; counted = refl; order = o }
   effect-order d q (Remove Aces at) h k v w =
       let goes = hasKey at (body (q .bytes)) in
-      with-order (without goes (rows Aces t)) (without goes (rows Aces other)) (order-without goes o) (removed-sound Aces t goes h) (removed-sound Aces other goes k)
+      with-order (without goes (rows Aces t)) (without goes (rows Aces other))
+      (order-without goes o) (removed-sound Aces t goes h) (removed-sound Aces other goes k)
   effect-order d q (Assert c) h k v w = record { others = refl; counted = refl; order = o }
   effect-order d q Malformed h k v w = record { others = refl; counted = refl; order = o }
 
@@ -199,7 +224,8 @@ same-told r x = record {
   places = λ _. refl;
 }
 
-module _ (d : Defaults) (t : Tables) (x : List ℕ) (o : Reordered (rows Aces t) (rows Aces (withBytes t x))) (q : Request) (h : sound t ≡ true) (k : sound (withBytes t x) ≡ true) where
+module _ (d : Defaults) (t : Tables) (x : List ℕ) (o : Reordered (rows Aces t) (rows Aces (withBytes t x)))
+    (q : Request) (h : sound t ≡ true) (k : sound (withBytes t x) ≡ true) where
   abbrev p : ℕ
   p = permission (q .clock) t (q .bytes)
 

@@ -20,7 +20,8 @@ order-refl (w ∷ ws) = keep (order-refl ws)
 
 -- ---- whatever takes the rows in one by one, and does not mind which of two comes first
 
-module _ {A : Type 0} (of : List Row → A) (with : Row → A → A) (more : (w : Row) (ws : List Row) → of (w ∷ ws) ≡ with w (of ws)) (either : (v w : Row) (a : A) → with v (with w a) ≡ with w (with v a)) where
+module _ {A : Type 0} (of : List Row → A) (with : Row → A → A) (more : (w : Row) (ws : List Row) → of (w ∷ ws) ≡ with w (of ws))
+    (either : (v w : Row) (a : A) → with v (with w a) ≡ with w (with v a)) where
   order-of : {vs ws : List Row} → Reordered vs ws → of vs ≡ of ws
   order-of none = refl
   order-of (keep {w = w} {vs = vs} {ws = ws} o) = more w vs ∙ ap (with w) (order-of o) ∙ sym (more w ws)
@@ -91,7 +92,8 @@ order-distinct (then o p) = order-distinct o ∙ order-distinct p
 one-numbered : (new v w : Row) (ws : List Row) → distinctNumbers (v ∷ w ∷ ws) ≡ true → numberedAs new v ≡ true → numberedAs new w ≡ true → ⊥
 unfolding distinctNumbers some numberedAs
 one-numbered new v w ws d e f =
-    let same-number : numberedAs v w ≡ true = ap (λ (x : List ℕ). same x (take 2 v)) (same-true (take 2 w) (take 2 new) f ∙ sym (same-true (take 2 v) (take 2 new) e)) ∙ same-refl (take 2 v) in
+    let same-number : numberedAs v w ≡ true =
+    ap (λ (x : List ℕ). same x (take 2 v)) (same-true (take 2 w) (take 2 new) f ∙ sym (same-true (take 2 v) (take 2 new) e)) ∙ same-refl (take 2 v) in
     contradiction same-number (or-left (numberedAs v w) (some (numberedAs v) ws) (not-true _ (and-left _ _ d)))
 
 pub order-stored : (new : Row) {vs ws : List Row} → Reordered vs ws → distinctNumbers vs ≡ true → Reordered (stored new vs) (stored new ws)
@@ -152,7 +154,8 @@ module _ (before : Row → Row → Bool) where
     ascending-inserted new (row ∷ rows) h =
         cond-cases (λ (l : List Row). ascending before l ≡ true) (before new row)
         (λ e. and-both _ _ e h)
-        (λ e. and-both _ _ (leads-inserted row new rows (total new row e) (and-left _ _ h)) (ascending-inserted new rows (and-right (leads before row rows) _ h)))
+        (λ e. and-both _ _ (leads-inserted row new rows (total new row e) (and-left _ _ h))
+        (ascending-inserted new rows (and-right (leads before row rows) _ h)))
 
     pub sorted-ascends : (rows : List Row) → ascending before (sorted before rows) ≡ true
     unfolding ascending sorted

@@ -1,5 +1,6 @@
 -- Theorem, demand 3 whole: the built code on one side, the book of the rules on the other.
--- The built code is any calls that meet the contracts of `hand_in`, `take` and `judge` (HandsIn, Takes and Judges, which these contracts cite), and of `payload` beside the last two,
+-- The built code is any calls that meet the contracts of `hand_in`, `take` and `judge` (HandsIn,
+-- Takes and Judges, which these contracts cite), and of `payload` beside the last two,
 -- each on the tables and the memory handed back last.
 use Rattle.rows.proofs.Prelude.{_≡_, refl, sym, ap, ap₂, _∙_, Bool, true, false, _||_, cond, List, [], _∷_, _++_, map, ℕ, _-_, length, take, drop, replicate}
 use Rattle.rows.proofs.Prelude.{take-at, eqb, eqb-true, not-false}
@@ -17,7 +18,8 @@ use Rattle.rules.proofs.Answers.{passed}
 use Rattle.rules.proofs.Refusals.{payload-is}
 use Rattle.rules.proofs.Isolated.{isolation}
 use Rattle.rules_waiting.specs.Slots.{padded}
-use Rattle.rules_waiting.specs.Terminal.{Terminal, terminal, Answered, soundTerminal, takeChecks, due, takeOf, taken, directChecks, directOf, judged, said, HandedOut, handedOut}
+use Rattle.rules_waiting.specs.Terminal.{Terminal, terminal, Answered, soundTerminal, takeChecks, due, takeOf}
+use Rattle.rules_waiting.specs.Terminal.{taken, directChecks, directOf, judged, said, HandedOut, handedOut}
 use Rattle.rules_waiting.specs.Calls.{Leaves, HandsIn, Takes, Judges}
 use Rattle.rules_waiting.specs.Inputs.{Input, handIn, takeAt, direct, next, Turn, turnIf, judgedAt, allJudged, othersTurn}
 use Rattle.rules_waiting.proofs.Sound.{terminal-parts, take-passed}
@@ -60,7 +62,9 @@ pub record Lends (room : ℕ) (r : List ℕ) (c : Call) : Type 0 where
 -- what a call meets, on the terminal x, for the input
 abbrev pub Meets : Defaults → Terminal → Input → Call → Type 0
 Meets d x (handIn r) c = HandsIn x r (c .judgement) (c .memory)
-Meets d x (takeAt clock room) c = Takes d x clock room (record { judgement = c .judgement; size = c .size; bytes = c .bytes }) (c .lent) (c .memory) (c .buffer) × Lends room (recordGiven c) c
+Meets d x (takeAt clock room) c =
+    Takes d x clock room (record { judgement = c .judgement; size = c .size; bytes = c .bytes }) (c .lent) (c .memory) (c .buffer)
+    × Lends room (recordGiven c) c
 Meets d x (direct q) c = Judges d x q (c .judgement) (c .lent) (c .memory) (c .buffer) × Lends (q .room) (q .bytes) c
 
 -- the terminal that a call hands back
@@ -83,7 +87,8 @@ handedBack x (c ∷ cs) = handedBack (left c) cs
 
 abbrev pub turnOf : Input → Call → List Turn
 turnOf (handIn r) c = []
-turnOf (takeAt clock room) c = cond (eqb (c .judgement .answer) 1 || eqb (c .judgement .answer) 27) [] (record { request = received clock (recordGiven c) room; told = told c } ∷ [])
+turnOf (takeAt clock room) c =
+    cond (eqb (c .judgement .answer) 1 || eqb (c .judgement .answer) 27) [] (record { request = received clock (recordGiven c) room; told = told c } ∷ [])
 turnOf (direct q) c = cond (eqb (c .judgement .answer) 1) [] (record { request = q; told = told c } ∷ [])
 
 abbrev pub callTurns : List Input → List Call → List Turn
@@ -97,9 +102,9 @@ filled-start : (buffer reply : List ℕ) → take (length reply) (filled buffer 
 unfolding filled
 filled-start buffer reply = take-at reply (drop (length reply) buffer) (length reply) refl
 
-pub record-back : (r : List ℕ) → take (length r) (padded r) ≡ r
+pub padded-back : (r : List ℕ) → take (length r) (padded r) ≡ r
 unfolding padded
-record-back r = take-at r (replicate (256 - length r) 0) (length r) refl
+padded-back r = take-at r (replicate (256 - length r) 0) (length r) refl
 
 -- a call tells what the answer says, where its payload is the record's
 pub told-is : (a : Answered) (room : ℕ) (r : List ℕ) (c : Call) → c .judgement ≡ said a → Leaves a (c .lent) (c .memory) (c .buffer) → Lends room r c
@@ -144,11 +149,12 @@ module _ (d : Defaults) (x : Terminal) where
   take-turn clock room c Pass e o f l =
       let q = received clock (due x) room in
       let j = ap (λ (t : HandedOut). t .judgement) o in
-      let r : recordGiven c ≡ due x = ap (λ (t : HandedOut). take (t .size) (t .bytes)) o ∙ record-back (due x) in
+      let r : recordGiven c ≡ due x = ap (λ (t : HandedOut). take (t .size) (t .bytes)) o ∙ padded-back (due x) in
       rw (ap (λ (y : Said). eqb (y .answer) 1 || eqb (y .answer) 27) j, judged-number q (take-passed x e .0))
       (ap₂ (λ (b : List ℕ) (y : Told). record { request = received clock b room; told = y } ∷ []) r
       (told-is (takeOf d x q Pass) room (recordGiven c) c j f l (ap (payloadAt (toldTo d (x .tables) q .answer)) r ∙ payload-is d (x .tables) q)))
-  take-turn clock room c (Refuse n) e o f l = rw (ap (λ (t : HandedOut). eqb (t .judgement .answer) 1 || eqb (t .judgement .answer) 27) o ∙ refused-number x n e)
+  take-turn clock room c (Refuse n) e o f l =
+      rw (ap (λ (t : HandedOut). eqb (t .judgement .answer) 1 || eqb (t .judgement .answer) 27) o ∙ refused-number x n e)
 
   direct-turn : (q : Request) (c : Call) (v : Check) → verdict (directChecks x) ≡ v
       → c .judgement ≡ said (directOf d x q v)

@@ -7,12 +7,14 @@ use Rattle.rules.specs.Run.{replies}
 use Rattle.rules.proofs.Examples.{definitions, uuid, credRow, withCreds, owned5, serving, aceBody, aceRow, weight, none, connected, haulier, yard}
 use Rattle.rules_waiting.specs.Slots.{anew, after, seatOf, padded, slotOf, recordOf, roundOf, waiting, memoryOf, freshMemory}
 use Rattle.rules_waiting.specs.Round.{seats, held, occupied, start, inTurn, firstInTurn, gone}
-use Rattle.rules_waiting.specs.Terminal.{Terminal, terminal, slotSound, memorySound, soundTerminal, withRecord, handedIn, clears, asMany, memoryAfter, turn, due, taken, judged}
+use Rattle.rules_waiting.specs.Terminal.{Terminal, terminal, slotSound, memorySound, soundTerminal, withRecord}
+use Rattle.rules_waiting.specs.Terminal.{handedIn, clears, asMany, memoryAfter, turn, due, taken, judged}
 use Rattle.rules_waiting.specs.Inputs.{Input, handIn, takeAt, direct, answered, next, bytesOf, turns}
 
 -- `unfolding waitingDefinitions` opens all that its own line names
 waitingDefinitions : Unit {0}
-unfolding definitions seatOf padded slotOf recordOf roundOf waiting memoryOf seats held occupied start inTurn firstInTurn gone slotSound memorySound soundTerminal withRecord handedIn clears asMany memoryAfter turn due taken judged
+unfolding definitions seatOf padded slotOf recordOf roundOf waiting memoryOf seats held occupied start inTurn
+    firstInTurn gone slotSound memorySound soundTerminal withRecord handedIn clears asMany memoryAfter turn due taken judged
 waitingDefinitions = tt
 
 pub quiet : Terminal
@@ -28,7 +30,9 @@ answerTo x i = answered noDefaults x i .told .answer
 
 -- 7, 5 and an unauthenticated sender hand in, 7 again, and one without a row; four takes
 pub morning : List Input
-morning = handIn (ask 0x32 7) ∷ handIn (ask 0x32 5) ∷ handIn (ask 0x22 0) ∷ handIn (ask 0x32 7) ∷ handIn (ask 0x32 9) ∷ takeAt 0 0 ∷ takeAt 0 0 ∷ takeAt 0 0 ∷ takeAt 0 0 ∷ []
+morning =
+    handIn (ask 0x32 7) ∷ handIn (ask 0x32 5) ∷ handIn (ask 0x22 0) ∷ handIn (ask 0x32 7)
+    ∷ handIn (ask 0x32 9) ∷ takeAt 0 0 ∷ takeAt 0 0 ∷ takeAt 0 0 ∷ takeAt 0 0 ∷ []
 
 pub morning-answers : replies answerTo (next noDefaults) quiet morning ≡ 0 ∷ 0 ∷ 0 ∷ 26 ∷ 7 ∷ 0 ∷ 8 ∷ 0 ∷ 27 ∷ []
 unfolding waitingDefinitions quiet ask morning owned5 serving aceBody aceRow weight none connected uuid credRow withCreds haulier yard
@@ -65,22 +69,28 @@ pub removing-answers : replies answerTo (next noDefaults) closed removing ≡ 0 
 unfolding waitingDefinitions closed ask deleting removing owned5 serving aceBody aceRow weight none connected uuid credRow withCreds haulier yard
 removing-answers = refl
 
-pub removing-direct : replies answerTo (next noDefaults) closed (handIn (ask 0x32 7) ∷ handIn (ask 0x22 0) ∷ atOnce (deleting 7) ∷ takeAt 0 0 ∷ takeAt 0 0 ∷ []) ≡ 0 ∷ 0 ∷ 0 ∷ 11 ∷ 27 ∷ []
+pub removing-direct : replies answerTo (next noDefaults) closed (handIn (ask 0x32 7) ∷ handIn (ask 0x22 0) ∷ atOnce (deleting 7) ∷ takeAt 0 0 ∷ takeAt 0 0 ∷ [])
+    ≡ 0 ∷ 0 ∷ 0 ∷ 11 ∷ 27 ∷ []
 unfolding waitingDefinitions closed ask deleting owned5 serving aceBody aceRow weight none connected uuid credRow withCreds haulier yard
 removing-direct = refl
 
 -- replacing row 7 keeps its record; RESET leaves none
-pub replacing-answers : replies answerTo (next noDefaults) closed (handIn (ask 0x32 7) ∷ atOnce (storing 7) ∷ handIn (ask 0x32 7) ∷ takeAt 0 0 ∷ takeAt 0 0 ∷ []) ≡ 0 ∷ 0 ∷ 26 ∷ 8 ∷ 27 ∷ []
+pub replacing-answers : replies answerTo (next noDefaults) closed
+    (handIn (ask 0x32 7) ∷ atOnce (storing 7) ∷ handIn (ask 0x32 7) ∷ takeAt 0 0 ∷ takeAt 0 0 ∷ [])
+    ≡ 0 ∷ 0 ∷ 26 ∷ 8 ∷ 27 ∷ []
 unfolding waitingDefinitions closed ask storing owned5 serving aceBody aceRow weight none connected uuid credRow withCreds haulier yard
 replacing-answers = refl
 
-pub resetting-answers : replies answerTo (next noDefaults) closed (handIn (ask 0x32 7) ∷ handIn (ask 0x22 0) ∷ atOnce resetting ∷ takeAt 0 0 ∷ []) ≡ 0 ∷ 0 ∷ 0 ∷ 27 ∷ []
+pub resetting-answers : replies answerTo (next noDefaults) closed (handIn (ask 0x32 7) ∷ handIn (ask 0x22 0) ∷ atOnce resetting ∷ takeAt 0 0 ∷ [])
+    ≡ 0 ∷ 0 ∷ 0 ∷ 27 ∷ []
 unfolding waitingDefinitions closed ask resetting owned5 serving aceBody aceRow weight none connected uuid credRow withCreds haulier yard
 resetting-answers = refl
 
 -- seat 7 was taken last; its row goes, and comes again with another behind it: the round begins anew, with the unauthenticated seat
 pub returning : List Input
-returning = handIn (ask 0x32 7) ∷ takeAt 0 0 ∷ atOnce (deleting 7) ∷ atOnce (storing 7) ∷ atOnce (storing 9) ∷ handIn (ask 0x32 9) ∷ handIn (ask 0x22 0) ∷ takeAt 0 0 ∷ takeAt 0 0 ∷ []
+returning =
+    handIn (ask 0x32 7) ∷ takeAt 0 0 ∷ atOnce (deleting 7) ∷ atOnce (storing 7) ∷ atOnce
+    (storing 9) ∷ handIn (ask 0x32 9) ∷ handIn (ask 0x22 0) ∷ takeAt 0 0 ∷ takeAt 0 0 ∷ []
 
 pub returning-turns : map bytesOf (turns noDefaults closed returning) ≡ ask 0x32 7 ∷ ask 0x22 0 ∷ ask 0x32 9 ∷ []
 unfolding waitingDefinitions closed ask deleting storing returning owned5 serving aceBody aceRow weight none connected uuid credRow withCreds haulier yard
@@ -98,7 +108,9 @@ staying-turns = refl
 pub elsewhere : Terminal
 elsewhere = terminal (withState yard 2) (memoryOf (after (0 ∷ 9 ∷ [])) [])
 
-pub elsewhere-turns : map bytesOf (turns noDefaults elsewhere (atOnce (storing 9) ∷ atOnce (storing 10) ∷ handIn (ask 0x32 10) ∷ handIn (ask 0x22 0) ∷ takeAt 0 0 ∷ takeAt 0 0 ∷ [])) ≡ ask 0x22 0 ∷ ask 0x32 10 ∷ []
+pub elsewhere-turns : map bytesOf (turns noDefaults elsewhere
+    (atOnce (storing 9) ∷ atOnce (storing 10) ∷ handIn (ask 0x32 10) ∷ handIn (ask 0x22 0) ∷ takeAt 0 0 ∷ takeAt 0 0 ∷ []))
+    ≡ ask 0x22 0 ∷ ask 0x32 10 ∷ []
 unfolding waitingDefinitions elsewhere ask storing owned5 serving aceBody aceRow weight none connected uuid credRow withCreds haulier yard
 elsewhere-turns = refl
 

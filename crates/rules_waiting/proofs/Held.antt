@@ -1,6 +1,7 @@
 -- The seats of sound tables: distinct, at most 25, of two bytes. A record that passes 2 to 7 has its seat among them, so sound slots are at most 25.
 use Rattle.rows.proofs.Prelude.{_≡_, refl, sym, ap, ap₂, _∙_, Bool, true, false, not, _&&_, _||_, cond, List, [], _∷_, map, ℕ, zero, suc, _/_, _%_, _≤_, _<_}
 use Rattle.rows.proofs.Prelude.{arith, length, take, length-map, length-take-le, eqb, eq-eqb, eqb-false, eqb-true, not-false, not-true}
+use mathlib.Core.Bool.{Bool·not-not}
 use Rattle.rows.specs.Rows.{Row, same, hasKey, numberedAs, some, every, without, distinctNumbers}
 use Rattle.rows.proofs.Kept.{same-true, same-refl, same-sym, length-without}
 use Rattle.rules.specs.declared.Tables.{Tables}
@@ -46,7 +47,8 @@ module _ (r : List ℕ) (m : mismatch r ≡ false) where
   unfolding mismatch
   number-some c =
       bool-cases (eqb (credential r) 0)
-      (λ e. contradiction (and-both (not (eqb (connection r) 0)) _ (ap (λ (n : ℕ). not (eqb n 0)) c) e) (or-right (eqb (connection r) 0 && not (eqb (credential r) 0)) _ m))
+      (λ e. contradiction (and-both (not (eqb (connection r) 0)) _ (ap (λ (n : ℕ). not (eqb n 0)) c) e)
+      (or-right (eqb (connection r) 0 && not (eqb (credential r) 0)) _ m))
       (λ e. e)
 
   number-none : (connection r ≡ 1 → ⊥) → credential r ≡ 0
@@ -66,12 +68,9 @@ unfolding held seats seatOf noCredential some
 held-is t r l m =
     bool-cases (eqb (connection r) 1)
     (λ e. let c = eqb-true _ _ e in
-    rw (sender-partner r l c, word-zero (credential r) (number-some r m c), ← some-seats (credential r) (rows Creds t)) (sym (twice (some (numbered (credential r)) (rows Creds t)))))
+    rw (sender-partner r l c, word-zero (credential r) (number-some r m c), ← some-seats (credential r) (rows Creds t))
+    (sym (Bool·not-not (some (numbered (credential r)) (rows Creds t)))))
     (λ e. rw (sender-none r (eqb-false _ _ e), number-none r m (eqb-false _ _ e), same-refl nobody))
-  where
-    twice : (b : Bool) → not (not b) ≡ b
-    twice true = refl
-    twice false = refl
 
 -- a record that passes 2 to 7
 module _ (t : Tables) (r : List ℕ) (e : verdict (senderChecks t r) ≡ Pass) where
@@ -177,7 +176,8 @@ all-still : (n : Seat) (xs ys : List Seat) → some (same n) xs ≡ false → ev
 unfolding some every
 all-still n [] ys e h = refl
 all-still n (x ∷ xs) ys e h =
-    and-both _ _ (still n x ys (or-left (same n x) _ e) (and-left (some (same x) ys) _ h)) (all-still n xs ys (or-right (same n x) _ e) (and-right (some (same x) ys) _ h))
+    and-both _ _ (still n x ys (or-left (same n x) _ e) (and-left (some (same x) ys) _ h))
+    (all-still n xs ys (or-right (same n x) _ e) (and-right (some (same x) ys) _ h))
 
 pub pigeons : (xs ys : List Seat) → apart xs ≡ true → every (λ m. some (same m) ys) xs ≡ true → length xs ≤ length ys
 unfolding apart every
@@ -186,7 +186,8 @@ pigeons (x ∷ xs) ys d h =
     omega (
       arith,
       fewer x ys (and-left (some (same x) ys) _ h),
-      pigeons xs (without (same x) ys) (and-right (not (some (same x) xs)) _ d) (all-still x xs ys (not-true _ (and-left _ _ d)) (and-right (some (same x) ys) _ h)),
+      pigeons xs (without (same x) ys) (and-right (not (some (same x) xs)) _ d)
+          (all-still x xs ys (not-true _ (and-left _ _ d)) (and-right (some (same x) ys) _ h)),
     )
 
 all-held : (t : Tables) (ws : List Row) → every (slotSound t) ws ≡ true → every (λ m. some (same m) (seats t)) (map (take 2) ws) ≡ true

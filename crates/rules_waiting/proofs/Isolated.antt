@@ -1,5 +1,6 @@
 -- Theorem, demand 3 with waiting records: over a whole list of hand-ins, takes and records judged at once, refused ones included,
--- the others' records that are judged get what the book of 01 gives them, fed byte for byte in the order of their takes, each at its take's clock and with its reply buffer's length.
+-- the others' records that are judged get what the book of 01 gives them, fed byte for byte in the
+-- order of their takes, each at its take's clock and with its reply buffer's length.
 -- The book holds tables only, so seats and round are left out of what is compared.
 use Rattle.rows.proofs.Prelude.{_≡_, refl, ap, Bool, true, false≢true, List, [], _∷_, _++_, map, ℕ}
 use Rattle.rules.specs.declared.Tables.{Tables}
@@ -13,8 +14,10 @@ use Rattle.rules.specs.Run.{replies, final, Along, kept}
 use Rattle.rules.specs.Isolation.{Premise, isOthers, compared}
 use Rattle.rules.proofs.Bools.{cond-cases, bool-cases}
 use Rattle.rules.proofs.Isolated.{Related, silent, alike}
-use Rattle.rules_waiting.specs.Terminal.{Terminal, soundTerminal, handInChecks, handInOf, handedIn, takeChecks, due, takeOf, taken, directChecks, directOf, judged}
-use Rattle.rules_waiting.specs.Inputs.{Input, handIn, takeAt, direct, next, Turn, turnIf, turns, judgedAt, allJudged, othersTurn, requestOf, turnTold, noneDirect}
+use Rattle.rules_waiting.specs.Terminal.{Terminal, soundTerminal, handInChecks, handInOf, handedIn}
+use Rattle.rules_waiting.specs.Terminal.{takeChecks, due, takeOf, taken, directChecks, directOf, judged}
+use Rattle.rules_waiting.specs.Inputs.{Input, handIn, takeAt, direct, next, Turn, turnIf, turns, judgedAt}
+use Rattle.rules_waiting.specs.Inputs.{allJudged, othersTurn, requestOf, turnTold, noneDirect}
 use Rattle.rules_waiting.proofs.Refused.{unsound-run}
 use Rattle.rules_waiting.proofs.Lockstep.{along-first, collected-through, mapped-append, lockstep}
 
@@ -59,7 +62,8 @@ module _ (d : Defaults) (chosen : Sender → Bool) where
       → (told x i ≡ replies (toldTo d) (tablesAfter d) b (fed x i)) × Related d chosen (next d x i .tables) (final (tablesAfter d) b (fed x i))
   unfolding handedIn taken judged
   one x b (handIn r) a e = (refl, handed-tables x b r (verdict (handInChecks x r)) e)
-  one x b (takeAt clock room) a e = take-step x b (received clock (due x) room) (verdict (takeChecks x)) (along-first (tablesAfter d) (Premise chosen) b (fed x (takeAt clock room)) a) e
+  one x b (takeAt clock room) a e =
+      take-step x b (received clock (due x) room) (verdict (takeChecks x)) (along-first (tablesAfter d) (Premise chosen) b (fed x (takeAt clock room)) a) e
   one x b (direct q) a e = direct-step x b q (verdict (directChecks x)) (along-first (tablesAfter d) (Premise chosen) b (fed x (direct q)) a) e
 
   -- ---- the whole list
@@ -72,7 +76,8 @@ module _ (d : Defaults) (chosen : Sender → Bool) where
   abbrev pub Premises : Terminal → List Turn → Type 0
   Premises x us = soundTerminal x ≡ true → Along (tablesAfter d) (Premise chosen) (x .tables) (map requestOf us)
 
-  -- these turns were told what the book answers: numbers, permissions, payloads, replies, places and links; and the tables at the end are the book's but for the chosen partners' asserted roles
+  -- these turns were told what the book answers: numbers, permissions, payloads, replies, places and
+  -- links; and the tables at the end are the book's but for the chosen partners' asserted roles
   abbrev pub AsTheBook : Terminal → List Turn → Tables → Type 0
   AsTheBook x us end =
       (map turnTold us ≡ replies (toldTo d) (tablesAfter d) (x .tables) (map requestOf us))
@@ -81,9 +86,12 @@ module _ (d : Defaults) (chosen : Sender → Bool) where
   isolated-from : (x : Terminal) (is : List Input) → Along (tablesAfter d) (Premise chosen) (x .tables) (map requestOf (others x is))
       → AsTheBook x (others x is) (final (next d) x is .tables)
   isolated-from x is premise =
-      let a = collected-through (next d) (judgedAt d) (λ us. map requestOf (kept (othersTurn chosen) us)) refl (mapped-append (othersTurn chosen) requestOf) x is in
-      let b = collected-through (next d) (judgedAt d) (λ us. map turnTold (kept (othersTurn chosen) us)) refl (mapped-append (othersTurn chosen) turnTold) x is in
-      let both = lockstep (next d) told fed (toldTo d) (tablesAfter d) (Premise chosen) (λ y t. Related d chosen (y .tables) t) one x (x .tables) is (rw a premise) (record { same = refl; sound = refl }) in
+      let a = collected-through (next d) (judgedAt d) (λ us. map requestOf (kept (othersTurn chosen) us))
+      refl (mapped-append (othersTurn chosen) requestOf) x is in
+      let b = collected-through (next d) (judgedAt d) (λ us. map turnTold (kept (othersTurn chosen) us))
+      refl (mapped-append (othersTurn chosen) turnTold) x is in
+      let both = lockstep (next d) told fed (toldTo d) (tablesAfter d) (Premise chosen) (λ y t. Related d chosen (y .tables) t)
+      one x (x .tables) is (rw a premise) (record { same = refl; sound = refl }) in
       (rw (← a, ← b) (both .0), rw (← a) (both .1 .same))
 
   -- demand 3; a terminal that is not sound, be it only in what waits, needs no premise

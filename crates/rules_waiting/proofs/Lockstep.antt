@@ -22,11 +22,13 @@ module _ {B J : Type 0} (step : B → J → B) where
   along-append P b [] ys a = (along-first P b ys a, a)
   along-append P b (x ∷ xs) ys a = let rest = along-append P (step b x) xs ys (a .1) in ((a .0, rest .0), rest .1)
 
-module _ {S I A C : Type 0} (next : S → I → S) (out : S → I → List A) (h : List A → List C) (none : h [] ≡ []) (both : (xs ys : List A) → h (xs ++ ys) ≡ h xs ++ h ys) where
+module _ {S I A C : Type 0} (next : S → I → S) (out : S → I → List A) (h : List A → List C)
+    (none : h [] ≡ []) (both : (xs ys : List A) → h (xs ++ ys) ≡ h xs ++ h ys) where
   -- a function that goes through joined lists goes through what is collected
   pub collected-through : (s : S) (is : List I) → collected next (λ s i. h (out s i)) s is ≡ h (collected next out s is)
   collected-through s [] = sym none
-  collected-through s (i ∷ is) = ap (λ (l : List C). h (out s i) ++ l) (collected-through (next s i) is) ∙ sym (both (out s i) (collected next out (next s i) is))
+  collected-through s (i ∷ is) =
+      ap (λ (l : List C). h (out s i) ++ l) (collected-through (next s i) is) ∙ sym (both (out s i) (collected next out (next s i) is))
 
 module _ {A : Type 0} (keep : A → Bool) where
   -- kept, then each through a function
@@ -39,7 +41,8 @@ module _ {A : Type 0} (keep : A → Bool) where
       go true e = ap (λ (l : List B). f x ∷ l) e
       go false e = e
 
-module _ {S I B J O : Type 0} (next : S → I → S) (shown : S → I → List O) (fed : S → I → List J) (reply : B → J → O) (step : B → J → B) (P : B → Type 0) (R : S → B → Type 0) where
+module _ {S I B J O : Type 0} (next : S → I → S) (shown : S → I → List O) (fed : S → I → List J)
+    (reply : B → J → O) (step : B → J → B) (P : B → Type 0) (R : S → B → Type 0) where
   -- one input
   abbrev pub InStep : Type 0
   InStep = (s : S) (b : B) (i : I) → Along step P b (fed s i) → R s b → (shown s i ≡ replies reply step b (fed s i)) × R (next s i) (final step b (fed s i))

@@ -21,8 +21,10 @@ use Rattle.rules.proofs.Answers.{passed}
 use Rattle.rules.proofs.SoundKept.{sound-kept}
 use Rattle.rules_waiting.specs.Slots.{Seat, Round, anew, after, slotOf, recordOf, roundOf, waiting}
 use Rattle.rules_waiting.specs.Round.{seats, occupied, gone, heldRound}
-use Rattle.rules_waiting.specs.Terminal.{Terminal, slotSound, soundTerminal, handInChecks, withRecord, handInOf, handedIn, clears, asMany, memoryAfter, takeChecks, turn, due, takeOf, taken, directChecks, directOf, judged}
-use Rattle.rules_waiting.specs.Inputs.{Input, handIn, takeAt, direct, next, bytesOf, turnIf, turns, Undisturbed, recordsIn, recordIf, allKept, droppedBy, droppedAt, allDropped, countOf}
+use Rattle.rules_waiting.specs.Terminal.{Terminal, slotSound, soundTerminal, handInChecks, withRecord, handInOf, handedIn, clears}
+use Rattle.rules_waiting.specs.Terminal.{asMany, memoryAfter, takeChecks, turn, due, takeOf, taken, directChecks, directOf, judged}
+use Rattle.rules_waiting.specs.Inputs.{Input, handIn, takeAt, direct, next, bytesOf, turnIf, turns, Undisturbed}
+use Rattle.rules_waiting.specs.Inputs.{recordsIn, recordIf, allKept, droppedBy, droppedAt, allDropped, countOf}
 use Rattle.rules_waiting.proofs.SlotLaws.{TwoLong, round-two, waiting-back, slots-long, slot-length, record-back, short-record}
 use Rattle.rules_waiting.proofs.Held.{slot-held, few-slots}
 use Rattle.rules_waiting.proofs.RowsMoved.{seats-same}
@@ -60,7 +62,8 @@ after-waiting d t q k ws s two h a c =
     (λ e. let all = every-same t t′ ws (seats-same d t q s c e) h in
     waiting-back k ws two (few-slots t′ ws s′ all a) (slots-long t′ ws all) ∙ sym (none-goes (gone (seats t′)) ws (none-gone t′ ws all)))
     (λ _. let all = every-staying t t′ ws h in
-    waiting-back (heldRound (seats t′) (heldRound (seats t) k)) (without (gone (seats t′)) ws) (held-two t′ (heldRound (seats t) k) (held-two t k two)) (few-slots t′ (without (gone (seats t′)) ws) s′ all (distinct-without (gone (seats t′)) ws a)) (slots-long t′ (without (gone (seats t′)) ws) all)))
+    waiting-back (heldRound (seats t′) (heldRound (seats t) k)) (without (gone (seats t′)) ws) (held-two t′ (heldRound (seats t) k) (held-two t k two))
+    (few-slots t′ (without (gone (seats t′)) ws) s′ all (distinct-without (gone (seats t′)) ws a)) (slots-long t′ (without (gone (seats t′)) ws) all)))
 
 pub cleared-waiting : (d : Defaults) (t : Tables) (q : Request) (k : Round) (ws : List Row) → clears d t q ≡ true → waiting (memoryAfter d t q k ws) ≡ []
 unfolding memoryAfter
@@ -114,8 +117,10 @@ module _ (p : List ℕ → Bool) where
     where
       go : (b : Bool) → hasKey 0 n w ≡ b → (b || some (hasKey 0 n) ws) ≡ true
           → (some (hasKey 0 n) ws ≡ true → cond (p (recordOf (firstRow (hasKey 0 n) ws))) 1 0 + slots (without (hasKey 0 n) ws) ≡ slots ws)
-          → cond (p (recordOf (cond b w (firstRow (hasKey 0 n) ws)))) 1 0 + slots (cond b (without (hasKey 0 n) ws) (w ∷ without (hasKey 0 n) ws)) ≡ cond (p (recordOf w)) 1 0 + slots ws
-      go true e o rest = ap (λ (vs : List Row). cond (p (recordOf w)) 1 0 + slots vs) (none-goes (hasKey 0 n) ws (one-slot t n l w ws (and-left (slotSound t w) _ h) a e))
+          → cond (p (recordOf (cond b w (firstRow (hasKey 0 n) ws)))) 1 0 + slots (cond b (without (hasKey 0 n) ws) (w ∷ without (hasKey 0 n) ws))
+          ≡ cond (p (recordOf w)) 1 0 + slots ws
+      go true e o rest =
+          ap (λ (vs : List Row). cond (p (recordOf w)) 1 0 + slots vs) (none-goes (hasKey 0 n) ws (one-slot t n l w ws (and-left (slotSound t w) _ h) a e))
       go false e o rest = omega (arith, rest o)
 
   -- ---- one input
@@ -125,7 +130,8 @@ module _ (p : List ℕ → Bool) where
   unfolding countOf
   hand-count x r h Pass e =
       let b : recordOf (slotOf r) ≡ r = record-back r (short-record (x .tables) r (hand-passed x r e)) in
-      let m : slots (waiting (withRecord r (x .memory))) ≡ slots (waiting (x .memory)) + cond (p r) 1 0 = ap slots (hand-memory x r h e .0) ∙ slots-append (waiting (x .memory)) (slotOf r) ∙ ap (λ (v : List ℕ). slots (waiting (x .memory)) + cond (p v) 1 0) b in
+      let m : slots (waiting (withRecord r (x .memory))) ≡ slots (waiting (x .memory)) + cond (p r) 1 0 =
+      ap slots (hand-memory x r h e .0) ∙ slots-append (waiting (x .memory)) (slotOf r) ∙ ap (λ (v : List ℕ). slots (waiting (x .memory)) + cond (p v) 1 0) b in
       omega (arith, m)
   hand-count x r h (Refuse n) e = omega arith
 
@@ -140,7 +146,9 @@ module _ (p : List ℕ → Bool) where
 
   take-count : (d : Defaults) (x : Terminal) (clock room : ℕ) → soundTerminal x ≡ true → (c : Check) → verdict (takeChecks x) ≡ c
       → let q = received clock (due x) room in
-      countOf p (map bytesOf (turnIf d x q c)) + (countOf p (droppedBy d (x .tables) q (without (hasKey 0 (turn x)) (waiting (x .memory))) c) + countOf p (recordsIn (takeOf d x q c .terminal))) ≡ countOf p (recordsIn x)
+      countOf p (map bytesOf (turnIf d x q c))
+      + (countOf p (droppedBy d (x .tables) q (without (hasKey 0 (turn x)) (waiting (x .memory))) c) + countOf p (recordsIn (takeOf d x q c .terminal)))
+      ≡ countOf p (recordsIn x)
   unfolding due countOf occupied
   take-count d x clock room h Pass e =
       let s = terminal-parts x h in
@@ -178,7 +186,8 @@ module _ (p : List ℕ → Bool) where
       rw (count-append (recordIf r (verdict (handInChecks x r))) (allKept d (handedIn x r .terminal) is))
       (omega (arith, counted d (handedIn x r .terminal) is (sound-next d x (handIn r) h), hand-count x r h (verdict (handInChecks x r)) refl))
   counted d x (takeAt clock room ∷ is) h =
-      go (verdict (takeChecks x)) (take-count d x clock room h (verdict (takeChecks x)) refl) (counted d (taken d x clock room .terminal) is (sound-next d x (takeAt clock room) h))
+      go (verdict (takeChecks x)) (take-count d x clock room h (verdict (takeChecks x)) refl)
+      (counted d (taken d x clock room .terminal) is (sound-next d x (takeAt clock room) h))
     where
       q : Request
       q = received clock (due x) room
@@ -187,10 +196,12 @@ module _ (p : List ℕ → Bool) where
       ws = without (hasKey 0 (turn x)) (waiting (x .memory))
 
       go : (c : Check)
-          → countOf p (map bytesOf (turnIf d x q c)) + (countOf p (droppedBy d (x .tables) q ws c) + countOf p (recordsIn (takeOf d x q c .terminal))) ≡ countOf p (recordsIn x)
+          → countOf p (map bytesOf (turnIf d x q c)) + (countOf p (droppedBy d (x .tables) q ws c) + countOf p (recordsIn (takeOf d x q c .terminal)))
+          ≡ countOf p (recordsIn x)
           → Balance d (takeOf d x q c .terminal) is
           → countOf p (map bytesOf (turnIf d x q c ++ turns d (takeOf d x q c .terminal) is))
-          + (countOf p (droppedBy d (x .tables) q ws c ++ allDropped d (takeOf d x q c .terminal) is) + countOf p (recordsIn (final (next d) (takeOf d x q c .terminal) is)))
+          + (countOf p (droppedBy d (x .tables) q ws c ++ allDropped d (takeOf d x q c .terminal) is)
+          + countOf p (recordsIn (final (next d) (takeOf d x q c .terminal) is)))
           ≡ countOf p (recordsIn x) + countOf p (allKept d (takeOf d x q c .terminal) is)
       go Pass a b = rw (count-append (droppedBy d (x .tables) q ws Pass) (allDropped d (takeOf d x q Pass .terminal) is)) (omega arith)
       go (Refuse n) a b = omega arith
@@ -222,12 +233,14 @@ kept-waits x r = go (verdict (handInChecks x r)) refl
 -- none is dropped while no credential row is added or removed and the tables are not cleared
 dropped-none : (d : Defaults) (t : Tables) (q : Request) (ws : List Row) → every (slotSound t) ws ≡ true → clears d t q ≡ false
     → seats (tablesAfter d t q) ≡ seats t → droppedBy d t q ws Pass ≡ []
-dropped-none d t q ws h c e = rw c (ap (map recordOf) (none-kept (gone (seats (tablesAfter d t q))) ws (none-gone (tablesAfter d t q) ws (every-same t (tablesAfter d t q) ws e h))))
+dropped-none d t q ws h c e =
+    rw c (ap (map recordOf) (none-kept (gone (seats (tablesAfter d t q))) ws (none-gone (tablesAfter d t q) ws (every-same t (tablesAfter d t q) ws e h))))
 
 take-none : (d : Defaults) (x : Terminal) (q : Request) (c : Check) → soundTerminal x ≡ true
     → seats (takeOf d x q c .terminal .tables) ≡ seats (x .tables) → (isPass c && clears d (x .tables) q) ≡ false
     → droppedBy d (x .tables) q (without (hasKey 0 (turn x)) (waiting (x .memory))) c ≡ []
-take-none d x q Pass h e c = dropped-none d (x .tables) q _ (every-without (slotSound (x .tables)) (hasKey 0 (turn x)) (waiting (x .memory)) (terminal-parts x h .keeps)) c e
+take-none d x q Pass h e c =
+    dropped-none d (x .tables) q _ (every-without (slotSound (x .tables)) (hasKey 0 (turn x)) (waiting (x .memory)) (terminal-parts x h .keeps)) c e
 take-none d x q (Refuse n) h e c = refl
 
 direct-none : (d : Defaults) (x : Terminal) (q : Request) (c : Check) → soundTerminal x ≡ true
@@ -241,7 +254,8 @@ unfolding taken judged
 undisturbed-none d x [] h u = refl
 undisturbed-none d x (handIn r ∷ is) h u = undisturbed-none d (next d x (handIn r)) is (sound-next d x (handIn r) h) (u .2)
 undisturbed-none d x (takeAt clock room ∷ is) h u =
-    rw (take-none d x (received clock (due x) room) (verdict (takeChecks x)) h (u .0) (u .1)) (undisturbed-none d (next d x (takeAt clock room)) is (sound-next d x (takeAt clock room) h) (u .2))
+    rw (take-none d x (received clock (due x) room) (verdict (takeChecks x)) h (u .0) (u .1))
+    (undisturbed-none d (next d x (takeAt clock room)) is (sound-next d x (takeAt clock room) h) (u .2))
 undisturbed-none d x (direct q ∷ is) h u =
     rw (direct-none d x q (verdict (directChecks x)) h (u .0) (u .1)) (undisturbed-none d (next d x (direct q)) is (sound-next d x (direct q) h) (u .2))
 
@@ -275,4 +289,5 @@ some-append p rs vs h = counted-some p (rs ++ vs) (omega (arith, count-append p 
 
 pub taken-came : (d : Defaults) (x : Terminal) (is : List Input) (r : List ℕ) → some (same r) (map bytesOf (turns d x is)) ≡ true
     → some (same r) (recordsIn x ++ allKept d x is) ≡ true
-taken-came d x is r h = some-append (same r) (recordsIn x) (allKept d x is) (omega (arith, all-come (same r) d x is, some-counted (same r) (map bytesOf (turns d x is)) h))
+taken-came d x is r h =
+    some-append (same r) (recordsIn x) (allKept d x is) (omega (arith, all-come (same r) d x is, some-counted (same r) (map bytesOf (turns d x is)) h))

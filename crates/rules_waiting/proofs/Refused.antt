@@ -1,6 +1,7 @@
--- Theorems: what refusals leave. A refused hand-in, and a take with 1 or 27, change nothing; any other refused take empties its seat and moves the round on, and no more.
+-- Theorems: what refusals leave. A refused hand-in, and a take with 1 or 27, change nothing;
+-- any other refused take empties its seat and moves the round on, and no more.
 use Rattle.rows.proofs.Prelude.{_≡_, refl, sym, ap, ap₂, _∙_, Bool, true, false, not, _||_, List, [], _∷_, ℕ, suc, arith, length, drop, eqb, eq-eqb, eqb-true}
-use Rattle.rows.proofs.Prelude.{ne-eqb, not-false}
+use Rattle.rows.proofs.Prelude.{not-false}
 use Rattle.rows.specs.Rows.{Row, hasKey, some, without}
 use Rattle.rules.specs.declared.Tables.{Tables}
 use Rattle.rules.specs.declared.Check.{Check}
@@ -16,13 +17,12 @@ use Rattle.rules.proofs.Bools.{cond-cases, bool-cases, contradiction, or-not-le
 use Rattle.rules.proofs.Answers.{passed}
 use Rattle.rules.proofs.Refusals.{refusal-is}
 use Rattle.rules_waiting.specs.Slots.{after, waiting, memoryOf}
-use Rattle.rules_waiting.specs.Terminal.{Terminal, terminal, numberAlone, soundTerminal, handInChecks, handInOf, handedIn, takeChecks, turn, due, takeOf, taken, directChecks, directOf, judged}
-use Rattle.rules_waiting.specs.Inputs.{Input, handIn, takeAt, direct, next, turnIf, turnsAt, turns, judgedAt, allJudged, recordIf, keptAt, allKept, droppedBy, droppedAt, allDropped}
+use Rattle.rules_waiting.specs.Terminal.{Terminal, terminal, numberAlone, soundTerminal, handInChecks, handInOf, handedIn}
+use Rattle.rules_waiting.specs.Terminal.{takeChecks, turn, due, takeOf, taken, directChecks, directOf, judged}
+use Rattle.rules_waiting.specs.Inputs.{Input, handIn, takeAt, direct, next, turnIf, turnsAt, turns, judgedAt}
+use Rattle.rules_waiting.specs.Inputs.{allJudged, recordIf, keptAt, allKept, droppedBy, droppedAt, allDropped}
 use Rattle.rules_waiting.proofs.Sound.{terminal-parts, take-passed}
 use Rattle.rules_waiting.proofs.Stays.{never-clears, refused-after, unchanged-stays}
-
-not-zero : (m n : ℕ) → m ≡ suc n → eqb m 0 ≡ false
-not-zero m n e = ne-eqb m 0 (λ z. absurd (omega arith))
 
 -- ---- hand-in
 
@@ -108,7 +108,12 @@ take-ready x h n = rw (h, n)
 -- it hands out the whole record with the refusal's number; the tables stay, the seat is emptied, and the round stands after it
 pub refused-take : (d : Defaults) (x : Terminal) (clock room n : ℕ) → soundTerminal x ≡ true → eqb (length (waiting (x .memory))) 0 ≡ false
     → taken d x clock room .told .answer ≡ suc n
-    → taken d x clock room ≡ record { bytes = due x; told = numberAlone (suc n) x .told; terminal = terminal (x .tables) (memoryOf (after (turn x)) (without (hasKey 0 (turn x)) (waiting (x .memory)))) }
+    → taken d x clock room
+    ≡ record {
+      bytes = due x;
+      told = numberAlone (suc n) x .told;
+      terminal = terminal (x .tables) (memoryOf (after (turn x)) (without (hasKey 0 (turn x)) (waiting (x .memory))));
+    }
 unfolding taken
 refused-take d x clock room n h w = go (verdict (takeChecks x)) (take-ready x h w)
   where
@@ -116,7 +121,12 @@ refused-take d x clock room n h w = go (verdict (takeChecks x)) (take-ready x h 
     q = received clock (due x) room
 
     go : (c : Check) → c ≡ Pass → takeOf d x q c .told .answer ≡ suc n
-        → takeOf d x q c ≡ record { bytes = due x; told = numberAlone (suc n) x .told; terminal = terminal (x .tables) (memoryOf (after (turn x)) (without (hasKey 0 (turn x)) (waiting (x .memory)))) }
+        → takeOf d x q c
+        ≡ record {
+          bytes = due x;
+          told = numberAlone (suc n) x .told;
+          terminal = terminal (x .tables) (memoryOf (after (turn x)) (without (hasKey 0 (turn x)) (waiting (x .memory))));
+        }
     go Pass e a =
         ap₂ (λ (o : Outcome) (y : Terminal). record { bytes = due x; told = o .told; terminal = y })
         (refusal-is d (x .tables) q n a)
@@ -166,7 +176,8 @@ module _ (d : Defaults) (x : Terminal) (e : soundTerminal x ≡ false) where
   unsound-next : (i : Input) → (judgedAt d x i ≡ []) × (next d x i ≡ x)
   unfolding handedIn taken judged
   unsound-next (handIn r) = (refl, ap (λ (c : Check). handInOf x r c .terminal) (hand-1 r))
-  unsound-next (takeAt clock room) = (ap (turnIf d x (received clock (due x) room)) take-1, ap (λ (c : Check). takeOf d x (received clock (due x) room) c .terminal) take-1)
+  unsound-next (takeAt clock room) =
+      (ap (turnIf d x (received clock (due x) room)) take-1, ap (λ (c : Check). takeOf d x (received clock (due x) room) c .terminal) take-1)
   unsound-next (direct q) = (ap (turnIf d x q) direct-1, ap (λ (c : Check). directOf d x q c .terminal) direct-1)
 
 pub unsound-run : (d : Defaults) (x : Terminal) (is : List Input) → soundTerminal x ≡ false → (allJudged d x is ≡ []) × (final (next d) x is ≡ x)
@@ -176,7 +187,8 @@ unsound-run d x (i ∷ is) e = let a = unsound-next d x e i in rw (a .0, a .1) (
 -- none is taken, dropped or kept
 unsound-move : (d : Defaults) (x : Terminal) (i : Input) → soundTerminal x ≡ false → (turnsAt d x i ≡ []) × (droppedAt d x i ≡ []) × (keptAt d x i ≡ [])
 unsound-move d x (handIn r) e = (refl, refl, ap (recordIf r) (hand-1 d x e r))
-unsound-move d x (takeAt clock room) e = (ap (turnIf d x (received clock (due x) room)) (take-1 d x e), ap (droppedBy d (x .tables) (received clock (due x) room) _) (take-1 d x e), refl)
+unsound-move d x (takeAt clock room) e =
+    (ap (turnIf d x (received clock (due x) room)) (take-1 d x e), ap (droppedBy d (x .tables) (received clock (due x) room) _) (take-1 d x e), refl)
 unsound-move d x (direct q) e = (refl, ap (droppedBy d (x .tables) q _) (direct-1 d x e), refl)
 
 pub unsound-moves : (d : Defaults) (x : Terminal) (is : List Input) → soundTerminal x ≡ false

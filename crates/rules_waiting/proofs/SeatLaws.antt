@@ -45,7 +45,9 @@ module _ (q : Seat → Bool) where
 
       go : (k : Bool) → q x ≡ k → (b : Bool) → same n x ≡ b
           → (some (same n) xs ≡ true → (some q xs ≡ true) × (same n (firstRow q xs) ≡ false → rowsBefore (same (firstRow q xs)) xs < rowsBefore (same n) xs))
-          → ((k || some q xs) ≡ true) × (same n (cond k x (firstRow q xs)) ≡ false → cond (same (cond k x (firstRow q xs)) x) 0 (suc (rowsBefore (same (cond k x (firstRow q xs))) xs)) < cond b 0 (suc (rowsBefore (same n) xs)))
+          → ((k || some q xs) ≡ true)
+          × (same n (cond k x (firstRow q xs)) ≡ false
+          → cond (same (cond k x (firstRow q xs)) x) 0 (suc (rowsBefore (same (cond k x (firstRow q xs))) xs)) < cond b 0 (suc (rowsBefore (same n) xs)))
       go true e true f rest = (refl, λ o. contradiction f o)
       go true e false f rest = (refl, λ o. rw (same-refl x) (omega arith))
       go false e true f rest = contradiction (sym (ap q (same-true n x f)) ∙ h) e
@@ -87,7 +89,8 @@ module _ (n : Seat) where
   pub index-bound : (xs : List Seat) → some (same n) xs ≡ true → rowsBefore (same n) xs < length xs
   unfolding some rowsBefore
   index-bound [] h = contradiction h refl
-  index-bound (x ∷ xs) h = cond-cases (λ (m : ℕ). m < suc (length xs)) (same n x) (λ _. omega arith) (λ e. omega (arith, index-bound xs (or-not-left (same n x) _ h e)))
+  index-bound (x ∷ xs) h =
+      cond-cases (λ (m : ℕ). m < suc (length xs)) (same n x) (λ _. omega arith) (λ e. omega (arith, index-bound xs (or-not-left (same n x) _ h e)))
 
   none-dropped : (s : ℕ) (xs : List Seat) → some (same n) xs ≡ false → some (same n) (drop s xs) ≡ false
   unfolding some
@@ -120,7 +123,9 @@ module _ (n : Seat) where
       go : (k : Bool)
           → (k || some (same n) xs) ≡ true
           → suc s ≤ cond k 0 (suc (rowsBefore (same n) xs))
-          → (some (same n) xs ≡ true → s ≤ rowsBefore (same n) xs → (some (same n) (drop s xs) ≡ true) × (rowsBefore (same n) (drop s xs) + s ≡ rowsBefore (same n) xs))
+          → (some (same n) xs ≡ true
+          → s ≤ rowsBefore (same n) xs
+          → (some (same n) (drop s xs) ≡ true) × (rowsBefore (same n) (drop s xs) + s ≡ rowsBefore (same n) xs))
           → (some (same n) (drop s xs) ≡ true) × (rowsBefore (same n) (drop s xs) + suc s ≡ cond k 0 (suc (rowsBefore (same n) xs)))
       go true h l rest = absurd (omega arith)
       go false h l rest = let r = rest h (omega arith) in (r .0, omega (arith, r .1))
@@ -148,7 +153,9 @@ length-dropped (suc s) (x ∷ xs) l = omega (arith, length-dropped s xs (omega a
 
 -- the index in a list rotated by s, which may be wrapped
 index-rotated : (n : Seat) (s : ℕ) (xs : List Seat) → apart xs ≡ true → some (same n) xs ≡ true → s ≤ length xs
-    → (k : Bool) × (rowsBefore (same n) (drop s xs ++ take s xs) + s ≡ rowsBefore (same n) xs + cond k (length xs) 0) × (rowsBefore (same n) (drop s xs ++ take s xs) < length xs)
+    → (k : Bool)
+    × (rowsBefore (same n) (drop s xs ++ take s xs) + s ≡ rowsBefore (same n) xs + cond k (length xs) 0)
+    × (rowsBefore (same n) (drop s xs ++ take s xs) < length xs)
 index-rotated n s xs d h l =
     bool-cases (leb s (rowsBefore (same n) xs))
     (λ e. let r = drop-later n s xs h (leb-true s _ e) in
@@ -216,4 +223,5 @@ turn-nearer n p l ps d h hp e =
     let b = index-rotated p (start l ps) ps d hp (start-bound l ps) in
     let c = index-rotated n (start (after p) ps) ps d h (start-bound (after p) ps) in
     let behind : start (after p) ps ≡ suc (rowsBefore (same p) ps) = rw hp in
-    nearer (length ps) (start l ps) (rowsBefore (same n) ps) _ (rowsBefore (same p) ps) _ _ (a .0) (b .0) (c .0) (start-bound l ps) (index-bound n ps h) (index-bound p ps hp) (a .2) (c .2) (a .1) (b .1) (omega (arith, c .1)) e
+    nearer (length ps) (start l ps) (rowsBefore (same n) ps) _ (rowsBefore (same p) ps) _ _ (a .0) (b .0) (c .0)
+    (start-bound l ps) (index-bound n ps h) (index-bound p ps hp) (a .2) (c .2) (a .1) (b .1) (omega (arith, c .1)) e

@@ -17,7 +17,8 @@ use Rattle.rules.proofs.Bools.{bool-cases, contradiction, and-left, and-right, 
 use Rattle.rules.proofs.SoundKept.{sound-kept}
 use Rattle.rules_waiting.specs.Slots.{Seat, after, slotOf, recordOf, roundOf, waiting}
 use Rattle.rules_waiting.specs.Round.{seats, held, occupied, inTurn, firstInTurn}
-use Rattle.rules_waiting.specs.Terminal.{Terminal, slotSound, soundTerminal, handInChecks, withRecord, handInOf, handedIn, clears, memoryAfter, takeChecks, turn, due, takeOf, taken, directChecks, directOf, judged}
+use Rattle.rules_waiting.specs.Terminal.{Terminal, slotSound, soundTerminal, handInChecks, withRecord, handInOf, handedIn, clears}
+use Rattle.rules_waiting.specs.Terminal.{memoryAfter, takeChecks, turn, due, takeOf, taken, directChecks, directOf, judged}
 use Rattle.rules_waiting.specs.Inputs.{Input, handIn, takeAt, direct, Turn, bytesOf, turnIf, turns, takes, Undisturbed, recordsIn}
 use Rattle.rules_waiting.proofs.SeatLaws.{first-least, turn-in, turn-bound, turn-nearer}
 use Rattle.rules_waiting.proofs.SlotLaws.{round-two, waiting-back, round-back, slots-long, slot-length}
@@ -60,7 +61,8 @@ module _ (p : Row → Bool) where
   at-without goes stays (w ∷ ws) o = go (p w) refl (goes w) refl o (at-without goes stays ws)
     where
       go : (b : Bool) → p w ≡ b → (g : Bool) → goes w ≡ g → (b || some p ws) ≡ true → (some p ws ≡ true → Unmoved ws (without goes ws))
-          → (some p (cond g (without goes ws) (w ∷ without goes ws)) ≡ true) × (firstRow p (cond g (without goes ws) (w ∷ without goes ws)) ≡ cond b w (firstRow p ws))
+          → (some p (cond g (without goes ws) (w ∷ without goes ws)) ≡ true)
+          × (firstRow p (cond g (without goes ws) (w ∷ without goes ws)) ≡ cond b w (firstRow p ws))
       go true e true f o rest = contradiction f (stays w e)
       go true e false f o rest = (rw e, rw e)
       go false e true f o rest = rest o
@@ -90,14 +92,16 @@ unfolding withRecord
 hand-memory x r h e =
     let two = round-two (x .tables) (x .memory) (terminal-parts x h .memory) in
     let k = hand-keeps x r h e in (
-      waiting-back (roundOf (x .memory)) (stored (slotOf r) (waiting (x .memory))) two (k .1) (slots-long (x .tables) _ (k .0)) ∙ stored-end (slotOf r) (waiting (x .memory)) (hand-free x r e),
+      waiting-back (roundOf (x .memory)) (stored (slotOf r) (waiting (x .memory))) two (k .1) (slots-long (x .tables) _ (k .0))
+          ∙ stored-end (slotOf r) (waiting (x .memory)) (hand-free x r e),
       round-back (roundOf (x .memory)) (stored (slotOf r) (waiting (x .memory))) two,
     )
 
 -- a take that moves no credential row leaves the others waiting, and the round after its seat
 take-memory : (d : Defaults) (x : Terminal) (q : Request) → soundTerminal x ≡ true → eqb (length (waiting (x .memory))) 0 ≡ false
     → clears d (x .tables) q ≡ false → seats (tablesAfter d (x .tables) q) ≡ seats (x .tables)
-    → (waiting (takeOf d x q Pass .terminal .memory) ≡ without (hasKey 0 (turn x)) (waiting (x .memory))) × (roundOf (takeOf d x q Pass .terminal .memory) ≡ after (turn x))
+    → (waiting (takeOf d x q Pass .terminal .memory) ≡ without (hasKey 0 (turn x)) (waiting (x .memory)))
+    × (roundOf (takeOf d x q Pass .terminal .memory) ≡ after (turn x))
 unfolding memoryAfter
 take-memory d x q h n c e =
     let t = x .tables in
@@ -147,7 +151,9 @@ module _ (d : Defaults) (n : Seat) where
     turn-behind : (x : Terminal) → held (seats (x .tables)) n ≡ true → some (hasKey 0 n) (waiting (x .memory)) ≡ true → same n (turn x) ≡ false
         → rowsBefore (same (turn x)) (inTurn (roundOf (x .memory)) (seats (x .tables))) < distance x
     unfolding turn firstInTurn held occupied
-    turn-behind x h o e = first-least (occupied (waiting (x .memory))) n (inTurn (roundOf (x .memory)) (seats (x .tables))) (turn-in n (roundOf (x .memory)) (seats (x .tables)) h) o .1 e
+    turn-behind x h o e =
+        first-least (occupied (waiting (x .memory))) n (inTurn (roundOf (x .memory)) (seats (x .tables)))
+        (turn-in n (roundOf (x .memory)) (seats (x .tables)) h) o .1 e
 
     -- once it was taken, seat n is nearer
     turn-waits : (x : Terminal) (q : Request) → soundTerminal x ≡ true → held (seats (x .tables)) n ≡ true
@@ -161,7 +167,8 @@ module _ (d : Defaults) (n : Seat) where
         let m = take-memory d x q h some-waits c same-seats in
         rw (m .0, m .1, same-seats) (
           at-without (hasKey 0 n) (hasKey 0 (turn x)) (stays-other (turn x) (u .two) e) (waiting (x .memory)) o,
-          turn-nearer n (turn x) (roundOf (x .memory)) (seats (x .tables)) (tables-apart (x .tables) (terminal-parts x h .tables)) g (u .there) (turn-behind x g o e),
+          turn-nearer n (turn x) (roundOf (x .memory)) (seats (x .tables))
+              (tables-apart (x .tables) (terminal-parts x h .tables)) g (u .there) (turn-behind x g o e),
         )
 
     -- ---- a run
@@ -186,7 +193,9 @@ module _ (d : Defaults) (n : Seat) where
 
     -- what is to be shown of the rest of a run
     abbrev Rest : List Input → Terminal → Type 0
-    Rest is y = soundTerminal y ≡ true → held (seats (y .tables)) n ≡ true → some (hasKey 0 n) (waiting (y .memory)) ≡ true → Undisturbed d y is → distance y < takes is → Judged (recordAt y) (turns d y is)
+    Rest is y =
+        soundTerminal y ≡ true → held (seats (y .tables)) n ≡ true → some (hasKey 0 n) (waiting (y .memory)) ≡ true
+        → Undisturbed d y is → distance y < takes is → Judged (recordAt y) (turns d y is)
 
     served-from : (is : List Input) (x : Terminal) → Rest is x
     unfolding handedIn taken judged due
@@ -194,9 +203,11 @@ module _ (d : Defaults) (n : Seat) where
     served-from (handIn r ∷ is) x h g o u m =
         let w = hand-waits x r h o in
         subst (λ (v : Row). Judged (recordOf v) (turns d (handedIn x r .terminal) is)) (w .0 .1)
-        (served-from is (handedIn x r .terminal) (sound-next d x (handIn r) h) (held-same (x .tables) (handedIn x r .terminal .tables) (u .0) g) (w .0 .0) (u .2) (omega (arith, w .1)))
+        (served-from is (handedIn x r .terminal) (sound-next d x (handIn r) h)
+        (held-same (x .tables) (handedIn x r .terminal .tables) (u .0) g) (w .0 .0) (u .2) (omega (arith, w .1)))
     served-from (takeAt clock room ∷ is) x h g o u m =
-        go (verdict (takeChecks x)) (take-ready x h (some-length (hasKey 0 n) (waiting (x .memory)) o)) (sound-next d x (takeAt clock room) h) u (served-from is)
+        go (verdict (takeChecks x)) (take-ready x h (some-length (hasKey 0 n) (waiting (x .memory)) o))
+        (sound-next d x (takeAt clock room) h) u (served-from is)
       where
         q : Request
         q = received clock (due x) room
@@ -204,13 +215,16 @@ module _ (d : Defaults) (n : Seat) where
         go : (c : Check)
             → c ≡ Pass
             → soundTerminal (takeOf d x q c .terminal) ≡ true
-            → (seats (takeOf d x q c .terminal .tables) ≡ seats (x .tables)) × ((isPass c && clears d (x .tables) q) ≡ false) × Undisturbed d (takeOf d x q c .terminal) is
+            → (seats (takeOf d x q c .terminal .tables) ≡ seats (x .tables))
+            × ((isPass c && clears d (x .tables) q) ≡ false)
+            × Undisturbed d (takeOf d x q c .terminal) is
             → ((y : Terminal) → Rest is y)
             → Judged (recordAt x) (turnIf d x q c ++ turns d (takeOf d x q c .terminal) is)
         go Pass e k u rest =
             let y = takeOf d x q Pass .terminal in
             bool-cases (same n (turn x))
-            (λ f. judged-now (recordAt x) (record { request = q; told = toldTo d (x .tables) q }) (turns d y is) (ap (λ (p : Seat). recordOf (firstRow (hasKey 0 p) (waiting (x .memory)))) (same-true n (turn x) f)))
+            (λ f. judged-now (recordAt x) (record { request = q; told = toldTo d (x .tables) q }) (turns d y is)
+            (ap (λ (p : Seat). recordOf (firstRow (hasKey 0 p) (waiting (x .memory)))) (same-true n (turn x) f)))
             (λ f. let w = turn-waits x q h g o f (u .1) (u .0) in
             judged-later (recordAt x) (record { request = q; told = toldTo d (x .tables) q }) (turns d y is)
             (subst (λ (v : Row). Judged (recordOf v) (turns d y is)) (w .0 .1)
@@ -222,7 +236,9 @@ module _ (d : Defaults) (n : Seat) where
         go : (c : Check)
             → c ≡ Pass
             → soundTerminal (directOf d x q c .terminal) ≡ true
-            → (seats (directOf d x q c .terminal .tables) ≡ seats (x .tables)) × ((isPass c && clears d (x .tables) q) ≡ false) × Undisturbed d (directOf d x q c .terminal) is
+            → (seats (directOf d x q c .terminal .tables) ≡ seats (x .tables))
+            × ((isPass c && clears d (x .tables) q) ≡ false)
+            × Undisturbed d (directOf d x q c .terminal) is
             → ((y : Terminal) → Rest is y)
             → Judged (recordAt x) (turns d (directOf d x q c .terminal) is)
         go Pass e k u rest =
@@ -262,7 +278,8 @@ record-seat t r s (w ∷ ws) h a o =
     later i =
         bool-cases (hasKey 0 (i .seat) w)
         (λ e. let n : take 2 w ≡ i .seat = key-is (i .seat) w (seat-long t s (i .seat) (i .there)) e in
-        contradiction (ap (λ (p : Row → Bool). some p ws) (sym (numbered-key w two)) ∙ ap (λ (p : Seat). some (hasKey 0 p) ws) n ∙ i .waits) (not-true _ (and-left _ _ a)))
+        contradiction (ap (λ (p : Row → Bool). some p ws) (sym (numbered-key w two)) ∙ ap (λ (p : Seat). some (hasKey 0 p) ws) n ∙ i .waits)
+        (not-true _ (and-left _ _ a)))
         (λ e. record { seat = i .seat; there = i .there; waits = rw e (i .waits); is = rw e (i .is) })
 
 -- a waiting record is judged within 25 takes
@@ -280,4 +297,8 @@ served d x is r h o u l =
     let n = i .seat in
     subst (λ (v : List ℕ). some (same v) (map bytesOf (turns d x is)) ≡ true) (i .is)
     (served-from d n (seat-long (x .tables) (s .tables) n (i .there)) is x h (i .there) (i .waits) u
-    (omega (arith, turn-bound n (roundOf (x .memory)) (seats (x .tables)) (tables-apart (x .tables) (s .tables)) (i .there), tables-seats (x .tables) (s .tables))))
+    (omega (
+      arith,
+      turn-bound n (roundOf (x .memory)) (seats (x .tables)) (tables-apart (x .tables) (s .tables)) (i .there),
+      tables-seats (x .tables) (s .tables),
+    )))

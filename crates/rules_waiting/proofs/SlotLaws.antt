@@ -14,7 +14,8 @@ use Rattle.rules.specs.Checks.{senderChecks, verdict, isPass, badLength}
 use Rattle.rules.proofs.Bools.{contradiction, and-left, and-right, and-both, or-right}
 use Rattle.rules.proofs.BitLaws.{bits-word}
 use Rattle.rules.proofs.Answers.{passed}
-use Rattle.rules_waiting.specs.Slots.{Seat, Round, anew, after, slotLong, slotsMost, slotsLong, memoryLong, seatOf, padded, slotOf, recordOf, roundBytes, roundOf, waiting, memoryOf}
+use Rattle.rules_waiting.specs.Slots.{Seat, Round, anew, after, slotLong, slotsMost, slotsLong, memoryLong, seatOf}
+use Rattle.rules_waiting.specs.Slots.{padded, slotOf, recordOf, roundBytes, roundOf, waiting, memoryOf}
 use Rattle.rules_waiting.specs.Terminal.{slotSound, memorySound}
 
 -- ---- slots
@@ -29,7 +30,9 @@ module _ (r : List ℕ) where
 
   pub slot-long : length r ≤ 256 → length (slotOf r) ≡ 260
   unfolding slotOf padded seatOf word
-  slot-long h = let e = length-append r (replicate (256 - length r) 0) in let f : length (replicate {A = ℕ} (256 - length r) 0) ≡ 256 - length r = length-replicate (256 - length r) 0 in omega arith
+  slot-long h =
+      let e = length-append r (replicate (256 - length r) 0) in
+      let f : length (replicate {A = ℕ} (256 - length r) 0) ≡ 256 - length r = length-replicate (256 - length r) 0 in omega arith
 
   pub slot-seat : take 2 (slotOf r) ≡ seatOf r
   unfolding slotOf padded seatOf word
@@ -144,8 +147,11 @@ memory-sound t k ws two few all apart =
     memory-whole t (memoryOf k ws) (record {
       long = eq-eqb (length (memoryOf k ws)) memoryLong (memory-length k ws two few long);
       few = le-leb (length ws) 25 few;
-      round = ap (λ (b : List ℕ). same b (roundBytes (roundOf (memoryOf k ws)))) (round-told k ws two) ∙ ap (λ (j : Round). same (roundBytes k) (roundBytes j)) (round-back k ws two) ∙ same-refl (roundBytes k);
-      unused = ap (λ (b : List ℕ). allZero (drop (length ws * slotLong) b)) (slots-behind k ws two) ∙ packed-table 260 slotsLong ws (omega arith) long (omega arith) .zeros;
+      round = ap (λ (b : List ℕ). same b (roundBytes (roundOf (memoryOf k ws)))) (round-told k ws two)
+          ∙ ap (λ (j : Round). same (roundBytes k) (roundBytes j)) (round-back k ws two)
+          ∙ same-refl (roundBytes k);
+      unused = ap (λ (b : List ℕ). allZero (drop (length ws * slotLong) b)) (slots-behind k ws two)
+          ∙ packed-table 260 slotsLong ws (omega arith) long (omega arith) .zeros;
       keeps = ap (every (slotSound t)) back ∙ all;
       apart = ap distinctNumbers back ∙ apart;
     })
@@ -179,5 +185,6 @@ memory-is t m h =
     let size : length (drop 4 m) ≡ 6500 = omega (arith, length-drop 4 m) in
     let n : min (getD m 0 0) 25 ≡ getD m 0 0 = min-eq-left few in
     let table : IsTable 260 (getD m 0 0) (drop 4 m) = record { numbered = omega arith; fits = omega arith; zeros = p .unused } in
-    let b : packed 6500 (rowsOf 260 (getD m 0 0) (drop 4 m)) ≡ drop 4 m = ap (λ (k : ℕ). packed k (rowsOf 260 (getD m 0 0) (drop 4 m))) (sym size) ∙ sym (table-kept 260 (getD m 0 0) (drop 4 m) table) in
+    let b : packed 6500 (rowsOf 260 (getD m 0 0) (drop 4 m)) ≡ drop 4 m =
+    ap (λ (k : ℕ). packed k (rowsOf 260 (getD m 0 0) (drop 4 m))) (sym size) ∙ sym (table-kept 260 (getD m 0 0) (drop 4 m) table) in
     rw (n, length-rowsOf 260 (getD m 0 0) (drop 4 m), b, ← same-true _ _ (p .round)) (sym (four-bytes m (omega arith)))

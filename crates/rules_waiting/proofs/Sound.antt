@@ -17,7 +17,8 @@ use Rattle.rules.proofs.Answers.{passed}
 use Rattle.rules.proofs.SoundKept.{sound-kept, fresh-sound}
 use Rattle.rules_waiting.specs.Slots.{Round, anew, after, slotOf, roundOf, waiting, memoryOf, freshMemory}
 use Rattle.rules_waiting.specs.Round.{seats, held, occupied, inTurn, firstInTurn, gone, heldRound}
-use Rattle.rules_waiting.specs.Terminal.{Terminal, slotSound, memorySound, soundTerminal, freshTerminal, handInChecks, withRecord, handInOf, handedIn, clears, asMany, memoryAfter, takeChecks, turn, due, takeOf, taken, directChecks, directOf, judged}
+use Rattle.rules_waiting.specs.Terminal.{Terminal, slotSound, memorySound, soundTerminal, freshTerminal, handInChecks, withRecord, handInOf, handedIn}
+use Rattle.rules_waiting.specs.Terminal.{clears, asMany, memoryAfter, takeChecks, turn, due, takeOf, taken, directChecks, directOf, judged}
 use Rattle.rules_waiting.specs.Inputs.{Input, handIn, takeAt, direct, next}
 use Rattle.rules_waiting.proofs.SeatLaws.{first-passes, first-in, first-least, turn-in, turn-of}
 use Rattle.rules_waiting.proofs.SlotLaws.{TwoLong, memory-parts, memory-sound, round-two, slot-length, slot-made, slot-seat, slot-two}
@@ -147,7 +148,11 @@ turn-is x h n =
     let ps = inTurn (roundOf (x .memory)) (seats (x .tables)) in
     let f = some-turn x h (waiting (x .memory)) refl n in
     let there = turn-of (turn x) (roundOf (x .memory)) (seats (x .tables)) (first-in (occupied (waiting (x .memory))) ps f) in
-    record { waits = first-passes (occupied (waiting (x .memory))) ps f; there = there; two = seat-long (x .tables) (terminal-parts x h .tables) (turn x) there }
+    record {
+      waits = first-passes (occupied (waiting (x .memory))) ps f;
+      there = there;
+      two = seat-long (x .tables) (terminal-parts x h .tables) (turn x) there;
+    }
 
 -- a take that finds a record
 pub take-passed : (x : Terminal) → verdict (takeChecks x) ≡ Pass → (soundTerminal x ≡ true) × (eqb (length (waiting (x .memory))) 0 ≡ false)
@@ -182,7 +187,8 @@ sound-judged d x q h = go (verdict (directChecks x))
 
     go : (c : Check) → soundTerminal (directOf d x q c .terminal) ≡ true
     go Pass = terminal-whole (directOf d x q Pass .terminal) (sound-kept d (x .tables) q (s .tables))
-        (sound-after d (x .tables) q (roundOf (x .memory)) (waiting (x .memory)) (s .tables) (round-two (x .tables) (x .memory) (s .memory)) (s .keeps) (s .apart))
+        (sound-after d (x .tables) q (roundOf (x .memory)) (waiting (x .memory))
+        (s .tables) (round-two (x .tables) (x .memory) (s .memory)) (s .keeps) (s .apart))
     go (Refuse n) = h
 
 -- ---- a run
@@ -214,5 +220,6 @@ hand-keeps x r h e =
 -- there is room: it finds at most 24 others
 pub hand-room : (x : Terminal) (r : List ℕ) → verdict (handInChecks x r) ≡ Pass → length (waiting (x .memory)) < 25
 hand-room x r e =
-    let more : length (stored (slotOf r) (waiting (x .memory))) ≡ length (waiting (x .memory)) + 1 = length-stored (slotOf r) (waiting (x .memory)) ∙ rw (hand-free x r e) in
+    let more : length (stored (slotOf r) (waiting (x .memory))) ≡ length (waiting (x .memory)) + 1 =
+    length-stored (slotOf r) (waiting (x .memory)) ∙ rw (hand-free x r e) in
     omega (arith, hand-keeps x r (not-false _ (passed (handInChecks x r) e 1)) e .1)

@@ -1,4 +1,5 @@
--- Theorems: what a record that is judged at once leaves of the memory. It stays byte for byte unless a credential row is added or removed or the tables are cleared;
+-- Theorems: what a record that is judged at once leaves of the memory. It stays byte for
+-- byte unless a credential row is added or removed or the tables are cleared;
 -- cleared tables hold no waiting record, whatever rows they hold. A round whose row is not held is not revived by a row that comes with its number.
 use Rattle.rows.proofs.Prelude.{_≡_, refl, ap, _∙_, true, false, List, ℕ, suc, arith, eqb, eq-eqb, ne-eqb}
 use Rattle.rows.specs.Rows.{Row}
@@ -12,7 +13,8 @@ use Rattle.rules.proofs.Refusals.{refusal-is}
 use Rattle.rules.proofs.SoundKept.{sound-kept}
 use Rattle.rules_waiting.specs.Slots.{Round, anew, roundOf, waiting, memoryOf, freshMemory}
 use Rattle.rules_waiting.specs.Round.{seats, heldRound}
-use Rattle.rules_waiting.specs.Terminal.{Terminal, terminal, Answered, soundTerminal, clears, asMany, memoryAfter, terminalAfter, directChecks, directOf, judged}
+use Rattle.rules_waiting.specs.Terminal.{Terminal, terminal, Answered, soundTerminal, clears, asMany}
+use Rattle.rules_waiting.specs.Terminal.{memoryAfter, terminalAfter, directChecks, directOf, judged}
 use Rattle.rules_waiting.proofs.SlotLaws.{memory-is, round-back}
 use Rattle.rules_waiting.proofs.RowsMoved.{as-many}
 use Rattle.rules_waiting.proofs.Sound.{terminal-parts}
@@ -57,7 +59,10 @@ module _ (d : Defaults) (x : Terminal) (q : Request) (h : soundTerminal x ≡ tr
   pub unchanged-stays : tablesAfter d (x .tables) q ≡ x .tables → clears d (x .tables) q ≡ false
       → terminalAfter d (x .tables) q (roundOf (x .memory)) (waiting (x .memory)) ≡ x
   unfolding asMany
-  unchanged-stays e c = ap (terminal (tablesAfter d (x .tables) q)) (memory-stays c (ap (λ (t : Tables). eqb (x .tables .ncreds) (t .ncreds)) e ∙ eq-eqb (x .tables .ncreds) (x .tables .ncreds) refl)) ∙ ap (λ (t : Tables). terminal t (x .memory)) e
+  unchanged-stays e c =
+      ap (terminal (tablesAfter d (x .tables) q))
+      (memory-stays c (ap (λ (t : Tables). eqb (x .tables .ncreds) (t .ncreds)) e ∙ eq-eqb (x .tables .ncreds) (x .tables .ncreds) refl))
+      ∙ ap (λ (t : Tables). terminal t (x .memory)) e
 
   -- cleared tables hold no waiting record
   pub cleared-fresh : clears d (x .tables) q ≡ true → judged d x q .terminal .memory ≡ freshMemory

@@ -132,7 +132,8 @@ droppedBy d t q ws (Refuse n) = []
 
 abbrev pub droppedAt : Defaults → Terminal → Input → List (List ℕ)
 droppedAt d x (handIn r) = []
-droppedAt d x (takeAt clock room) = droppedBy d (x .tables) (received clock (due x) room) (without (hasKey 0 (turn x)) (waiting (x .memory))) (verdict (takeChecks x))
+droppedAt d x (takeAt clock room) =
+    droppedBy d (x .tables) (received clock (due x) room) (without (hasKey 0 (turn x)) (waiting (x .memory))) (verdict (takeChecks x))
 droppedAt d x (direct q) = droppedBy d (x .tables) q (waiting (x .memory)) (verdict (directChecks x))
 
 abbrev pub allDropped : Defaults → Terminal → List Input → List (List ℕ)

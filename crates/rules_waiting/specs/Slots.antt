@@ -1,5 +1,6 @@
 -- The queue of waiting records, in memory that the program lends beside the tables: how many wait, where the round stands, and a slot for each.
--- Bytes: the count (8), the round (24), and 25 slots. A slot: the sender's credential number (16, 0 for unauthenticated senders), the record's length (16), 256 bytes of record with zeros behind it.
+-- Bytes: the count (8), the round (24), and 25 slots. A slot: the sender's credential number (16, 0 for
+-- unauthenticated senders), the record's length (16), 256 bytes of record with zeros behind it.
 -- A seat is the paper's place for a waiting record: the two bytes of that number. (Places are those of U4 here.)
 use Prim.Native.Nat.{ℕ, _-_, min}
 use mathlib.Core.Bool.{cond}

@@ -18,7 +18,8 @@ use Rattle.rules.specs.Action.{action}
 use Rattle.rules.specs.Checks.{senderChecks, verdict, isPass}
 use Rattle.rules.specs.Outcome.{Told, numberTold, Said, toldTo, tablesAfter, judgementOf, saidOf}
 use Rattle.rules_waiting.specs.declared.Taken.{Taken}
-use Rattle.rules_waiting.specs.Slots.{Seat, Round, after, slotLong, slotsMost, memoryLong, seatOf, padded, slotOf, recordOf, roundBytes, roundOf, waiting, memoryOf, freshMemory}
+use Rattle.rules_waiting.specs.Slots.{Seat, Round, after, slotLong, slotsMost, memoryLong, seatOf, padded, slotOf}
+use Rattle.rules_waiting.specs.Slots.{recordOf, roundBytes, roundOf, waiting, memoryOf, freshMemory}
 use Rattle.rules_waiting.specs.Round.{seats, occupied, firstInTurn, gone, heldRound}
 
 pub record Terminal : Type 0 where
@@ -124,7 +125,11 @@ due x = recordOf (firstRow (hasKey 0 (turn x)) (waiting (x .memory)))
 -- the seat is emptied and the round moves on, whatever the record's answer
 abbrev pub takeOf : Defaults → Terminal → Request → Check → Answered
 takeOf d x q Pass =
-    record { bytes = q .bytes; told = toldTo d (x .tables) q; terminal = terminalAfter d (x .tables) q (after (turn x)) (without (hasKey 0 (turn x)) (waiting (x .memory))) }
+    record {
+      bytes = q .bytes;
+      told = toldTo d (x .tables) q;
+      terminal = terminalAfter d (x .tables) q (after (turn x)) (without (hasKey 0 (turn x)) (waiting (x .memory)));
+    }
 takeOf d x q (Refuse n) = numberAlone n x
 
 -- at the take's clock, with a reply buffer of this length

@@ -1,4 +1,5 @@
--- Theorem, demand 3 of C calls: what the C functions give (CHandsIn, CTakes and CJudges, which their contracts cite), with the payload read at its start and length,
+-- Theorem, demand 3 of C calls: what the C functions give (CHandsIn, CTakes and CJudges,
+-- which their contracts cite), with the payload read at its start and length,
 -- are calls as `built-isolation` takes them (rules_waiting/proofs/Built.antt), each on the tables and the memory handed back last.
 use Rattle.rows.proofs.Prelude.{_≡_, sym, ap, _∙_, Bool, List, [], _∷_, ℕ, length, take}
 use Rattle.rules.specs.Record.{Request, Sender}
@@ -8,7 +9,7 @@ use Rattle.rules.specs.Run.{kept}
 use Rattle.rules_waiting.specs.Terminal.{Terminal, terminal, taken, judged}
 use Rattle.rules_waiting.specs.Inputs.{Input, handIn, takeAt, direct, othersTurn}
 use Rattle.rules_waiting.proofs.Isolated.{Premises, AsTheBook}
-use Rattle.rules_waiting.proofs.Built.{Call, Meets, Built, handedBack, callTurns, record-back, built-isolation}
+use Rattle.rules_waiting.proofs.Built.{Call, Meets, Built, handedBack, callTurns, padded-back, built-isolation}
 use Rattle.terminal.specs.declared.Outcome.{Outcome}
 use Rattle.terminal.specs.declared.Turn.{Turn}
 use Rattle.terminal.specs.Interface.{exported, turnOf, CHandsIn, CTakes, CJudges}
@@ -82,7 +83,7 @@ module _ (d : Defaults) (x : Terminal) where
 
   take-passes : (clock room : ℕ) (u : Turn) → u ≡ turnOf (taken d x clock room)
       → partAt (u .outcome .start) (u .outcome .length) (take (u .size) (u .bytes)) ≡ payloadAt (u .outcome .answer) (take (u .size) (u .bytes))
-  take-passes clock room u e = rw (e, record-back (taken d x clock room .bytes)) (payload-taken d x clock room ∙ sym (taken-payload d x clock room))
+  take-passes clock room u e = rw (e, padded-back (taken d x clock room .bytes)) (payload-taken d x clock room ∙ sym (taken-payload d x clock room))
 
   pub c-meets : (i : Input) (c : CCall) → Promised d x i c → Meets d x i (callOf i c)
   c-meets (handIn r) c p = record { says = ap saidIn (p .gives); keeps = p .keeps }

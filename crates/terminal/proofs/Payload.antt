@@ -67,10 +67,12 @@ taken-payload d x clock room = go (verdict (takeChecks x)) refl
 
 -- ---- so it is found: of a record judged at once, and of a record taken in the bytes that are handed out
 
-pub payload-found : (d : Defaults) (x : Terminal) (q : Request) → let o = exported (judged d x q) in partAt (o .start) (o .length) (q .bytes) ≡ judged d x q .told .payload
+pub payload-found : (d : Defaults) (x : Terminal) (q : Request)
+    → let o = exported (judged d x q) in partAt (o .start) (o .length) (q .bytes) ≡ judged d x q .told .payload
 unfolding payloadAt
 payload-found d x q = rw (← judged-payload d x q) (of-answer (q .bytes) (eqb (judged d x q .told .answer) 0))
 
-pub payload-taken : (d : Defaults) (x : Terminal) (clock room : ℕ) → let o = exported (taken d x clock room) in partAt (o .start) (o .length) (taken d x clock room .bytes) ≡ taken d x clock room .told .payload
+pub payload-taken : (d : Defaults) (x : Terminal) (clock room : ℕ)
+    → let o = exported (taken d x clock room) in partAt (o .start) (o .length) (taken d x clock room .bytes) ≡ taken d x clock room .told .payload
 unfolding payloadAt
 payload-taken d x clock room = rw (← taken-payload d x clock room) (of-answer (taken d x clock room .bytes) (eqb (taken d x clock room .told .answer) 0))

@@ -47,7 +47,9 @@ returns : tie.Need-returns
 returns c = stop-all (requests (c .before .before .before .before .before)) _ _ (c .before .before .check-request .ensures) (c .enum-told2 .given .1)
 
 returns-2 : tie.Need-returns-2
-returns-2 c = past (c .before .before .before) (stop-all (ofStates (start (c .before .before .before))) _ _ (c .before .before .check-states .ensures) (c .enum-told4 .given .1))
+returns-2 c =
+    past (c .before .before .before)
+    (stop-all (ofStates (start (c .before .before .before))) _ _ (c .before .before .check-states .ensures) (c .enum-told4 .given .1))
 
 returns-3 : tie.Need-returns-3
 returns-3 c = past2 (c .before .before .before) (stop _ _ _ _ (c .before .before .check-missing .ensures) (c .enum-told6 .given .1))
@@ -56,12 +58,12 @@ returns-4 : tie.Need-returns-4
 returns-4 c = past3 (c .before .before .before) (stop _ _ _ _ (c .before .before .check-full .ensures) (c .enum-told8 .given .1))
 
 returns-5 : tie.Need-returns-5
-returns-5 c = past3 (c .before .before .before .before) (skip _ _ _ (c .before .before .before .check-full .ensures) (c .before .enum-told7 .given .1) (last _ _ (c .check-roles .ensures)))
+returns-5 c =
+    past3 (c .before .before .before .before)
+    (skip _ _ _ (c .before .before .before .check-full .ensures) (c .before .enum-told7 .given .1) (last _ _ (c .check-roles .ensures)))
 
 pub check-asked-spec : {M : Type 1} → statement M
-check-asked-spec =
-    tie.close
-    (tie.spec
+check-asked-spec = tie.close (tie.spec
     (λ c κs. search needs) (λ c. search needs) (λ c. search needs) returns
     (λ c κs. search needs) (λ c. search needs) (λ c. search needs) returns-2
     (λ c κs. search needs) (λ c. search needs) (λ c. search needs) returns-3

@@ -33,7 +33,8 @@ held : (c : tie.After-numbered-place) → let at = c .before .before .before .be
     some (numberedAs (rowOf (at .a .given .0 .0) (body (now (s .args .«record»))))) (rows (at .a .given .0 .0) (tables s)) ≡ isAt (c .numbered-place .result)
 held c =
     let at = c .before .before .before .before .before .before in
-    some-place 0 _ (rows (at .a .given .0 .0) (tables (at .before .before .before))) ∙ sym (ap isAt (rw (c .before .body-of .ensures) at (c .numbered-place .ensures)))
+    some-place 0 _ (rows (at .a .given .0 .0) (tables (at .before .before .before)))
+    ∙ sym (ap isAt (rw (c .before .body-of .ensures) at (c .numbered-place .ensures)))
 
 full-count : (c : tie.After-numbered-place) → let at = c .before .before .before .before .before .before in let s = at .before .before .before in
     capacity (at .a .given .0 .0) ≤ count (at .a .given .0 .0) (tables s)
@@ -44,19 +45,27 @@ unfolding refuseIf
 returns-3 c =
     let call = c .before .before in
     let at = call .before .before .before .before .before .before in
-    rw (at .a .given .1, le-leb (capacity (at .a .given .0 .0)) (count (at .a .given .0 .0) (tables (at .before .before .before))) (full-count call), held call, c .enum-told2 .given .1)
+    rw (
+      at .a .given .1,
+      le-leb (capacity (at .a .given .0 .0)) (count (at .a .given .0 .0) (tables (at .before .before .before))) (full-count call),
+      held call,
+      c .enum-told2 .given .1,
+    )
 
 returns-4 : tie.Need-returns-4
 unfolding refuseIf
 returns-4 c =
     let call = c .before .before in
     let at = call .before .before .before .before .before .before in
-    rw (at .a .given .1, le-leb (capacity (at .a .given .0 .0)) (count (at .a .given .0 .0) (tables (at .before .before .before))) (full-count call), held call, c .enum-told .given .1)
+    rw (
+      at .a .given .1,
+      le-leb (capacity (at .a .given .0 .0)) (count (at .a .given .0 .0) (tables (at .before .before .before))) (full-count call),
+      held call,
+      c .enum-told .given .1,
+    )
 
 pub check-full-spec : {M : Type 1} → statement M
-check-full-spec =
-    tie.close
-    (tie.spec
+check-full-spec = tie.close (tie.spec
     (λ c. search needs) returns
     (λ c κs. search needs) (λ c κs. search needs) returns-2
     (λ c κs. search needs) (λ c κs. search needs) (λ c. search needs) (λ c. search needs) returns-3

@@ -16,7 +16,8 @@ returns-2 : tie.Need-returns-2
 returns-2 c =
     let taken = c .before in
     let told = taken .before .before in
-    rw (told .enum-told .given .1) (rw (taken .both-taken .ensures, taken .before .body-of .ensures, told .before .before .before .before .pre .row) at (c .refuse-if .ensures))
+    rw (told .enum-told .given .1)
+    (rw (taken .both-taken .ensures, taken .before .body-of .ensures, told .before .before .before .before .pre .row) at (c .refuse-if .ensures))
 
 pub check-roles-spec : {M : Type 1} → statement M
 check-roles-spec = tie.close (tie.spec (λ c. search needs) returns (λ c κs. search needs) (λ c κs. search needs) (λ c κs. search needs) returns-2)

@@ -27,9 +27,7 @@ returns-2 c =
     rw told ((rw told at (c .place2 .ensures)) ∙ by-number _ _ _ _ (omega arith) (c .before .part2 .ensures) (made .ace-row .ensures))
 
 pub numbered-place-spec : {M : Type 1} → statement M
-numbered-place-spec =
-    tie.close
-    (tie.spec
+numbered-place-spec = tie.close (tie.spec
     (λ c. search needs) (λ c κs. search needs) (λ c. search needs) (λ c κs. search needs) (λ c κs. search needs)
     (λ c. search needs) (λ c κs. search needs) (λ c. search needs) (λ c κs. search needs) (λ c κs. search needs) returns
     returns-2)

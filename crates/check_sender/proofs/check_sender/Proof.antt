@@ -28,8 +28,6 @@ returns-2 c =
     skip-all (headerChecks (now (start h .args .«record»))) _ (h .check-header .ensures) (p .enum-told .given .1) (last _ _ (c .check-credential .ensures))
 
 pub check-sender-spec : {M : Type 1} → statement M
-check-sender-spec =
-    tie.close
-    (tie.spec
+check-sender-spec = tie.close (tie.spec
     (λ c κs. search needs) (λ c. search needs) (λ c κs. search needs) check-header-requires (λ c. search needs) (λ c. search needs) returns
     (λ c κs. search needs) check-credential-requires returns-2)

@@ -11,8 +11,6 @@ returns-2 : tie.Need-returns-2
 returns-2 c = skip _ _ _ (c .before .before .before .check-state .ensures) (c .before .enum-told .given .1) (last _ _ (c .check-target .ensures))
 
 pub check-states-spec : {M : Type 1} → statement M
-check-states-spec =
-    tie.close
-    (tie.spec
+check-states-spec = tie.close (tie.spec
     (λ c κs. search needs) (λ c. search needs) (λ c. search needs) returns
     (λ c κs. search needs) returns-2)

@@ -6,9 +6,7 @@ use Rattle.check_state.proofs.move_listed.Tie as tie
 
 pub move-listed-spec : {M : Type 1} → statement M
 unfolding moveListed
-move-listed-spec =
-    tie.close
-    (tie.spec
+move-listed-spec = tie.close (tie.spec
     (λ c. simp (c .before .match .keys1, c .match2 .keys1))
     (λ c. simp (c .before .match .keys1, c .match2 .keys2))
     (λ c. simp (c .before .match .keys1, ne-eqb _ 0 (c .match2 .rest .0 .1), ne-eqb _ 2 (c .match2 .rest .1)))
@@ -23,4 +21,5 @@ move-listed-spec =
     (λ c. simp (c .before .match .keys4, c .match5 .keys1))
     (λ c. simp (c .before .match .keys4, c .match5 .keys2))
     (λ c. simp (c .before .match .keys4, ne-eqb _ 0 (c .match5 .rest .0 .1), ne-eqb _ 2 (c .match5 .rest .1)))
-    (λ c. simp (ne-eqb _ 1 (c .match .rest .0 .0 .0 .1), ne-eqb _ 2 (c .match .rest .0 .0 .1), ne-eqb _ 3 (c .match .rest .0 .1), ne-eqb _ 4 (c .match .rest .1))))
+    (λ c. simp
+    (ne-eqb _ 1 (c .match .rest .0 .0 .0 .1), ne-eqb _ 2 (c .match .rest .0 .0 .1), ne-eqb _ 3 (c .match .rest .0 .1), ne-eqb _ 4 (c .match .rest .1))))

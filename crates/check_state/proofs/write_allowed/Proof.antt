@@ -19,8 +19,4 @@ unfolding writeAllowed
 returns-2 c = search needs
 
 pub write-allowed-spec : {M : Type 1} → statement M
-write-allowed-spec =
-    tie.close
-    (tie.spec
-    returns
-    (λ c. search needs) (λ c. search needs) (λ c. search needs) returns-2)
+write-allowed-spec = tie.close (tie.spec returns (λ c. search needs) (λ c. search needs) (λ c. search needs) returns-2)

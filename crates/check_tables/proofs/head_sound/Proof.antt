@@ -10,7 +10,4 @@ unfolding headSound
 returns c = rw (not-word, c .is-nil .ensures)
 
 pub head-sound-spec : {M : Type 1} → statement M
-head-sound-spec =
-    tie.close
-    (tie.spec
-    (λ c κs. search needs) (λ c. search needs) returns)
+head-sound-spec = tie.close (tie.spec (λ c κs. search needs) (λ c. search needs) returns)

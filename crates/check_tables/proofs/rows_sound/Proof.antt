@@ -30,12 +30,17 @@ unfolding rowsSound
 returns-2 c =
     let at = c .before .before .before in
     let a = at .before .before .before .before .args in
-    rw (le-leb (a .count) (capacity (a .table)) (few at), rows-counted (a .table) (a .count) (now (a .bytes)) (few at), c .distinct .ensures, c .before .rows-storable .ensures, c .before .before .all-zero .ensures, c .before .before .before .stride-of .ensures)
+    rw (
+      le-leb (a .count) (capacity (a .table)) (few at),
+      rows-counted (a .table) (a .count) (now (a .bytes)) (few at),
+      c .distinct .ensures,
+      c .before .rows-storable .ensures,
+      c .before .before .all-zero .ensures,
+      c .before .before .before .stride-of .ensures,
+    )
 
 pub rows-sound-spec : {M : Type 1} → statement M
-rows-sound-spec =
-    tie.close
-    (tie.spec
+rows-sound-spec = tie.close (tie.spec
     (λ c κs. search needs) returns
     (λ c κs. search needs) mul-end
     (λ c κs. search needs) (λ c κs. search needs) distinct-requires

@@ -20,7 +20,8 @@ abbrev μ-loop : tie.MeasureT-loop
 at-stride : (c : tie.After-stride-of Inv-loop μ-loop) (r : Bool) → let a = c .before .before .args in
     r ≡ every (storable (a .table)) (rowsOf (c .stride-of .result) (a .count) (now (a .rows)))
     → r ≡ every (storable (a .table)) (rowsOf (stride (a .table)) (a .count) (now (a .rows)))
-at-stride c r e = let a = c .before .before .args in e ∙ ap (λ (s : ℕ). every (storable (a .table)) (rowsOf s (a .count) (now (a .rows)))) (c .stride-of .ensures)
+at-stride c r e =
+    let a = c .before .before .args in e ∙ ap (λ (s : ℕ). every (storable (a .table)) (rowsOf s (a .count) (now (a .rows)))) (c .stride-of .ensures)
 
 -- fewer bytes than a row has are no row
 cut-short : (k : Table) (s : ℕ) (rest : List ℕ) → s ≡ stride k → length rest < s → storable k (take s rest) ≡ false
@@ -32,12 +33,14 @@ returns : tie.Need-returns Inv-loop μ-loop
 returns c =
     let turn = c .before in
     let told = turn .before .before in
-    at-stride told _ (every-fails _ _ _ _ _ _ (turn .before .loop .inv) (turn .loop-test .taken) (cut-short (told .before .before .args .table) _ _ (told .stride-of .ensures) (c .if1 .taken)))
+    at-stride told _ (every-fails _ _ _ _ _ _ (turn .before .loop .inv) (turn .loop-test .taken)
+    (cut-short (told .before .before .args .table) _ _ (told .stride-of .ensures) (c .if1 .taken)))
 
 returns-2 : tie.Need-returns-2 Inv-loop μ-loop
 returns-2 c =
     let turn = c .before .before .before .before in
-    at-stride (turn .before .before) _ (every-fails _ _ _ _ _ _ (turn .before .loop .inv) (turn .loop-test .taken) (sym (c .before .row-storable .ensures) ∙ not-true _ (c .if2 .taken)))
+    at-stride (turn .before .before) _
+    (every-fails _ _ _ _ _ _ (turn .before .loop .inv) (turn .loop-test .taken) (sym (c .before .row-storable .ensures) ∙ not-true _ (c .if2 .taken)))
 
 loop-again : tie.Need-loop-again Inv-loop μ-loop
 loop-again c =
@@ -49,9 +52,7 @@ returns-3 : tie.Need-returns-3 Inv-loop μ-loop
 returns-3 c = at-stride (c .before .before) _ (every-end _ _ _ _ _ _ (c .before .loop .inv) (c .loop-test .left))
 
 pub rows-storable-spec : {M : Type 1} → statement M
-rows-storable-spec =
-    tie.close
-    (tie.spec
+rows-storable-spec = tie.close (tie.spec
     Inv-loop
     μ-loop
     (λ c κs. search needs) (λ c. refl) returns

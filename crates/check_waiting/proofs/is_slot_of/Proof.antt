@@ -40,12 +40,11 @@ returns c =
     let k = c .before .before .before .before .before .before .before in
     let s = k .before .before in
     rw (c .all-zero .ensures)
-    (tested-slot (now (s .args .slot)) (now (s .args .«record»)) (s .pre .0) (s .pre .1) (s .pre .3) (k .shared-slice-known2 .given 2 .fits) (k .shared-slice-known2 .given 3 .fits))
+    (tested-slot (now (s .args .slot)) (now (s .args .«record»)) (s .pre .0) (s .pre .1)
+    (s .pre .3) (k .shared-slice-known2 .given 2 .fits) (k .shared-slice-known2 .given 3 .fits))
 
 pub is-slot-of-spec : {M : Type 1} → statement M
-is-slot-of-spec =
-    tie.close
-    (tie.spec
+is-slot-of-spec = tie.close (tie.spec
     shared-slice-read-number
     shared-slice-read-number-2
     shared-slice-read-number-3

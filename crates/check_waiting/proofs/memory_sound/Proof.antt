@@ -42,12 +42,11 @@ returns-2 : tie.Need-returns-2
 returns-2 c =
     let test = c .before .before .before .before .before in
     let s = test .before .before .before in
-    tested _ (now (s .args .memory)) (search needs) (test .if1 .left) _ _ _ _ (c .before .before .before .round-sound .ensures) (c .before .before .all-zero .ensures) (c .before .slots-sound .ensures) (c .distinct .ensures)
+    tested _ (now (s .args .memory)) (search needs) (test .if1 .left) _ _ _ _ (c .before .before .before .round-sound .ensures)
+    (c .before .before .all-zero .ensures) (c .before .slots-sound .ensures) (c .distinct .ensures)
 
 pub memory-sound-spec : {M : Type 1} → statement M
-memory-sound-spec =
-    tie.close
-    (tie.spec
+memory-sound-spec = tie.close (tie.spec
     shared-slice-read-count
     cast-count
     returns

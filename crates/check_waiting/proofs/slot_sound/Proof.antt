@@ -26,12 +26,13 @@ is-slot-of-requires c κs =
     (call .before .before .before .pre, f .0, f .1, f .2)
 
 returns-2 : tie.Need-returns-2
-returns-2 c = let told = c .before in let call = told .before .before in kept-is _ _ _ (call .before .record-in .ensures) _ (call .check-sender .ensures) (told .enum-told .given .1) _ (c .is-slot-of .ensures)
+returns-2 c =
+    let told = c .before in
+    let call = told .before .before in
+    kept-is _ _ _ (call .before .record-in .ensures) _ (call .check-sender .ensures) (told .enum-told .given .1) _ (c .is-slot-of .ensures)
 
 pub slot-sound-spec : {M : Type 1} → statement M
-slot-sound-spec =
-    tie.close
-    (tie.spec
+slot-sound-spec = tie.close (tie.spec
     record-in-requires
     check-sender-requires
     enum-told

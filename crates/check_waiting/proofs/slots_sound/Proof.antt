@@ -18,15 +18,21 @@ loop-holds c = (refl, c .before .pre)
 
 -- src/lib.rt:63:27
 slice-aggregate-slot-sound : tie.Need-slice-aggregate-slot-sound Inv-loop μ-loop
-slice-aggregate-slot-sound c = let turn = c .before in sym (length-take-le 260 (turn .before .loop .rest .now) (a-row 260 _ (turn .before .loop .rest .now) (turn .loop-test .taken) (turn .before .loop .inv .1)))
+slice-aggregate-slot-sound c =
+    let turn = c .before in
+    sym (length-take-le 260 (turn .before .loop .rest .now) (a-row 260 _ (turn .before .loop .rest .now) (turn .loop-test .taken) (turn .before .loop .inv .1)))
 
 -- src/lib.rt:63:13
 slot-sound-requires : tie.Need-slot-sound-requires Inv-loop μ-loop
-slot-sound-requires c κs = let turn = c .before in length-take-le 260 (turn .before .loop .rest .now) (a-row 260 _ (turn .before .loop .rest .now) (turn .loop-test .taken) (turn .before .loop .inv .1))
+slot-sound-requires c κs =
+    let turn = c .before in
+    length-take-le 260 (turn .before .loop .rest .now) (a-row 260 _ (turn .before .loop .rest .now) (turn .loop-test .taken) (turn .before .loop .inv .1))
 
 -- src/lib.rt:64:13
 returns : tie.Need-returns Inv-loop μ-loop
-returns c = let turn = c .before .before .before in every-fails _ _ _ _ _ _ (turn .before .loop .inv .0) (turn .loop-test .taken) (sym (c .before .slot-sound .ensures) ∙ not-true _ (c .if1 .taken))
+returns c =
+    let turn = c .before .before .before in
+    every-fails _ _ _ _ _ _ (turn .before .loop .inv .0) (turn .loop-test .taken) (sym (c .before .slot-sound .ensures) ∙ not-true _ (c .if1 .taken))
 
 -- src/lib.rt:66:16
 sub-rest : tie.Need-sub-rest Inv-loop μ-loop
@@ -50,16 +56,19 @@ loop-less c = search needs
 
 -- src/lib.rt:62:5
 loop-again : tie.Need-loop-again Inv-loop μ-loop
-loop-again c = let test = c .before in let turn = test .before .before .before in (every-turn _ _ _ _ _ _ (turn .before .loop .inv .0) (turn .loop-test .taken) (sym (test .before .slot-sound .ensures) ∙ not-false _ (test .if1 .left)), next-room 260 _ (turn .before .loop .rest .now) (turn .loop-test .taken) (turn .before .loop .inv .1))
+loop-again c =
+    let test = c .before in
+    let turn = test .before .before .before in (
+      every-turn _ _ _ _ _ _ (turn .before .loop .inv .0) (turn .loop-test .taken) (sym (test .before .slot-sound .ensures) ∙ not-false _ (test .if1 .left)),
+      next-room 260 _ (turn .before .loop .rest .now) (turn .loop-test .taken) (turn .before .loop .inv .1),
+    )
 
 -- src/lib.rt:56:1
 returns-2 : tie.Need-returns-2 Inv-loop μ-loop
 returns-2 c = every-end _ _ _ _ _ _ (c .before .loop .inv .0) (c .loop-test .left)
 
 pub slots-sound-spec : {M : Type 1} → statement M
-slots-sound-spec =
-    tie.close
-    (tie.spec
+slots-sound-spec = tie.close (tie.spec
     Inv-loop
     μ-loop
     loop-holds

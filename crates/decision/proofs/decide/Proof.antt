@@ -32,18 +32,21 @@ returns c =
     let told = c .before in
     let head = told .before .before in
     let s = start head in
-    turned (tables s) (request s) _ _ _ _ (stop-all (headerChecks (now (s .args .«record»))) _ _ (head .check-header .ensures) (told .enum-told2 .given .1)) (told .enum-told2 .given .1) (c .turned-away .ensures)
+    turned (tables s) (request s) _ _ _ _ (stop-all (headerChecks (now (s .args .«record»))) _ _ (head .check-header .ensures) (told .enum-told2 .given .1))
+    (told .enum-told2 .given .1) (c .turned-away .ensures)
 
 -- back from check 7 to the header
 abbrev headed : tie.After-check-credential → tie.After-enum-told
 headed c = c .before .before
 
 -- 2 to 7
-sender-checked : (c : tie.After-check-credential) → let s = start (headed c .before .before) in c .check-credential .result ≡ verdict (senderChecks (tables s) (now (s .args .«record»)))
+sender-checked : (c : tie.After-check-credential)
+    → let s = start (headed c .before .before) in c .check-credential .result ≡ verdict (senderChecks (tables s) (now (s .args .«record»)))
 sender-checked c =
     let p = headed c in
     let head = p .before .before in
-    skip-all (headerChecks (now (start head .args .«record»))) _ (head .check-header .ensures) (p .enum-told .given .1) (last _ _ (c .check-credential .ensures))
+    skip-all (headerChecks (now (start head .args .«record»))) _ (head .check-header .ensures)
+    (p .enum-told .given .1) (last _ _ (c .check-credential .ensures))
 
 check-credential-requires : tie.Need-check-credential-requires
 check-credential-requires c κs = c .own-row .ensures
@@ -54,7 +57,9 @@ returns-2 c =
     let told = c .before in
     let call = told .before .before in
     let s = start (headed call .before .before) in
-    turned (tables s) (request s) _ _ _ _ (stop-all (senderChecks (tables s) (now (s .args .«record»))) (grantChecks (tables s) (request s)) _ (sender-checked call) (told .enum-told4 .given .1)) (told .enum-told4 .given .1) (c .turned-away2 .ensures)
+    turned (tables s) (request s) _ _ _ _ (stop-all (senderChecks (tables s) (now (s .args .«record»)))
+    (grantChecks (tables s) (request s)) _ (sender-checked call) (told .enum-told4 .given .1))
+    (told .enum-told4 .given .1) (c .turned-away2 .ensures)
 
 grant-requires : tie.Need-grant-requires
 grant-requires c κs =
@@ -74,9 +79,8 @@ returns-3 c =
     c .grant .ensures ∙ rest-decides (tables s) (request s) _ (sender-checked call) (p .enum-told3 .given .1)
 
 pub decide-spec : {M : Type 1} → statement M
-decide-spec =
-    tie.close
-    (tie.spec
-    (λ c κs. search needs) (λ c. search needs) (λ c κs. search needs) check-header-requires (λ c. search needs) (λ c. search needs) (λ c κs. search needs) returns
+decide-spec = tie.close (tie.spec
+    (λ c κs. search needs) (λ c. search needs) (λ c κs. search needs) check-header-requires
+    (λ c. search needs) (λ c. search needs) (λ c κs. search needs) returns
     (λ c κs. search needs) check-credential-requires (λ c. search needs) (λ c. search needs) (λ c κs. search needs) returns-2
     grant-requires returns-3)

@@ -48,7 +48,8 @@ returns c =
     let told = c .before in
     let call = told .before .before in
     let s = start call in
-    turned (tables s) (request s) _ _ _ _ (stop-all (first-checks s) (roomChecks (tables s) (request s)) _ (asked-for call) (told .enum-told2 .given .1)) (told .enum-told2 .given .1) (c .turned-away .ensures)
+    turned (tables s) (request s) _ _ _ _ (stop-all (first-checks s) (roomChecks (tables s) (request s)) _ (asked-for call) (told .enum-told2 .given .1))
+    (told .enum-told2 .given .1) (c .turned-away .ensures)
 
 -- back from the check of the room
 abbrev before-room : tie.After-check-room → tie.After-check-asked
@@ -75,12 +76,11 @@ returns-3 c =
     let room = c .before .before in
     let call = before-room room in
     let s = start call in
-    let-through (tables s) (request s) _ _ _ _ (c .enum-told3 .given .1) (whole room) (called call .effective .ensures) (call .before .action-of .ensures) (room .before .reply-length .ensures)
+    let-through (tables s) (request s) _ _ _ _ (c .enum-told3 .given .1) (whole room)
+    (called call .effective .ensures) (call .before .action-of .ensures) (room .before .reply-length .ensures)
 
 pub grant-spec : {M : Type 1} → statement M
-grant-spec =
-    tie.close
-    (tie.spec
+grant-spec = tie.close (tie.spec
     (λ c κs. search needs) (λ c κs. search needs) (λ c κs. search needs) (λ c. search needs) (λ c. search needs) (λ c κs. search needs) returns
     (λ c κs. search needs) (λ c κs. search needs) (λ c. search needs) (λ c. search needs) (λ c κs. search needs) returns-2
     returns-3)

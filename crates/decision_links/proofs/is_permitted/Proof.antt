@@ -44,8 +44,6 @@ returns-2 : tie.Need-returns-2
 returns-2 c = answered (c .before .before) _ (c .enum-told .given .1)
 
 pub is-permitted-spec : {M : Type 1} → statement M
-is-permitted-spec =
-    tie.close
-    (tie.spec
+is-permitted-spec = tie.close (tie.spec
     (λ c κs. search needs) (λ c. search needs) (λ c κs. search needs) grant-requires (λ c. search needs) (λ c. search needs) returns
     returns-2)

@@ -14,18 +14,22 @@ is-permitted-requires c κs =
 returns : tie.Need-returns
 returns c =
     let call = c .before in
-    let made = call .before .before in
-    (rw (← made .own-record .ensures) (ap (λ (b : Bool). cond b (made .before .before .before .args .bit) 0) (sym (c .if1 .taken) ∙ call .is-permitted .ensures)), omega arith)
+    let made = call .before .before in (
+      rw (← made .own-record .ensures)
+          (ap (λ (b : Bool). cond b (made .before .before .before .args .bit) 0) (sym (c .if1 .taken) ∙ call .is-permitted .ensures)),
+      omega arith,
+    )
 
 returns-2 : tie.Need-returns-2
 returns-2 c =
     let call = c .before in
-    let made = call .before .before in
-    (rw (← made .own-record .ensures) (ap (λ (b : Bool). cond b (made .before .before .before .args .bit) 0) (sym (c .if1 .left) ∙ call .is-permitted .ensures)), omega arith)
+    let made = call .before .before in (
+      rw (← made .own-record .ensures)
+          (ap (λ (b : Bool). cond b (made .before .before .before .args .bit) 0) (sym (c .if1 .left) ∙ call .is-permitted .ensures)),
+      omega arith,
+    )
 
 pub link-bit-spec : {M : Type 1} → statement M
-link-bit-spec =
-    tie.close
-    (tie.spec
+link-bit-spec = tie.close (tie.spec
     (λ c κs. c .before .before .pre .0) (λ c. search needs) is-permitted-requires returns
     returns-2)

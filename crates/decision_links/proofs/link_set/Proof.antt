@@ -38,15 +38,4 @@ returns : tie.Need-returns Inv-loop μ-loop
 returns c = at-last _ _ _ _ (c .before .loop .inv) (c .loop-test .left)
 
 pub link-set-spec : {M : Type 1} → statement M
-link-set-spec =
-    tie.close
-    (tie.spec
-    Inv-loop
-    μ-loop
-    loop-holds
-    link-bit-requires
-    add-set
-    add-n
-    loop-less
-    loop-again
-    returns)
+link-set-spec = tie.close (tie.spec Inv-loop μ-loop loop-holds link-bit-requires add-set add-n loop-less loop-again returns)

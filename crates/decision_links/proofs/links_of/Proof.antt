@@ -21,8 +21,6 @@ returns-2 c =
     rw (sym (test .before .asks-links .ensures) ∙ not-false _ (test .if1 .left), ← c .link-set .ensures)
 
 pub links-of-spec : {M : Type 1} → statement M
-links-of-spec =
-    tie.close
-    (tie.spec
+links-of-spec = tie.close (tie.spec
     (λ c κs. search needs) (λ c κs. search needs) returns
     (λ c κs. search needs) link-set-requires returns-2)

@@ -20,9 +20,7 @@ unfolding ownRecord word
 returns c = rw (c .connection-of .ensures, c .before .verb-of .ensures, c .before .before .credential-of .ensures)
 
 pub own-record-spec : {M : Type 1} → statement M
-own-record-spec =
-    tie.close
-    (tie.spec
+own-record-spec = tie.close (tie.spec
     (λ c κs. search needs) (λ c κs. search needs)
     (λ c. omega (arith, small-verb c)) (λ c. omega (arith, small-verb c)) (λ c κs. search needs)
     (λ c. omega (arith, small-connection c)) (λ c. omega (arith, small-connection c))

@@ -29,12 +29,12 @@ returns-2 c =
     let serves = told .enum-told .given .1 in
     let same = sym (served (tables s) (request s) (s .args .d) (s .pre .0 .1) (s .pre .0 .2) (s .pre .0 .0) (lists s) serves) in (
       call .execute .ensures,
-      s .pre .1 .1 ∙ same-memory (tables s) (request s) (s .args .d) (s .pre .0 .1) (s .pre .0 .2) (s .pre .0 .0) (lists s) _ (sym (ap isReset serves)) (tables s) same _ _ refl refl,
+      s .pre .1 .1
+          ∙ same-memory (tables s) (request s) (s .args .d) (s .pre .0 .1) (s .pre .0 .2)
+          (s .pre .0 .0) (lists s) _ (sym (ap isReset serves)) (tables s) same _ _ refl refl,
     )
 
 pub carry-out-spec : {M : Type 1} → statement M
-carry-out-spec =
-    tie.close
-    (tie.spec
+carry-out-spec = tie.close (tie.spec
     (λ c. search needs) (λ c κs. search needs) (λ c. search needs) (λ c. search needs)
     (λ c κs. search needs) (λ c. search needs) returns-2)

@@ -49,7 +49,9 @@ returns c =
     let call = ran reset in
     let s = start call in (
       call .execute .ensures,
-      c .clear .ensures ∙ cleared-memory (tables s) (request s) (s .args .d) (s .pre .0 .1) (s .pre .0 .2) (s .pre .0 .0) (lists s) _ (reset .is-reset .ensures) (left call) (left-is call) _ _ (test .if1 .taken),
+      c .clear .ensures
+          ∙ cleared-memory (tables s) (request s) (s .args .d) (s .pre .0 .1) (s .pre .0 .2) (s .pre .0 .0)
+          (lists s) _ (reset .is-reset .ensures) (left call) (left-is call) _ _ (test .if1 .taken),
     )
 
 returns-2 : tie.Need-returns-2
@@ -58,7 +60,9 @@ returns-2 c =
     let call = ran reset in
     let s = start call in (
       call .execute .ensures,
-      s .pre .1 .1 ∙ same-memory (tables s) (request s) (s .args .d) (s .pre .0 .1) (s .pre .0 .2) (s .pre .0 .0) (lists s) _ (reset .is-reset .ensures) (left call) (left-is call) _ _ (c .before .before .before .before .if1 .left) (c .if2 .taken),
+      s .pre .1 .1
+          ∙ same-memory (tables s) (request s) (s .args .d) (s .pre .0 .1) (s .pre .0 .2) (s .pre .0 .0) (lists s) _
+          (reset .is-reset .ensures) (left call) (left-is call) _ _ (c .before .before .before .before .if1 .left) (c .if2 .taken),
     )
 
 settle-requires : tie.Need-settle-requires
@@ -73,14 +77,14 @@ returns-3 c =
     let s = start call in (
       call .execute .ensures,
       c .settle .ensures
-          ∙ ap (λ (k : Round). memoryOf (heldRound (seats (left call)) k) (without (gone (seats (left call))) (waiting (now (s .args .memory))))) (sym (held-of call .round-held .ensures))
-          ∙ moved-memory (tables s) (request s) (s .args .d) (s .pre .0 .1) (s .pre .0 .2) (s .pre .0 .0) (lists s) _ (reset .is-reset .ensures) (left call) (left-is call) _ _ (count .before .before .before .before .if1 .left) (count .if2 .left),
+          ∙ ap (λ (k : Round). memoryOf (heldRound (seats (left call)) k) (without (gone (seats (left call))) (waiting (now (s .args .memory)))))
+          (sym (held-of call .round-held .ensures))
+          ∙ moved-memory (tables s) (request s) (s .args .d) (s .pre .0 .1) (s .pre .0 .2) (s .pre .0 .0) (lists s) _
+          (reset .is-reset .ensures) (left call) (left-is call) _ _ (count .before .before .before .before .if1 .left) (count .if2 .left),
     )
 
 pub change-spec : {M : Type 1} → statement M
-change-spec =
-    tie.close
-    (tie.spec
+change-spec = tie.close (tie.spec
     (λ c κs. search needs) (λ c κs. search needs) (λ c κs. search needs) (λ c κs. search needs) (λ c. search needs) returns
     (λ c. search needs) returns-2
     settle-requires

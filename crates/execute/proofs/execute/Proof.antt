@@ -55,14 +55,13 @@ returns c =
     let put = wrote (placed linked) in
     let s = start put in
     record {
-      says = says (tables s) (request s) (s .args .d) (s .pre .1) (s .pre .2) (s .pre .0) (lists s) _ _ _ (placed linked .places-of .ensures) (linked .links-of .ensures) (c .apply .ensures);
+      says = says (tables s) (request s) (s .args .d) (s .pre .1) (s .pre .2) (s .pre .0) (lists s) _
+          _ _ (placed linked .places-of .ensures) (linked .links-of .ensures) (c .apply .ensures);
       fills = fills (tables s) (request s) (s .args .d) (s .pre .1) (s .pre .2) (s .pre .0) (lists s) _ _ _ refl (put .put-reply .ensures);
     }
 
 pub execute-spec : {M : Type 1} → statement M
-execute-spec =
-    tie.close
-    (tie.spec
+execute-spec = tie.close (tie.spec
     put-reply-requires (λ c κs. search needs) links-of-requires
     apply-requires
     same-length

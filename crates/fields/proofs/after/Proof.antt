@@ -14,8 +14,6 @@ returns-2 : tie.Need-returns-2
 returns-2 c = let a = c .before .before .args in take-rest (a .n) (now (a .s))
 
 pub after-spec : {M : Type 1} → statement M
-after-spec =
-    tie.close
-    (tie.spec
+after-spec = tie.close (tie.spec
     (λ c. search needs) returns
     (λ c. search needs) (λ c. search needs) (λ c. search needs) returns-2)

@@ -32,12 +32,11 @@ returns-2 c =
     let s = call .before in
     let h = not-false _ (not-applied _ _ (call .check-terminal .ensures) (told .enum-told .given .1)) in
     skip _ _ _ (call .check-terminal .ensures) (told .enum-told .given .1)
-    (last _ _ (c .refuse-if .ensures ∙ ap (λ (k : ℕ). refuseIf 27 (eqb k 0)) (sym (count-is (tablesOf (s .args .h) (now (s .args .creds)) (now (s .args .aces))) (now (s .args .memory)) h))))
+    (last _ _ (c .refuse-if .ensures
+    ∙ ap (λ (k : ℕ). refuseIf 27 (eqb k 0)) (sym (count-is (tablesOf (s .args .h) (now (s .args .creds)) (now (s .args .aces))) (now (s .args .memory)) h))))
 
 pub check-take-spec : {M : Type 1} → statement M
-check-take-spec =
-    tie.close
-    (tie.spec
+check-take-spec = tie.close (tie.spec
     check-terminal-requires
     enum-told
     enum-told-2

@@ -56,7 +56,8 @@ request c =
     let call = told .before .before in
     let s = start call in
     let x = terminal-of told in
-    handed (lists s) (x .tables) (x .memory) (s .args .clock) (room s) _ (call .check-take .ensures) (told .enum-told .given .1) _ (due .due-record .ensures) _ (part-of c .part .ensures)
+    handed (lists s) (x .tables) (x .memory) (s .args .clock) (room s) _ (call .check-take .ensures)
+    (told .enum-told .given .1) _ (due .due-record .ensures) _ (part-of c .part .ensures)
 
 leaves : (c : tie.After-decide) → let due = due-of c in IsQueue (terminal-of (found due) .memory) × (length (due .due-record .result .seat) ≡ 2)
 leaves c =
@@ -79,7 +80,8 @@ left-turn c =
     let x = terminal-of told in
     ap roundOf (left-is c) ∙ left-round (x .tables) (x .memory) (can-take told .0) (can-take told .1)
 
-left-slots : (c : tie.After-leave) → let x = terminal-of (found (due-of (decided-of c))) in waiting (c .leave .last .0) ≡ without (hasKey 0 (turn x)) (waiting (x .memory))
+left-slots : (c : tie.After-leave)
+    → let x = terminal-of (found (due-of (decided-of c))) in waiting (c .leave .last .0) ≡ without (hasKey 0 (turn x)) (waiting (x .memory))
 left-slots c =
     let told = found (due-of (decided-of c)) in
     let x = terminal-of told in
@@ -90,7 +92,8 @@ returns c =
     let told = c .before in
     let call = told .before .before in
     let s = start call in
-    nothing-taken (lists s) (s .args .h) (now (s .args .creds)) (now (s .args .aces)) (now (s .args .memory)) (s .args .clock) (room s) _ (call .check-take .ensures) _ (told .enum-told2 .given .1) _ (c .refused .ensures) _ refl _
+    nothing-taken (lists s) (s .args .h) (now (s .args .creds)) (now (s .args .aces)) (now (s .args .memory))
+    (s .args .clock) (room s) _ (call .check-take .ensures) _ (told .enum-told2 .given .1) _ (c .refused .ensures) _ refl _
 
 due-record-requires : tie.Need-due-record-requires
 due-record-requires c κs = can-take (c .before .before .before .before)
@@ -113,8 +116,10 @@ returns-2 c =
     let x = terminal-of told in
     let q = request made in
     let r = no .enum-told4 .given .1 in
-    one-taken (lists s) (x .tables) (x .memory) (s .args .clock) (room s) _ (call .check-take .ensures) (told .enum-told .given .1) _ (due .due-record .ensures) _ (part-of made .part .ensures) _ _ _ _
-    (turned-said (lists s) (s .args .h) (now (s .args .creds)) (now (s .args .aces)) q (is-sound told) _ (made .decide .ensures) _ r _ (c .before .refused2 .ensures))
+    one-taken (lists s) (x .tables) (x .memory) (s .args .clock) (room s) _ (call .check-take .ensures)
+    (told .enum-told .given .1) _ (due .due-record .ensures) _ (part-of made .part .ensures) _ _ _ _
+    (turned-said (lists s) (s .args .h) (now (s .args .creds)) (now (s .args .aces))
+    q (is-sound told) _ (made .decide .ensures) _ r _ (c .before .refused2 .ensures))
     (turned-buffer (lists s) (x .tables) q (is-sound told) _ (made .decide .ensures) _ r _)
     (left-is left ∙ turned-memory (lists s) (x .tables) q (is-sound told) _ (made .decide .ensures) _ r _ _)
 
@@ -142,14 +147,14 @@ returns-3 c =
     let call = told .before .before in
     let s = start call in
     let x = terminal-of told in
-    one-taken (lists s) (x .tables) (x .memory) (s .args .clock) (room s) _ (call .check-take .ensures) (told .enum-told .given .1) _ (due .due-record .ensures) _ (part-of made .part .ensures) _ _ _ _
+    one-taken (lists s) (x .tables) (x .memory) (s .args .clock) (room s) _ (call .check-take .ensures)
+    (told .enum-told .given .1) _ (due .due-record .ensures) _ (part-of made .part .ensures) _ _ _ _
     (done .carry-out .ensures .0 .says) (done .carry-out .ensures .0 .fills)
-    (done .carry-out .ensures .1 ∙ ap₂ (λ (k : Round) (ws : List Row). memoryAfter (lists s) (x .tables) (request made) k ws) (left-turn left) (left-slots left))
+    (done .carry-out .ensures .1
+    ∙ ap₂ (λ (k : Round) (ws : List Row). memoryAfter (lists s) (x .tables) (request made) k ws) (left-turn left) (left-slots left))
 
 pub take-spec : {M : Type 1} → statement M
-take-spec =
-    tie.close
-    (tie.spec
+take-spec = tie.close (tie.spec
     (λ c κs. search needs) (λ c. search needs) (λ c. search needs) (λ c κs. search needs) returns
     due-record-requires (λ c κs. search needs)
     (λ c κs. search needs) slice-aggregate-leave leave-requires (λ c. search needs) (λ c. search needs) (λ c κs. search needs) returns-2

@@ -43,13 +43,12 @@ returns-4 c =
     let told = count .before in
     let s = told .before .before .before in
     let good = sym (told .is-bad-file .ensures) ∙ test .if1 .left in
-    let e = all-put (now (s .args .file)) (now (s .args .rows)) good _ (count .count-made .ensures) (few .if2 .left) _ (fits .if3 .left) (put .put-all .ensures) in
+    let e = all-put (now (s .args .file)) (now (s .args .rows)) good _ (count .count-made .ensures)
+    (few .if2 .left) _ (fits .if3 .left) (put .put-all .ensures) in
     (e .says, (e .size, e .buffer))
 
 pub convert-spec : {M : Type 1} → statement M
-convert-spec =
-    tie.close
-    (tie.spec
+convert-spec = tie.close (tie.spec
     (λ c κs. search needs) (λ c κs. search needs) returns
     returns-2
     (λ c. search needs) returns-3

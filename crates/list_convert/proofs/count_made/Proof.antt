@@ -48,9 +48,7 @@ returns c =
     omega (arith, l .inv .1, many-end (l .left) (l .rest .now) (c .loop-test .left), rows-count file)
 
 pub count-made-spec : {M : Type 1} → statement M
-count-made-spec =
-    tie.close
-    (tie.spec
+count-made-spec = tie.close (tie.spec
     Inv-loop
     μ-loop
     loop-holds

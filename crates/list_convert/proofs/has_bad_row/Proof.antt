@@ -44,9 +44,7 @@ unfolding oldRows
 returns-2 c = some-end _ _ _ _ _ _ (c .before .loop .inv .1) (c .loop-test .left)
 
 pub has-bad-row-spec : {M : Type 1} → statement M
-has-bad-row-spec =
-    tie.close
-    (tie.spec
+has-bad-row-spec = tie.close (tie.spec
     Inv-loop
     μ-loop
     loop-holds

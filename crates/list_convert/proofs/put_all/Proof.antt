@@ -55,9 +55,7 @@ returns : tie.Need-returns Inv-loop μ-loop
 returns c = writing-end (c .before .loop .inv .1 .1) (bytes-end (c .before .loop .number) (c .before .loop .left) _ (c .loop-test .left))
 
 pub put-all-spec : {M : Type 1} → statement M
-put-all-spec =
-    tie.close
-    (tie.spec
+put-all-spec = tie.close (tie.spec
     Inv-loop
     μ-loop
     loop-holds

@@ -10,7 +10,5 @@ unfolding has
 returns c = refl
 
 pub alters-spec : {M : Type 1} → statement M
-alters-spec =
-    tie.close
-    (tie.spec
+alters-spec = tie.close (tie.spec
     (λ c. search needs) (λ c. search needs) (λ c. search needs) (λ c. search needs) (λ c. search needs) (λ c. search needs) returns)

@@ -17,8 +17,6 @@ returns-2 c =
     (skip _ _ _ (first .before .before .refuse-if .ensures) (first .enum-told .given .1) (last _ _ (c .refuse-if2 .ensures)))
 
 pub check-row-spec : {M : Type 1} → statement M
-check-row-spec =
-    tie.close
-    (tie.spec
+check-row-spec = tie.close (tie.spec
     (λ c κs. search needs) (λ c κs. search needs) (λ c κs. search needs) (λ c. search needs) (λ c. search needs) returns
     (λ c κs. search needs) returns-2)

@@ -41,9 +41,7 @@ returns-2 : tie.Need-returns-2 Inv-loop μ-loop
 returns-2 c = row-end _ _ _ _ (c .before .loop .inv) (c .loop-test .left)
 
 pub test-rows-spec : {M : Type 1} → statement M
-test-rows-spec =
-    tie.close
-    (tie.spec
+test-rows-spec = tie.close (tie.spec
     Inv-loop
     μ-loop
     before-repeat-requires

@@ -25,11 +25,4 @@ unfolding dashed
 returns-5 c = let none = c .match .rest in simp (ne-eqb _ 4 (none .0 .0 .0 .1), ne-eqb _ 6 (none .0 .0 .1), ne-eqb _ 8 (none .0 .1), ne-eqb _ 10 (none .1))
 
 pub is-dashed-spec : {M : Type 1} → statement M
-is-dashed-spec =
-    tie.close
-    (tie.spec
-    returns
-    returns-2
-    returns-3
-    returns-4
-    returns-5)
+is-dashed-spec = tie.close (tie.spec returns returns-2 returns-3 returns-4 returns-5)

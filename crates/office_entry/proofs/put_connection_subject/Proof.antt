@@ -20,8 +20,6 @@ returns-2 c =
     rw (ne-eqb _ 1 (λ e. test .if1 .left (test .before .connection .ensures ∙ e))) (put .put2 .ensures)
 
 pub put-connection-subject-spec : {M : Type 1} → statement M
-put-connection-subject-spec =
-    tie.close
-    (tie.spec
+put-connection-subject-spec = tie.close (tie.spec
     (λ c κs. search needs) (λ c. search needs) (λ c κs. search needs) (λ c. search needs) returns
     (λ c. search needs) (λ c κs. search needs) (λ c. search needs) returns-2)

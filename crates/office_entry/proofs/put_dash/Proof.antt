@@ -21,8 +21,6 @@ returns-2 c =
     rw (sym (test .before .is-dashed .ensures) ∙ test .if1 .left) (put .put2 .ensures)
 
 pub put-dash-spec : {M : Type 1} → statement M
-put-dash-spec =
-    tie.close
-    (tie.spec
+put-dash-spec = tie.close (tie.spec
     (λ c κs. search needs) (λ c. search needs) (λ c κs. search needs) (λ c. search needs) returns
     (λ c. search needs) (λ c κs. search needs) (λ c. search needs) returns-2)

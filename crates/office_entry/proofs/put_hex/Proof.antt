@@ -12,10 +12,9 @@ returns c =
     let low = c .before .before in
     let high = low .before .before .before .before .before in
     let dash = high .before .before .before .before .before in
-    rw (← high .before .hex-digit .ensures, ← low .before .hex-digit2 .ensures) (puts-then (omega arith) (dash .put-dash .ensures) (puts-then (omega arith) (high .put-byte .ensures) (low .put-byte2 .ensures)))
+    rw (← high .before .hex-digit .ensures, ← low .before .hex-digit2 .ensures)
+    (puts-then (omega arith) (dash .put-dash .ensures) (puts-then (omega arith) (high .put-byte .ensures) (low .put-byte2 .ensures)))
 
 pub put-hex-spec : {M : Type 1} → statement M
-put-hex-spec =
-    tie.close
-    (tie.spec
+put-hex-spec = tie.close (tie.spec
     (λ c κs. search needs) (λ c κs. search needs) (λ c κs. search needs) (λ c κs. search needs) (λ c κs. search needs) (λ c. search needs) returns)

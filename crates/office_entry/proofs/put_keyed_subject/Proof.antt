@@ -11,7 +11,5 @@ unfolding ascii
 returns c = let put = c .before .before in puts-then (omega arith) (put .before .before .before .before .put .ensures) (put .put-subject .ensures)
 
 pub put-keyed-subject-spec : {M : Type 1} → statement M
-put-keyed-subject-spec =
-    tie.close
-    (tie.spec
+put-keyed-subject-spec = tie.close (tie.spec
     (λ c. search needs) (λ c κs. search needs) (λ c κs. search needs) (λ c. search needs) returns)

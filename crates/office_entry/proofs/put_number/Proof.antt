@@ -9,7 +9,4 @@ returns : tie.Need-returns
 returns c = let put = c .before .before in puts-then (omega arith) (put .before .before .before .before .put .ensures) (put .put-decimal .ensures)
 
 pub put-number-spec : {M : Type 1} → statement M
-put-number-spec =
-    tie.close
-    (tie.spec
-    (λ c κs. search needs) (λ c κs. search needs) (λ c. search needs) returns)
+put-number-spec = tie.close (tie.spec (λ c κs. search needs) (λ c κs. search needs) (λ c. search needs) returns)

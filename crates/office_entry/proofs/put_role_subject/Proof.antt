@@ -21,7 +21,6 @@ returns c =
     (puts-then h (puts-then h (authority .put-number .ensures) (role .put-number2 .ensures)) (end .put .ensures))
 
 pub put-role-subject-spec : {M : Type 1} → statement M
-put-role-subject-spec =
-    tie.close
-    (tie.spec
-    (λ c. search needs) (λ c κs. search needs) (λ c κs. search needs) (λ c. search needs) (λ c κs. search needs) (λ c κs. search needs) (λ c. search needs) (λ c κs. search needs) (λ c. search needs) returns)
+put-role-subject-spec = tie.close (tie.spec
+    (λ c. search needs) (λ c κs. search needs) (λ c κs. search needs) (λ c. search needs) (λ c κs. search needs)
+    (λ c κs. search needs) (λ c. search needs) (λ c κs. search needs) (λ c. search needs) returns)

@@ -20,10 +20,12 @@ returns c =
     let number = subject .before .before .before .before in
     let h = bound (number .before .before .before .before .before) in
     row-puts _ _ _ (number .before .word .ensures) (permission .before .permission .ensures)
-    (puts-then h (puts-then h (puts-then h (puts-then h (number .put-number .ensures) (subject .put-keyed-subject .ensures)) (resources .put-keyed-resources .ensures)) (permission .put-number2 .ensures)) (end .put .ensures))
+    (puts-then h
+    (puts-then h (puts-then h (puts-then h (number .put-number .ensures) (subject .put-keyed-subject .ensures)) (resources .put-keyed-resources .ensures))
+    (permission .put-number2 .ensures))
+    (end .put .ensures))
 
 pub put-row-spec : {M : Type 1} → statement M
-put-row-spec =
-    tie.close
-    (tie.spec
-    (λ c. search needs) (λ c κs. search needs) (λ c κs. search needs) (λ c κs. search needs) (λ c κs. search needs) (λ c. search needs) (λ c κs. search needs) (λ c κs. search needs) (λ c. search needs) (λ c κs. search needs) (λ c. search needs) returns)
+put-row-spec = tie.close (tie.spec
+    (λ c. search needs) (λ c κs. search needs) (λ c κs. search needs) (λ c κs. search needs) (λ c κs. search needs) (λ c. search needs)
+    (λ c κs. search needs) (λ c κs. search needs) (λ c. search needs) (λ c κs. search needs) (λ c. search needs) returns)

@@ -35,10 +35,9 @@ returns-4 c =
     rw (ne-eqb _ 0 (λ e. none .0 .0 .1 (is ∙ e)), ne-eqb _ 1 (λ e. none .0 .1 (is ∙ e)), ne-eqb _ 2 (λ e. none .1 (is ∙ e))) (put .put .ensures)
 
 pub put-subject-spec : {M : Type 1} → statement M
-put-subject-spec =
-    tie.close
-    (tie.spec
-    (λ c κs. search needs) (λ c κs. search needs) (λ c κs. search needs) (λ c κs. search needs) (λ c. search needs) (λ c κs. search needs) (λ c. search needs) returns
+put-subject-spec = tie.close (tie.spec
+    (λ c κs. search needs) (λ c κs. search needs) (λ c κs. search needs) (λ c κs. search needs)
+    (λ c. search needs) (λ c κs. search needs) (λ c. search needs) returns
     (λ c. search needs) returns-2
     (λ c. search needs) returns-3
     (λ c. search needs) returns-4)

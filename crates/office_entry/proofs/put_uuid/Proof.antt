@@ -27,8 +27,11 @@ loop-less c = omega arith
 loop-again : tie.Need-loop-again Inv-loop μ-loop
 loop-again c =
     let l = c .before .before .before .before .before .before .loop in
-    let u = now (c .before .before .before .before .before .before .before .before .before .args .u) in
-    (omega arith, rw (add-one (l .i)) (writing-step (hexByte (l .i) (getD u (l .i) 0)) _ (l .inv .1) (ap (uuidFrom (l .i)) (drop-cons u (l .i) 0 (omega arith))) (c .before .before .put-hex .ensures)))
+    let u = now (c .before .before .before .before .before .before .before .before .before .args .u) in (
+      omega arith,
+      rw (add-one (l .i)) (writing-step (hexByte (l .i) (getD u (l .i) 0)) _ (l .inv .1)
+          (ap (uuidFrom (l .i)) (drop-cons u (l .i) 0 (omega arith))) (c .before .before .put-hex .ensures)),
+    )
 
 same-length : tie.Need-same-length Inv-loop μ-loop
 same-length c = writing-length (c .before .loop .inv .1)
@@ -39,9 +42,7 @@ returns c =
     (ap (uuidFrom (c .before .loop .i)) (drop-of-length-le (now (c .before .before .before .before .args .u)) {i = c .before .loop .i} (omega arith)))
 
 pub put-uuid-spec : {M : Type 1} → statement M
-put-uuid-spec =
-    tie.close
-    (tie.spec
+put-uuid-spec = tie.close (tie.spec
     Inv-loop
     μ-loop
     loop-holds

@@ -16,7 +16,6 @@ returns c =
     rw (← uuid .before .subject .ensures) (puts-three (omega arith) (key .put .ensures) (uuid .put-uuid .ensures) (end .put2 .ensures))
 
 pub put-uuid-subject-spec : {M : Type 1} → statement M
-put-uuid-subject-spec =
-    tie.close
-    (tie.spec
-    (λ c. search needs) (λ c κs. search needs) (λ c κs. search needs) (λ c κs. search needs) (λ c. search needs) (λ c κs. search needs) (λ c. search needs) returns)
+put-uuid-subject-spec = tie.close (tie.spec
+    (λ c. search needs) (λ c κs. search needs) (λ c κs. search needs) (λ c κs. search needs)
+    (λ c. search needs) (λ c κs. search needs) (λ c. search needs) returns)

@@ -17,7 +17,8 @@ start c = head-of c .before .before
 told-sound : (c : tie.After-terminal-sound) → c .terminal-sound .result ≡ soundTerminal (terminal (start c .args .t1) (now (start c .args .memory)))
 told-sound c =
     let t = start c .args .t1 in
-    c .terminal-sound .ensures ∙ ap (λ (h : Head). soundTerminal (terminal (tablesOf h (t .creds) (t .aces)) (now (start c .args .memory)))) (head-of c .head .ensures)
+    c .terminal-sound .ensures
+    ∙ ap (λ (h : Head). soundTerminal (terminal (tablesOf h (t .creds) (t .aces)) (now (start c .args .memory)))) (head-of c .head .ensures)
 
 returns : tie.Need-returns
 returns c =
@@ -32,7 +33,8 @@ returns-2 c =
     let test = measured .before .before in
     let told = test .before in
     let s = start told in
-    let e = too-short (terminal (s .args .t1) (now (s .args .memory))) (now (s .args .out)) _ (sym (told-sound told) ∙ not-false _ (test .if1 .left)) (measured .put-list .ensures .next) (c .if2 .taken) in
+    let e = too-short (terminal (s .args .t1) (now (s .args .memory))) (now (s .args .out)) _
+    (sym (told-sound told) ∙ not-false _ (test .if1 .left)) (measured .put-list .ensures .next) (c .if2 .taken) in
     (e .says, (e .size, e .buffer))
 
 returns-3 : tie.Need-returns-3
@@ -43,13 +45,12 @@ returns-3 c =
     let test = measured .before .before in
     let told = test .before in
     let s = start told in
-    let e = all-written (terminal (s .args .t1) (now (s .args .memory))) (now (s .args .out)) _ _ (sym (told-sound told) ∙ not-false _ (test .if1 .left)) (measured .put-list .ensures .next) (fits .if2 .left) (put .put-list2 .ensures) in
+    let e = all-written (terminal (s .args .t1) (now (s .args .memory))) (now (s .args .out)) _ _
+    (sym (told-sound told) ∙ not-false _ (test .if1 .left)) (measured .put-list .ensures .next) (fits .if2 .left) (put .put-list2 .ensures) in
     (e .says, (e .size, e .buffer))
 
 pub access-list-spec : {M : Type 1} → statement M
-access-list-spec =
-    tie.close
-    (tie.spec
+access-list-spec = tie.close (tie.spec
     (λ c κs. search needs) (λ c κs. search needs) returns
     (λ c. search needs) (λ c κs. search needs) returns-2
     (λ c κs. search needs) (λ c. search needs) returns-3)

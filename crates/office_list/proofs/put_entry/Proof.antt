@@ -18,8 +18,6 @@ returns-2 c =
     rw (sym (test .before .is-seasonal .ensures) ∙ test .if1 .left) (puts-then (omega arith) (comma .put-comma .ensures) (put .put-row .ensures))
 
 pub put-entry-spec : {M : Type 1} → statement M
-put-entry-spec =
-    tie.close
-    (tie.spec
+put-entry-spec = tie.close (tie.spec
     (λ c κs. search needs) (λ c. search needs) (λ c κs. search needs) (λ c. search needs) returns
     (λ c κs. search needs) (λ c κs. search needs) (λ c. search needs) returns-2)

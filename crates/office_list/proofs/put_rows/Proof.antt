@@ -8,7 +8,8 @@ use Rattle.office_list.proofs.put_rows.Statement.{statement}
 use Rattle.office_list.proofs.put_rows.Tie as tie
 
 abbrev Inv-loop : tie.InvT-loop
-Inv-loop out₀ at rows count p₀ first₀ rest₀ left₀ out p first rest left = (left * 36 ≤ length rest) × Writing out₀ at (entries true count rows) (entries first left rest) out p
+Inv-loop out₀ at rows count p₀ first₀ rest₀ left₀ out p first rest left =
+    (left * 36 ≤ length rest) × Writing out₀ at (entries true count rows) (entries first left rest) out p
 
 abbrev μ-loop : tie.MeasureT-loop
 μ-loop out₀ at rows count p₀ first₀ rest₀ left₀ out p first rest left = left
@@ -35,7 +36,8 @@ loop-again c =
     let l = turn .before .loop in
     let e = row .part .ensures in (
       simp (take-rest, length-drop) (omega (arith, l .inv .0, turn .loop-test .taken)),
-      rw (told .is-seasonal .ensures, e) (writing-step _ _ (l .inv .1) (entries-take (l .first) (l .left) (l .rest .now) (turn .loop-test .taken)) (rw e at (put .put-entry .ensures))),
+      rw (told .is-seasonal .ensures, e)
+          (writing-step _ _ (l .inv .1) (entries-take (l .first) (l .left) (l .rest .now) (turn .loop-test .taken)) (rw e at (put .put-entry .ensures))),
     )
 
 same-length : tie.Need-same-length Inv-loop μ-loop
@@ -46,9 +48,7 @@ unfolding rowsText
 returns c = writing-end (c .before .loop .inv .1) (entries-end (c .before .loop .first) (c .before .loop .left) _ (c .loop-test .left))
 
 pub put-rows-spec : {M : Type 1} → statement M
-put-rows-spec =
-    tie.close
-    (tie.spec
+put-rows-spec = tie.close (tie.spec
     Inv-loop
     μ-loop
     loop-holds

@@ -43,13 +43,23 @@ unfolding ascii
 returns-9 c =
     let put = c .before .before in
     let r = put .before .before .before .match .rest in
-    rw (ne-eqb _ 8 (r .0 .0 .0 .0 .0 .0 .0 .1), ne-eqb _ 9 (r .0 .0 .0 .0 .0 .0 .1), ne-eqb _ 10 (r .0 .0 .0 .0 .0 .1), ne-eqb _ 11 (r .0 .0 .0 .0 .1), ne-eqb _ 12 (r .0 .0 .0 .1), ne-eqb _ 13 (r .0 .0 .1), ne-eqb _ 14 (r .0 .1), ne-eqb _ 16 (r .1)) (put .put9 .ensures)
+    rw (
+      ne-eqb _ 8 (r .0 .0 .0 .0 .0 .0 .0 .1),
+      ne-eqb _ 9 (r .0 .0 .0 .0 .0 .0 .1),
+      ne-eqb _ 10 (r .0 .0 .0 .0 .0 .1),
+      ne-eqb _ 11 (r .0 .0 .0 .0 .1),
+      ne-eqb _ 12 (r .0 .0 .0 .1),
+      ne-eqb _ 13 (r .0 .0 .1),
+      ne-eqb _ 14 (r .0 .1),
+      ne-eqb _ 16 (r .1),
+    ) (put .put9 .ensures)
 
 pub put-application-spec : {M : Type 1} → statement M
-put-application-spec =
-    tie.close
-    (tie.spec
-    (λ c. search needs) (λ c κs. search needs) (λ c. search needs) (λ c κs. search needs) (λ c. search needs) (λ c κs. search needs) (λ c. search needs) (λ c κs. search needs) (λ c. search needs) (λ c κs. search needs) (λ c. search needs) (λ c κs. search needs) (λ c. search needs) (λ c κs. search needs) (λ c. search needs) (λ c κs. search needs) (λ c. search needs) (λ c κs. search needs) (λ c. search needs) returns
+put-application-spec = tie.close (tie.spec
+    (λ c. search needs) (λ c κs. search needs) (λ c. search needs) (λ c κs. search needs) (λ c. search needs)
+    (λ c κs. search needs) (λ c. search needs) (λ c κs. search needs) (λ c. search needs) (λ c κs. search needs)
+    (λ c. search needs) (λ c κs. search needs) (λ c. search needs) (λ c κs. search needs) (λ c. search needs)
+    (λ c κs. search needs) (λ c. search needs) (λ c κs. search needs) (λ c. search needs) returns
     (λ c. search needs) returns-2
     (λ c. search needs) returns-3
     (λ c. search needs) returns-4

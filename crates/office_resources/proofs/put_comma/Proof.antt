@@ -14,8 +14,6 @@ unfolding comma ascii
 returns-2 c = let put = c .before .before in rw (put .before .before .before .if1 .left) (put .put2 .ensures)
 
 pub put-comma-spec : {M : Type 1} → statement M
-put-comma-spec =
-    tie.close
-    (tie.spec
+put-comma-spec = tie.close (tie.spec
     (λ c. search needs) (λ c κs. search needs) (λ c. search needs) returns
     (λ c. search needs) (λ c κs. search needs) (λ c. search needs) returns-2)

@@ -28,11 +28,11 @@ returns-2 c =
     let test = comma .before .before in
     let s = test .before .before in
     rw (not-false (s .args .named) (test .if1 .left), around (ascii (lookup (s .args .n) names "")))
-    (puts-then (omega arith) (comma .put-comma .ensures) (puts-then (omega arith) (start .put2 .ensures) (puts-then (omega arith) (name .put-name .ensures) (end .put3 .ensures))))
+    (puts-then (omega arith) (comma .put-comma .ensures)
+    (puts-then (omega arith) (start .put2 .ensures) (puts-then (omega arith) (name .put-name .ensures) (end .put3 .ensures))))
 
 pub put-item-spec : {M : Type 1} → statement M
-put-item-spec =
-    tie.close
-    (tie.spec
+put-item-spec = tie.close (tie.spec
     (λ c. search needs) (λ c κs. search needs) (λ c. search needs) returns
-    (λ c κs. search needs) (λ c. search needs) (λ c κs. search needs) (λ c κs. search needs) (λ c. search needs) (λ c κs. search needs) (λ c. search needs) returns-2)
+    (λ c κs. search needs) (λ c. search needs) (λ c κs. search needs) (λ c κs. search needs)
+    (λ c. search needs) (λ c κs. search needs) (λ c. search needs) returns-2)

@@ -22,8 +22,11 @@ loop-again c =
     let loop = set .before .before in
     let w = now (loop .before .before .before .args .row) in
     let k = loop .loop .k in
-    let h : k < count = omega arith in
-    (omega arith, rw (add-one k) (items-put w (loop .loop .first) k (omega arith) (set .in-set .ensures ∙ in-number w k h) (loop .loop .inv .1) (item .put-item .ensures) (href-number k h)))
+    let h : k < count = omega arith in (
+      omega arith,
+      rw (add-one k) (items-put w (loop .loop .first) k (omega arith) (set .in-set .ensures ∙ in-number w k h)
+          (loop .loop .inv .1) (item .put-item .ensures) (href-number k h)),
+    )
 
 same-length : tie.Need-same-length Inv-loop μ-loop
 same-length c = let put = c .before .before in puts-length (put .put-wildcards .ensures) ∙ writing-length (put .before .before .before .loop .inv .1)
@@ -37,9 +40,7 @@ returns c =
     writing-end (writing-step _ _ (l .loop .inv .1) e (put .put-wildcards .ensures)) refl
 
 pub put-resources-spec : {M : Type 1} → statement M
-put-resources-spec =
-    tie.close
-    (tie.spec
+put-resources-spec = tie.close (tie.spec
     Inv-loop
     μ-loop
     loop-holds

@@ -18,8 +18,6 @@ returns-2 c =
     rw (not-false (test .before .before .before .args .named) (test .if1 .left)) (puts-then (omega arith) (comma .put-comma .ensures) (put .put2 .ensures))
 
 pub put-wildcard-spec : {M : Type 1} → statement M
-put-wildcard-spec =
-    tie.close
-    (tie.spec
+put-wildcard-spec = tie.close (tie.spec
     (λ c. search needs) (λ c κs. search needs) (λ c. search needs) returns
     (λ c κs. search needs) (λ c κs. search needs) (λ c. search needs) returns-2)

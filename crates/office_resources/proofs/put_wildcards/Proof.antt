@@ -24,7 +24,6 @@ returns c =
     writing-end (items-put w _ (count + 2) (omega arith) (star .star .ensures) w₂ (third .put-wildcard3 .ensures) refl) refl
 
 pub put-wildcards-spec : {M : Type 1} → statement M
-put-wildcards-spec =
-    tie.close
-    (tie.spec
-    (λ c κs. search needs) (λ c κs. search needs) (λ c κs. search needs) (λ c. search needs) (λ c κs. search needs) (λ c. search needs) (λ c κs. search needs) (λ c. search needs) (λ c κs. search needs) (λ c. search needs) returns)
+put-wildcards-spec = tie.close (tie.spec
+    (λ c κs. search needs) (λ c κs. search needs) (λ c κs. search needs) (λ c. search needs) (λ c κs. search needs)
+    (λ c. search needs) (λ c κs. search needs) (λ c. search needs) (λ c κs. search needs) (λ c. search needs) returns)

@@ -33,9 +33,7 @@ returns-3 c =
     rw (eq-eqb (s .args .answer) 0 (call .before .before .if1 .left), sym (security call) ∙ test .if2 .left) (c .after .ensures)
 
 pub payload-spec : {M : Type 1} → statement M
-payload-spec =
-    tie.close
-    (tie.spec
+payload-spec = tie.close (tie.spec
     (λ c. search needs) returns
     (λ c κs. search needs) (λ c. search needs) (λ c κs. search needs) (λ c. search needs) returns-2
     (λ c κs. search needs) returns-3)

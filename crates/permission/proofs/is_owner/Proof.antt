@@ -10,7 +10,5 @@ unfolding isOwner rowOwner
 returns c = rw (c .row-names2 .ensures, c .before .part .ensures, c .before .before .before .before .before .row-names .ensures)
 
 pub is-owner-spec : {M : Type 1} → statement M
-is-owner-spec =
-    tie.close
-    (tie.spec
+is-owner-spec = tie.close (tie.spec
     (λ c κs. search needs) (λ c. search needs) (λ c κs. search needs) (λ c κs. search needs) returns)

@@ -10,7 +10,5 @@ unfolding names isNil nil
 returns c = rw (c .same-bytes2 .ensures, c .before .subject .ensures, c .before .before .same-bytes .ensures)
 
 pub row-names-spec : {M : Type 1} → statement M
-row-names-spec =
-    tie.close
-    (tie.spec
+row-names-spec = tie.close (tie.spec
     (λ c. search needs) (λ c κs. search needs) (λ c κs. search needs) (λ c κs. search needs) returns)

@@ -12,7 +12,5 @@ returns c =
     rw (c .in-force .ensures, authority .authority2 .ensures, authority .before .authority .ensures, role .role2 .ensures, role .before .role .ensures)
 
 pub place-fits-spec : {M : Type 1} → statement M
-place-fits-spec =
-    tie.close
-    (tie.spec
+place-fits-spec = tie.close (tie.spec
     (λ c κs. search needs) (λ c κs. search needs) (λ c κs. search needs) (λ c κs. search needs) (λ c κs. search needs) returns)

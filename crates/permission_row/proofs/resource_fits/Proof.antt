@@ -9,10 +9,14 @@ unfolding resourceFits
 returns c =
     let bits = c .before in
     let row = bits .before .before .before .before .before .before .before .before in
-    rw (bits .minus .ensures, bits .before .before .plus .ensures, bits .before .before .before .star .ensures, bits .before .before .before .before .in-set .ensures, ← row .before .pre)
+    rw (
+      bits .minus .ensures,
+      bits .before .before .plus .ensures,
+      bits .before .before .before .star .ensures,
+      bits .before .before .before .before .in-set .ensures,
+      ← row .before .pre,
+    )
 
 pub resource-fits-spec : {M : Type 1} → statement M
-resource-fits-spec =
-    tie.close
-    (tie.spec
+resource-fits-spec = tie.close (tie.spec
     (λ c κs. search needs) (λ c κs. search needs) (λ c κs. search needs) (λ c κs. search needs) returns)

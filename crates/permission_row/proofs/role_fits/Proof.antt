@@ -24,8 +24,6 @@ returns c =
     )
 
 pub role-fits-spec : {M : Type 1} → statement M
-role-fits-spec =
-    tie.close
-    (tie.spec
+role-fits-spec = tie.close (tie.spec
     (λ c κs. search needs) (λ c κs. search needs) (λ c κs. search needs) (λ c κs. search needs)
     (λ c κs. search needs) (λ c κs. search needs) (λ c κs. search needs) (λ c κs. search needs) returns)

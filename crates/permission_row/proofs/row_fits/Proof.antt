@@ -26,7 +26,5 @@ returns-3 c =
     )
 
 pub row-fits-spec : {M : Type 1} → statement M
-row-fits-spec =
-    tie.close
-    (tie.spec
+row-fits-spec = tie.close (tie.spec
     (λ c κs. search needs) returns (λ c κs. search needs) returns-2 (λ c κs. search needs) returns-3)

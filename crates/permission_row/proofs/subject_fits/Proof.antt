@@ -28,9 +28,7 @@ returns-4 c =
     rw (ne-eqb kind 0 (λ e. none .0 .0 .1 (is ∙ e)), ne-eqb kind 1 (λ e. none .0 .1 (is ∙ e)), ne-eqb kind 2 (λ e. none .1 (is ∙ e)))
 
 pub subject-fits-spec : {M : Type 1} → statement M
-subject-fits-spec =
-    tie.close
-    (tie.spec
+subject-fits-spec = tie.close (tie.spec
     (λ c κs. search needs) (λ c κs. search needs) (λ c κs. search needs) (λ c κs. search needs) (λ c κs. search needs) (λ c κs. search needs) returns
     returns-2
     returns-3

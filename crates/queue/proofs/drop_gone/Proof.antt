@@ -17,13 +17,21 @@ loop-holds : tie.Need-loop-holds Inv-loop μ-loop
 loop-holds c = begin _ _ _ _ (c .before .pre)
 
 mul-a : tie.Need-mul-a Inv-loop μ-loop
-mul-a c = let turn = c in omega (arith, row-within 260 _ _ _ ((turn .before .loop .inv) .table .fits) (turn .loop-test .taken), turn .before .before .before .good)
+mul-a c =
+    let turn = c in omega (arith, row-within 260 _ _ _ ((turn .before .loop .inv) .table .fits) (turn .loop-test .taken), turn .before .before .before .good)
 
 part-requires : tie.Need-part-requires Inv-loop μ-loop
 part-requires c κs = search needs
 
 seat-held-requires : tie.Need-seat-held-requires Inv-loop μ-loop
-seat-held-requires c κs = let turn = c .before .before in ap length (c .part .ensures) ∙ length-take-le 2 (drop ((turn .before .loop .i) * 260) (turn .before .loop .slots)) (omega (arith, row-within 260 _ _ _ ((turn .before .loop .inv) .table .fits) (turn .loop-test .taken), length-drop ((turn .before .loop .i) * 260) (turn .before .loop .slots)))
+seat-held-requires c κs =
+    let turn = c .before .before in
+    ap length (c .part .ensures)
+    ∙ length-take-le 2 (drop ((turn .before .loop .i) * 260) (turn .before .loop .slots)) (omega (
+      arith,
+      row-within 260 _ _ _ ((turn .before .loop .inv) .table .fits) (turn .loop-test .taken),
+      length-drop ((turn .before .loop .i) * 260) (turn .before .loop .slots),
+    ))
 
 add-i : tie.Need-add-i Inv-loop μ-loop
 add-i c = search needs
@@ -32,10 +40,15 @@ loop-less : tie.Need-loop-less Inv-loop μ-loop
 loop-less c = search needs
 
 loop-again : tie.Need-loop-again Inv-loop μ-loop
-loop-again c = let turn = c .before .before .before .before in stay _ _ _ _ (turn .before .loop .slots) _ (turn .before .loop .i) (turn .before .loop .inv) (turn .loop-test .taken) (seat-gone _ (turn .before .loop .i) (turn .before .loop .slots) _ (c .before .before .part .ensures) _ (c .before .seat-held .ensures) ∙ ap not (c .if1 .taken))
+loop-again c =
+    let turn = c .before .before .before .before in
+    stay _ _ _ _ (turn .before .loop .slots) _ (turn .before .loop .i) (turn .before .loop .inv) (turn .loop-test .taken)
+    (seat-gone _ (turn .before .loop .i) (turn .before .loop .slots) _ (c .before .before .part .ensures) _ (c .before .seat-held .ensures)
+    ∙ ap not (c .if1 .taken))
 
 remove-row-requires : tie.Need-remove-row-requires Inv-loop μ-loop
-remove-row-requires c κs = let turn = c .before .before .before .before .before in row-within 260 _ _ _ ((turn .before .loop .inv) .table .fits) (turn .loop-test .taken)
+remove-row-requires c κs =
+    let turn = c .before .before .before .before .before in row-within 260 _ _ _ ((turn .before .loop .inv) .table .fits) (turn .loop-test .taken)
 
 sub-n : tie.Need-sub-n Inv-loop μ-loop
 sub-n c = search needs
@@ -44,7 +57,14 @@ loop-less-2 : tie.Need-loop-less-2 Inv-loop μ-loop
 loop-less-2 c = search needs
 
 loop-again-2 : tie.Need-loop-again-2 Inv-loop μ-loop
-loop-again-2 c = let call = c .before .before in let test = call .before .before in let turn = test .before .before .before .before in went _ _ _ _ (turn .before .loop .slots) _ (turn .before .loop .i) (turn .before .loop .inv) (turn .loop-test .taken) _ (call .remove-row .ensures) (call .remove-row .kept .0) (seat-gone _ (turn .before .loop .i) (turn .before .loop .slots) _ (test .before .before .part .ensures) _ (test .before .seat-held .ensures) ∙ ap not (test .if1 .left))
+loop-again-2 c =
+    let call = c .before .before in
+    let test = call .before .before in
+    let turn = test .before .before .before .before in
+    went _ _ _ _ (turn .before .loop .slots) _ (turn .before .loop .i) (turn .before .loop .inv) (turn .loop-test .taken)
+    _ (call .remove-row .ensures) (call .remove-row .kept .0)
+    (seat-gone _ (turn .before .loop .i) (turn .before .loop .slots) _ (test .before .before .part .ensures) _ (test .before .seat-held .ensures)
+    ∙ ap not (test .if1 .left))
 
 same-length : tie.Need-same-length Inv-loop μ-loop
 same-length c = c .before .loop .inv .long
@@ -53,9 +73,7 @@ returns : tie.Need-returns Inv-loop μ-loop
 returns c = end _ _ _ _ _ _ _ (c .before .loop .inv) (c .loop-test .left)
 
 pub drop-gone-spec : {M : Type 1} → statement M
-drop-gone-spec =
-    tie.close
-    (tie.spec
+drop-gone-spec = tie.close (tie.spec
     Inv-loop
     μ-loop
     loop-holds

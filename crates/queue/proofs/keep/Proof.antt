@@ -29,14 +29,20 @@ slice-aggregate-store c = search needs
 store-requires : tie.Need-store-requires
 store-requires c κs =
     let s = c .before .before .before .before .before .before in
-    let made = c .before .before .slot-of .ensures in
-    (slots-table (now (s .args .memory)) (s .pre .0), (ap length made ∙ slot-long _ (s .pre .3), room (now (s .args .memory)) (now (s .args .«record»)) _ (s .pre .0) (s .pre .1) made))
+    let made = c .before .before .slot-of .ensures in (
+      slots-table (now (s .args .memory)) (s .pre .0),
+      (ap length made ∙ slot-long _ (s .pre .3), room (now (s .args .memory)) (now (s .args .«record»)) _ (s .pre .0) (s .pre .1) made),
+    )
 
 cast-memory : tie.Need-cast-memory
 cast-memory c =
     let call = c .before .before in
     let s = call .before .before .before .before .before .before .before in
-    omega (arith, call .store .ensures .0, rows-few (now (s .args .memory)) (now (s .args .«record»)) _ (s .pre .0) (s .pre .1) (call .before .before .before .slot-of .ensures))
+    omega (
+      arith,
+      call .store .ensures .0,
+      rows-few (now (s .args .memory)) (now (s .args .«record»)) _ (s .pre .0) (s .pre .1) (call .before .before .before .slot-of .ensures),
+    )
 
 slice-write-memory : tie.Need-slice-write-memory
 slice-write-memory c = search needs
@@ -48,12 +54,11 @@ returns : tie.Need-returns
 returns c =
     let call = c .before .before in
     let s = call .before .before .before .before .before .before .before in
-    kept-is (now (s .args .memory)) (now (s .args .«record»)) _ (s .pre .0) (s .pre .1) (call .before .before .before .slot-of .ensures) _ _ (call .store .ensures .0) (call .store .ensures .1)
+    kept-is (now (s .args .memory)) (now (s .args .«record»)) _ (s .pre .0) (s .pre .1)
+    (call .before .before .before .slot-of .ensures) _ _ (call .store .ensures .0) (call .store .ensures .1)
 
 pub keep-spec : {M : Type 1} → statement M
-keep-spec =
-    tie.close
-    (tie.spec
+keep-spec = tie.close (tie.spec
     slice-read-count
     cast-count
     slot-of-requires

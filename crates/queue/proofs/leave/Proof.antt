@@ -47,13 +47,12 @@ returns c =
     let s = call .before .before .before .before .before in
     let m = now (s .args .memory) in
     let p = now (s .args .seat) in
-    changed m (s .pre .0) (after p) (without (hasKey 0 p) (rowsOf 260 (getD m 0 0) (slotsOf m))) _ _ _ _ (call .take-out .ensures .0) (call .take-out .ensures .1) (round-bytes p (s .pre .1)) (head .put-head .ensures)
+    changed m (s .pre .0) (after p) (without (hasKey 0 p) (rowsOf 260 (getD m 0 0) (slotsOf m))) _ _ _ _
+    (call .take-out .ensures .0) (call .take-out .ensures .1) (round-bytes p (s .pre .1)) (head .put-head .ensures)
     ∙ ap (λ (ws : List Row). memoryOf (after p) (without (hasKey 0 p) ws)) (slots-rows m (s .pre .0))
 
 pub leave-spec : {M : Type 1} → statement M
-leave-spec =
-    tie.close
-    (tie.spec
+leave-spec = tie.close (tie.spec
     slice-read-count
     cast-count
     sub-take-out

@@ -35,9 +35,7 @@ returns : tie.Need-returns
 returns c = head-set (now (c .args .memory)) (c .args .count) (c .args .t3) (c .pre .0) (search needs)
 
 pub put-head-spec : {M : Type 1} → statement M
-put-head-spec =
-    tie.close
-    (tie.spec
+put-head-spec = tie.close (tie.spec
     cast-memory
     slice-write-memory
     array-read-memory

@@ -12,7 +12,5 @@ returns c =
     c .part .ensures ∙ ap (λ (n : ℕ). take n (drop 4 s)) (c .before .word .ensures ∙ ap (λ (l : List ℕ). bits l 0 16) (c .before .before .after .ensures))
 
 pub record-in-spec : {M : Type 1} → statement M
-record-in-spec =
-    tie.close
-    (tie.spec
+record-in-spec = tie.close (tie.spec
     (λ c κs. search needs) (λ c κs. search needs) (λ c. search needs) (λ c κs. search needs) returns)

@@ -17,7 +17,8 @@ returns-2 c =
     let call = c .before in
     let one = call .before in
     let s = one .before .before in
-    not-now (now (s .args .memory)) (s .pre) (seats s) (s .args .was-held) (call .round-held .result) (call .round-held .ensures) (not-false _ (one .if1 .left)) (not-true _ (c .if2 .taken))
+    not-now (now (s .args .memory)) (s .pre) (seats s) (s .args .was-held) (call .round-held .result)
+    (call .round-held .ensures) (not-false _ (one .if1 .left)) (not-true _ (c .if2 .taken))
 
 returns-3 : tie.Need-returns-3
 returns-3 c =
@@ -25,7 +26,8 @@ returns-3 c =
     let call = two .before in
     let one = call .before in
     let s = one .before .before in
-    stays (now (s .args .memory)) (s .pre) (seats s) (s .args .was-held) (call .round-held .result) (call .round-held .ensures) (not-false _ (one .if1 .left)) (not-false _ (two .if2 .left))
+    stays (now (s .args .memory)) (s .pre) (seats s) (s .args .was-held) (call .round-held .result)
+    (call .round-held .ensures) (not-false _ (one .if1 .left)) (not-false _ (two .if2 .left))
 
 pub round-after-spec : {M : Type 1} → statement M
 round-after-spec =

@@ -9,7 +9,9 @@ all-zero-requires : tie.Need-all-zero-requires
 all-zero-requires c κs = search needs
 
 returns : tie.Need-returns
-returns c = let s = c .before .before .before in seat-zero (s .args .count) (now (s .args .creds)) (s .args .seat .now) (s .pre) _ (c .before .all-zero .ensures) (c .if1 .taken)
+returns c =
+    let s = c .before .before .before in
+    seat-zero (s .args .count) (now (s .args .creds)) (s .args .seat .now) (s .pre) _ (c .before .all-zero .ensures) (c .if1 .taken)
 
 held-requires : tie.Need-held-requires
 held-requires c κs = search needs
@@ -24,15 +26,27 @@ enum-told-2 : tie.Need-enum-told-2
 enum-told-2 c = search needs
 
 returns-2 : tie.Need-returns-2
-returns-2 c = let f = c .before .before in let h = f .before .before in let one = h .before in let s = one .before .before .before in sym (ap isAt (c .enum-told2 .given .1)) ∙ seat-found (s .args .count) (now (s .args .creds)) (s .args .seat .now) (s .pre) _ (one .before .all-zero .ensures) (one .if1 .left) _ (h .held .ensures) _ (f .find .ensures)
+returns-2 c =
+    let f = c .before .before in
+    let h = f .before .before in
+    let one = h .before in
+    let s = one .before .before .before in
+    sym (ap isAt (c .enum-told2 .given .1))
+    ∙ seat-found (s .args .count) (now (s .args .creds)) (s .args .seat .now) (s .pre) _
+    (one .before .all-zero .ensures) (one .if1 .left) _ (h .held .ensures) _ (f .find .ensures)
 
 returns-3 : tie.Need-returns-3
-returns-3 c = let f = c .before .before in let h = f .before .before in let one = h .before in let s = one .before .before .before in sym (ap isAt (c .enum-told .given .1)) ∙ seat-found (s .args .count) (now (s .args .creds)) (s .args .seat .now) (s .pre) _ (one .before .all-zero .ensures) (one .if1 .left) _ (h .held .ensures) _ (f .find .ensures)
+returns-3 c =
+    let f = c .before .before in
+    let h = f .before .before in
+    let one = h .before in
+    let s = one .before .before .before in
+    sym (ap isAt (c .enum-told .given .1))
+    ∙ seat-found (s .args .count) (now (s .args .creds)) (s .args .seat .now) (s .pre) _
+    (one .before .all-zero .ensures) (one .if1 .left) _ (h .held .ensures) _ (f .find .ensures)
 
 pub seat-held-spec : {M : Type 1} → statement M
-seat-held-spec =
-    tie.close
-    (tie.spec
+seat-held-spec = tie.close (tie.spec
     all-zero-requires
     returns
     held-requires

@@ -32,8 +32,10 @@ put-head-requires : tie.Need-put-head-requires
 put-head-requires c κs =
     let call = c .before .before .before in
     let s = call .before .before .before .before .before .before in
-    let m = now (s .args .memory) in
-    (omega (arith, between-long m (s .pre) (call .drop-gone .last .1 .1 .0) (call .drop-gone .kept .1 .1 .0)), few-left m (s .pre) _ _ (call .drop-gone .ensures .0))
+    let m = now (s .args .memory) in (
+      omega (arith, between-long m (s .pre) (call .drop-gone .last .1 .1 .0) (call .drop-gone .kept .1 .1 .0)),
+      few-left m (s .pre) _ _ (call .drop-gone .ensures .0),
+    )
 
 same-length : tie.Need-same-length
 same-length c = search needs
@@ -47,13 +49,12 @@ returns c =
     let m = now (s .args .memory) in
     let after = seatsIn (s .args .count) (now (s .args .creds)) in
     let k = heldRound after (cond (s .args .was-held) (roundOf m) anew) in
-    changed m (s .pre) k (without (gone after) (rowsOf 260 (getD m 0 0) (slotsOf m))) _ _ _ _ (call .drop-gone .ensures .0) (call .drop-gone .ensures .1) (turn .round-after .ensures) (head .put-head .ensures)
+    changed m (s .pre) k (without (gone after) (rowsOf 260 (getD m 0 0) (slotsOf m))) _ _ _ _
+    (call .drop-gone .ensures .0) (call .drop-gone .ensures .1) (turn .round-after .ensures) (head .put-head .ensures)
     ∙ ap (λ (ws : List Row). memoryOf k (without (gone after) ws)) (slots-rows m (s .pre))
 
 pub settle-spec : {M : Type 1} → statement M
-settle-spec =
-    tie.close
-    (tie.spec
+settle-spec = tie.close (tie.spec
     round-after-requires
     slice-read-used
     cast-used

@@ -41,12 +41,12 @@ put-row-requires : tie.Need-put-row-requires
 put-row-requires c κs = search needs
 
 returns : tie.Need-returns
-returns c = slot-is _ _ (c .before .before .before .before .before .shared-slice-known .given 2 .fits) (c .before .before .before .before .before .shared-slice-known .given 3 .fits) (c .before .put-row .ensures)
+returns c =
+    slot-is _ _ (c .before .before .before .before .before .shared-slice-known .given 2 .fits)
+    (c .before .before .before .before .before .shared-slice-known .given 3 .fits) (c .before .put-row .ensures)
 
 pub slot-of-spec : {M : Type 1} → statement M
-slot-of-spec =
-    tie.close
-    (tie.spec
+slot-of-spec = tie.close (tie.spec
     shared-slice-read-slot
     array-write-slot
     shared-slice-read-slot-2

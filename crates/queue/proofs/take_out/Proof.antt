@@ -29,9 +29,7 @@ returns c =
     rw (← rows) (call .remove .ensures .0, used-packed 260 n b (s .pre) _ _ (call .remove .ensures .1) (call .remove .kept .0))
 
 pub take-out-spec : {M : Type 1} → statement M
-take-out-spec =
-    tie.close
-    (tie.spec
+take-out-spec = tie.close (tie.spec
     mul-used
     slice-relend-prefix-remove
     slice-aggregate-remove

@@ -45,7 +45,10 @@ returns c =
     let find = c .before .before in
     let bytes = find .before .before .before .before .shared-slice-known2 .given in
     let s = find .before .before .before .before .before .before in
-    rw (free-is (now (s .args .memory)) (now (s .args .«record»)) _ (s .pre .1) (s .pre .2) (bytes 2 .fits) (bytes 3 .fits) (find .find .ensures), c .enum-told2 .given .1)
+    rw (
+      free-is (now (s .args .memory)) (now (s .args .«record»)) _ (s .pre .1) (s .pre .2) (bytes 2 .fits) (bytes 3 .fits) (find .find .ensures),
+      c .enum-told2 .given .1,
+    )
 
 returns-2 : tie.Need-returns-2
 unfolding refuseIf
@@ -53,12 +56,13 @@ returns-2 c =
     let find = c .before .before in
     let bytes = find .before .before .before .before .shared-slice-known2 .given in
     let s = find .before .before .before .before .before .before in
-    rw (free-is (now (s .args .memory)) (now (s .args .«record»)) _ (s .pre .1) (s .pre .2) (bytes 2 .fits) (bytes 3 .fits) (find .find .ensures), c .enum-told .given .1)
+    rw (
+      free-is (now (s .args .memory)) (now (s .args .«record»)) _ (s .pre .1) (s .pre .2) (bytes 2 .fits) (bytes 3 .fits) (find .find .ensures),
+      c .enum-told .given .1,
+    )
 
 pub check-free-spec : {M : Type 1} → statement M
-check-free-spec =
-    tie.close
-    (tie.spec
+check-free-spec = tie.close (tie.spec
     shared-slice-read-count
     cast-count
     sub-find

@@ -49,8 +49,13 @@ check-free-requires c κs =
     let told = c .before in
     let p = told .before .before .before in
     let s = start p in
-    let q = sound-queue (tables s) (now (s .args .memory)) (not-false _ (not-applied _ _ (p .before .before .check-terminal .ensures) (p .enum-told .given .1))) in
-    (q .long, q .few, long-enough _ (passed (senderChecks (tables s) (now (s .args .«record»))) (sym (told .before .before .check-sender .ensures) ∙ told .enum-told3 .given .1) 2))
+    let q = sound-queue (tables s) (now (s .args .memory))
+    (not-false _ (not-applied _ _ (p .before .before .check-terminal .ensures) (p .enum-told .given .1))) in (
+      q .long,
+      q .few,
+      long-enough _
+          (passed (senderChecks (tables s) (now (s .args .«record»))) (sym (told .before .before .check-sender .ensures) ∙ told .enum-told3 .given .1) 2),
+    )
 
 returns-3 : tie.Need-returns-3
 returns-3 c =
@@ -58,12 +63,11 @@ returns-3 c =
     let p = q .before .before .before in
     let s = start p in
     skip _ _ _ (p .before .before .check-terminal .ensures) (p .enum-told .given .1)
-    (skip-all (senderChecks (tables s) (now (s .args .«record»))) _ (q .before .before .check-sender .ensures) (q .enum-told3 .given .1) (last _ _ (c .check-free .ensures)))
+    (skip-all (senderChecks (tables s) (now (s .args .«record»))) _
+    (q .before .before .check-sender .ensures) (q .enum-told3 .given .1) (last _ _ (c .check-free .ensures)))
 
 pub check-hand-in-spec : {M : Type 1} → statement M
-check-hand-in-spec =
-    tie.close
-    (tie.spec
+check-hand-in-spec = tie.close (tie.spec
     check-terminal-requires
     enum-told
     enum-told-2

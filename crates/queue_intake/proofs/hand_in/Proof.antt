@@ -29,7 +29,8 @@ returns c =
     let told = c .before in
     let call = told .before .before in
     let s = start call in
-    answered (s .args .h) (now (s .args .creds)) (now (s .args .aces)) (now (s .args .memory)) (now (s .args .«record»)) _ _ (call .check-hand-in .ensures) (told .enum-told2 .given .1) _ _ (c .refused .ensures) refl refl
+    answered (s .args .h) (now (s .args .creds)) (now (s .args .aces)) (now (s .args .memory)) (now (s .args .«record»))
+    _ _ (call .check-hand-in .ensures) (told .enum-told2 .given .1) _ _ (c .refused .ensures) refl refl
 
 keep-requires : tie.Need-keep-requires
 keep-requires c κs =
@@ -47,12 +48,11 @@ returns-2 c =
     let told = keep .before .before in
     let call = told .before .before in
     let s = start call in
-    answered (s .args .h) (now (s .args .creds)) (now (s .args .aces)) (now (s .args .memory)) (now (s .args .«record»)) _ _ (call .check-hand-in .ensures) (told .enum-told .given .1) _ _ (c .refused2 .ensures) (keep .keep .ensures) refl
+    answered (s .args .h) (now (s .args .creds)) (now (s .args .aces)) (now (s .args .memory)) (now (s .args .«record»))
+    _ _ (call .check-hand-in .ensures) (told .enum-told .given .1) _ _ (c .refused2 .ensures) (keep .keep .ensures) refl
 
 pub hand-in-spec : {M : Type 1} → statement M
-hand-in-spec =
-    tie.close
-    (tie.spec
+hand-in-spec = tie.close (tie.spec
     check-hand-in-requires
     enum-told
     enum-told-2

@@ -33,8 +33,11 @@ next-slot-requires : tie.Need-next-slot-requires
 next-slot-requires c κs =
     let h = c .before .before in
     let s = h .before .before .before in
-    let l : length (now (s .args .creds)) ≡ 936 = search needs in
-    (omega (arith, h .held .ensures, min-le-right (s .args .h .ncreds) 24), omega (arith, six (tables s) (now (s .args .m)) (s .pre .0)), slots-room (tables s) (now (s .args .m)) (s .pre .0))
+    let l : length (now (s .args .creds)) ≡ 936 = search needs in (
+      omega (arith, h .held .ensures, min-le-right (s .args .h .ncreds) 24),
+      omega (arith, six (tables s) (now (s .args .m)) (s .pre .0)),
+      slots-room (tables s) (now (s .args .m)) (s .pre .0),
+    )
 
 enum-known-i : tie.Need-enum-known-i
 enum-known-i c = search needs
@@ -43,15 +46,21 @@ enum-told : tie.Need-enum-told
 enum-told c = search needs
 
 returns : tie.Need-returns
-returns c = let call = c .before .before in let h = call .before .before .before in let s = h .before .before .before in absurd (due-none (tables s) (now (s .args .m)) (s .pre .0) _ (h .held .ensures) _ (call .next-slot .ensures) (s .pre .1) (c .enum-told .given .1))
+returns c =
+    let call = c .before .before in
+    let h = call .before .before .before in
+    let s = h .before .before .before in
+    absurd (due-none (tables s) (now (s .args .m)) (s .pre .0) _ (h .held .ensures) _ (call .next-slot .ensures) (s .pre .1) (c .enum-told .given .1))
 
 returns-2 : tie.Need-returns-2
-returns-2 c = let call = c .before .before .before in let h = call .before .before .before in let s = h .before .before .before in due-found (tables s) (now (s .args .m)) (s .pre .0) _ (h .held .ensures) _ (call .next-slot .ensures) _ (c .before .i .given .1)
+returns-2 c =
+    let call = c .before .before .before in
+    let h = call .before .before .before in
+    let s = h .before .before .before in
+    due-found (tables s) (now (s .args .m)) (s .pre .0) _ (h .held .ensures) _ (call .next-slot .ensures) _ (c .before .i .given .1)
 
 pub due-slot-spec : {M : Type 1} → statement M
-due-slot-spec =
-    tie.close
-    (tie.spec
+due-slot-spec = tie.close (tie.spec
     shared-slice-read-count
     cast-count
     held-requires

@@ -14,7 +14,10 @@ loop-holds : tie.Need-loop-holds Inv-loop μ-loop
 loop-holds c = record { room = c .before .before .pre .0; slot = refl }
 
 slice-aggregate-find : tie.Need-slice-aggregate-find Inv-loop μ-loop
-slice-aggregate-find c = let turn = c .before in sym (length-take-le 2 (turn .before .loop .rest .now) (omega (arith, row-here _ _ _ _ (turn .before .loop .rest .now) _ (turn .before .loop .inv) (turn .loop-test .taken))))
+slice-aggregate-find c =
+    let turn = c .before in
+    sym (length-take-le 2 (turn .before .loop .rest .now)
+    (omega (arith, row-here _ _ _ _ (turn .before .loop .rest .now) _ (turn .before .loop .inv) (turn .loop-test .taken))))
 
 find-requires : tie.Need-find-requires Inv-loop μ-loop
 find-requires c κs = c .before .before .before .before .before .pre .1
@@ -23,16 +26,21 @@ enum-known-i : tie.Need-enum-known-i Inv-loop μ-loop
 enum-known-i c = search needs
 
 returns : tie.Need-returns Inv-loop μ-loop
-returns c = let call = c .before .before .before in let turn = call .before .before in found _ _ _ _ (turn .before .loop .rest .now) _ (turn .before .loop .inv) (turn .loop-test .taken) _ (call .find .ensures) _ (c .before .i .given .1)
+returns c =
+    let call = c .before .before .before in
+    let turn = call .before .before in
+    found _ _ _ _ (turn .before .loop .rest .now) _ (turn .before .loop .inv) (turn .loop-test .taken) _ (call .find .ensures) _ (c .before .i .given .1)
 
 enum-told : tie.Need-enum-told Inv-loop μ-loop
 enum-told c = search needs
 
 sub-rest : tie.Need-sub-rest Inv-loop μ-loop
-sub-rest c = let turn = c .before .before .before .before in row-here _ _ _ _ (turn .before .loop .rest .now) _ (turn .before .loop .inv) (turn .loop-test .taken)
+sub-rest c =
+    let turn = c .before .before .before .before in row-here _ _ _ _ (turn .before .loop .rest .now) _ (turn .before .loop .inv) (turn .loop-test .taken)
 
 part-rest-start : tie.Need-part-rest-start Inv-loop μ-loop
-part-rest-start c = let turn = c .before .before .before .before in row-here _ _ _ _ (turn .before .loop .rest .now) _ (turn .before .loop .inv) (turn .loop-test .taken)
+part-rest-start c =
+    let turn = c .before .before .before .before in row-here _ _ _ _ (turn .before .loop .rest .now) _ (turn .before .loop .inv) (turn .loop-test .taken)
 
 part-rest-end : tie.Need-part-rest-end Inv-loop μ-loop
 part-rest-end c = search needs
@@ -44,15 +52,17 @@ loop-less : tie.Need-loop-less Inv-loop μ-loop
 loop-less c = search needs
 
 loop-again : tie.Need-loop-again Inv-loop μ-loop
-loop-again c = let told = c .before in let call = told .before .before in let turn = call .before .before in again _ _ _ _ (turn .before .loop .rest .now) _ (turn .before .loop .inv) (turn .loop-test .taken) _ (call .find .ensures) (told .enum-told .given .1)
+loop-again c =
+    let told = c .before in
+    let call = told .before .before in
+    let turn = call .before .before in
+    again _ _ _ _ (turn .before .loop .rest .now) _ (turn .before .loop .inv) (turn .loop-test .taken) _ (call .find .ensures) (told .enum-told .given .1)
 
 returns-2 : tie.Need-returns-2 Inv-loop μ-loop
 returns-2 c = none _ _ _ _ (c .before .loop .rest .now) _ (c .before .loop .inv) (c .loop-test .left)
 
 pub first-waiting-spec : {M : Type 1} → statement M
-first-waiting-spec =
-    tie.close
-    (tie.spec
+first-waiting-spec = tie.close (tie.spec
     Inv-loop
     μ-loop
     loop-holds

@@ -35,7 +35,11 @@ enum-known-later : tie.Need-enum-known-later
 enum-known-later c = search needs
 
 returns : tie.Need-returns
-returns c = let f = c .before .before .before in let p = f .before .before in next-first _ _ (start p .args .count) (start p .args .creds .now) _ (p .rows-before .ensures) (bound p) _ (f .first-waiting .ensures) _ (c .before .later .given .1)
+returns c =
+    let f = c .before .before .before in
+    let p = f .before .before in
+    next-first _ _ (start p .args .count) (start p .args .creds .now) _ (p .rows-before .ensures)
+    (bound p) _ (f .first-waiting .ensures) _ (c .before .later .given .1)
 
 enum-told : tie.Need-enum-told
 enum-told c = search needs
@@ -50,21 +54,33 @@ enum-known-shared : tie.Need-enum-known-shared
 enum-known-shared c = search needs
 
 returns-2 : tie.Need-returns-2
-returns-2 c = let g = c .before .before .before in let told = g .before .before in let f = told .before .before in let p = f .before .before in next-nobody _ _ (start p .args .count) (start p .args .creds .now) _ (p .rows-before .ensures) (bound p) _ (f .first-waiting .ensures) (told .enum-told .given .1) _ (g .find .ensures) _ (c .before .shared .given .1)
+returns-2 c =
+    let g = c .before .before .before in
+    let told = g .before .before in
+    let f = told .before .before in
+    let p = f .before .before in
+    next-nobody _ _ (start p .args .count) (start p .args .creds .now) _ (p .rows-before .ensures) (bound p) _
+    (f .first-waiting .ensures) (told .enum-told .given .1) _ (g .find .ensures) _ (c .before .shared .given .1)
 
 enum-told-2 : tie.Need-enum-told-2
 enum-told-2 c = search needs
 
 first-waiting-requires-2 : tie.Need-first-waiting-requires-2
-first-waiting-requires-2 c κs = let p = c .before .before .before .before .before .before .before .before in (omega (arith, bound p, start p .pre .0), start p .pre .2)
+first-waiting-requires-2 c κs =
+    let p = c .before .before .before .before .before .before .before .before in (omega (arith, bound p, start p .pre .0), start p .pre .2)
 
 returns-3 : tie.Need-returns-3
-returns-3 c = let none = c .before in let g = none .before .before in let told = g .before .before in let f = told .before .before in let p = f .before .before in next-rest _ _ (start p .args .count) (start p .args .creds .now) _ (p .rows-before .ensures) (bound p) _ (f .first-waiting .ensures) (told .enum-told .given .1) _ (g .find .ensures) _ (none .enum-told2 .given .1) (c .first-waiting2 .ensures)
+returns-3 c =
+    let none = c .before in
+    let g = none .before .before in
+    let told = g .before .before in
+    let f = told .before .before in
+    let p = f .before .before in
+    next-rest _ _ (start p .args .count) (start p .args .creds .now) _ (p .rows-before .ensures) (bound p) _ (f .first-waiting .ensures)
+    (told .enum-told .given .1) _ (g .find .ensures) _ (none .enum-told2 .given .1) (c .first-waiting2 .ensures)
 
 pub next-slot-spec : {M : Type 1} → statement M
-next-slot-spec =
-    tie.close
-    (tie.spec
+next-slot-spec = tie.close (tie.spec
     rows-before-requires
     mul-start
     sub-first-waiting

@@ -21,12 +21,13 @@ put-row-requires : tie.Need-put-row-requires
 put-row-requires c κs = search needs
 
 returns : tie.Need-returns
-returns c = let call = c .before in let b = call .before .before .before .before .args .slot .now in put-whole 256 (take (length b - 4) (drop 4 b)) _ _ refl (call .put-row .ensures) ∙ take-rest 4 b
+returns c =
+    let call = c .before in
+    let b = call .before .before .before .before .args .slot .now in
+    put-whole 256 (take (length b - 4) (drop 4 b)) _ _ refl (call .put-row .ensures) ∙ take-rest 4 b
 
 pub record-bytes-spec : {M : Type 1} → statement M
-record-bytes-spec =
-    tie.close
-    (tie.spec
+record-bytes-spec = tie.close (tie.spec
     slice-aggregate-put-row
     sub-put-row
     part-put-row-start

@@ -19,9 +19,7 @@ unfolding contents rowOwner
 returns c = simp length-append (omega (arith, c .before .own-length .ensures .0, ap length (c .before .before .part .ensures), c .rows-length .ensures .0))
 
 pub contents-length-spec : {M : Type 1} → statement M
-contents-length-spec =
-    tie.close
-    (tie.spec
+contents-length-spec = tie.close (tie.spec
     (λ c. search needs) (λ c κs. search needs) (λ c κs. search needs) add-result
     (λ c κs. search needs) add-result-2
     returns)

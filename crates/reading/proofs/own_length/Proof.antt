@@ -17,9 +17,4 @@ unfolding ownBody
 returns-3 c = rw (ne-eqb _ 0 (c .match .rest .0 .1), ne-eqb _ 1 (c .match .rest .1)) (omega arith, omega arith)
 
 pub own-length-spec : {M : Type 1} → statement M
-own-length-spec =
-    tie.close
-    (tie.spec
-    returns
-    returns-2
-    returns-3)
+own-length-spec = tie.close (tie.spec returns returns-2 returns-3)

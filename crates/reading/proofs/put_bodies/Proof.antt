@@ -42,9 +42,7 @@ returns : tie.Need-returns Inv-loop μ-loop
 returns c = writing-end (c .before .loop .inv .1) (bodies-end (c .before .loop .left) _ (c .loop-test .left))
 
 pub put-bodies-spec : {M : Type 1} → statement M
-put-bodies-spec =
-    tie.close
-    (tie.spec
+put-bodies-spec = tie.close (tie.spec
     Inv-loop
     μ-loop
     loop-holds

@@ -16,7 +16,5 @@ returns c =
     rw (← c .before .before .before .before .before .before .before .part .ensures) (puts-then (omega arith) (puts-then (omega arith) own owner) rows)
 
 pub put-contents-spec : {M : Type 1} → statement M
-put-contents-spec =
-    tie.close
-    (tie.spec
+put-contents-spec = tie.close (tie.spec
     (λ c κs. search needs) (λ c. search needs) (λ c κs. search needs) (λ c κs. search needs) (λ c κs. search needs) (λ c. search needs) returns)

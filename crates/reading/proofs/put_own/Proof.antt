@@ -14,12 +14,11 @@ returns-2 c = rw (c .before .before .before .before .before .match .keys2) (c .b
 
 returns-3 : tie.Need-returns-3
 unfolding ownBody
-returns-3 c = let none = c .before .before .before .before .before .match .rest in rw (ne-eqb _ 0 (none .0 .1), ne-eqb _ 1 (none .1)) (c .before .before .put .ensures)
+returns-3 c =
+    let none = c .before .before .before .before .before .match .rest in rw (ne-eqb _ 0 (none .0 .1), ne-eqb _ 1 (none .1)) (c .before .before .put .ensures)
 
 pub put-own-spec : {M : Type 1} → statement M
-put-own-spec =
-    tie.close
-    (tie.spec
+put-own-spec = tie.close (tie.spec
     (λ c κs. search needs) (λ c. search needs) (λ c κs. search needs) (λ c. search needs) (λ c κs. search needs) (λ c. search needs) returns
     (λ c. search needs) returns-2
     (λ c. search needs) returns-3)

@@ -8,10 +8,9 @@ use Rattle.reading.proofs.put_owner.Tie as tie
 
 returns : tie.Need-returns
 unfolding ownBody
-returns c = puts-then (omega arith) (c .before .before .before .before .before .before .before .before .before .put-byte .ensures) (c .before .before .put .ensures)
+returns c =
+    puts-then (omega arith) (c .before .before .before .before .before .before .before .before .before .put-byte .ensures) (c .before .before .put .ensures)
 
 pub put-owner-spec : {M : Type 1} → statement M
-put-owner-spec =
-    tie.close
-    (tie.spec
+put-owner-spec = tie.close (tie.spec
     (λ c. search needs) (λ c κs. search needs) (λ c κs. search needs) (λ c. search needs) returns)

@@ -14,7 +14,8 @@ empty (x ∷ l) e = absurd (omega arith)
 
 is-read : (clock : ℕ) (t : Tables) (r : List ℕ) → (length (replyOf clock t r) ≡ 0 → ⊥) → replyOf clock t r ≡ contents clock t (sender r) (resource r)
 unfolding replyOf
-is-read clock t r = cond-cases (λ (l : List ℕ). (length l ≡ 0 → ⊥) → l ≡ contents clock t (sender r) (resource r)) (reads r) (λ _ _. refl) (λ _ n. absurd (n refl))
+is-read clock t r =
+    cond-cases (λ (l : List ℕ). (length l ≡ 0 → ⊥) → l ≡ contents clock t (sender r) (resource r)) (reads r) (λ _ _. refl) (λ _ n. absurd (n refl))
 
 abbrev reply : tie.Start → List ℕ
 reply s = replyOf (s .args .clock) (tablesOf (s .args .h) (now (s .args .creds)) (now (s .args .aces))) (now (s .args .«record»))
@@ -33,8 +34,6 @@ returns-2 c =
     rw (is-read _ _ _ (λ e. test .if1 .left (test .before .before .before .pre ∙ e)), ← number .resource-of .ensures) (call .put-contents .ensures)
 
 pub put-reply-spec : {M : Type 1} → statement M
-put-reply-spec =
-    tie.close
-    (tie.spec
+put-reply-spec = tie.close (tie.spec
     (λ c. search needs) (λ c κs. search needs) (λ c. search needs) returns
     (λ c κs. search needs) (λ c κs. search needs) (λ c. search needs) returns-2)

@@ -39,9 +39,7 @@ returns-4 c =
     rw (ne-eqb _ 2 (none .0 .0 .1), ne-eqb _ 3 (none .0 .1), ne-eqb _ 4 (none .1)) (c .before .before .put2 .ensures)
 
 pub put-rows-spec : {M : Type 1} → statement M
-put-rows-spec =
-    tie.close
-    (tie.spec
+put-rows-spec = tie.close (tie.spec
     (λ c κs. search needs) put-bodies-requires
     (λ c κs. search needs) (λ c. search needs) (λ c κs. search needs) (λ c κs. search needs)
     (λ c κs. search needs) (λ c κs. search needs) (λ c. search needs) (λ c κs. search needs)

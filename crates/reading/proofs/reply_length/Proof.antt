@@ -14,8 +14,4 @@ unfolding replyOf
 returns-2 c = rw (sym (c .before .is-read .ensures) ∙ c .if1 .left)
 
 pub reply-length-spec : {M : Type 1} → statement M
-reply-length-spec =
-    tie.close
-    (tie.spec
-    (λ c κs. search needs) (λ c κs. search needs) (λ c κs. search needs) returns
-    returns-2)
+reply-length-spec = tie.close (tie.spec (λ c κs. search needs) (λ c κs. search needs) (λ c κs. search needs) returns returns-2)

@@ -11,7 +11,8 @@ returns c =
     let held = c .before in
     let match = held .before .before in
     let l : length (now (match .before .before .before .args .creds)) ≡ 936 = search needs in
-    rw (match .match .keys1) (c .bodies-length .ensures .0 ∙ ap length (bodies-held _ _ _ (held .held .ensures)), omega (arith, l, c .bodies-length .ensures .1))
+    rw (match .match .keys1)
+    (c .bodies-length .ensures .0 ∙ ap length (bodies-held _ _ _ (held .held .ensures)), omega (arith, l, c .bodies-length .ensures .1))
 
 -- the first bytes of the table, of as many rows as there is room for
 part-short : (c : tie.After-part) → length (now (c .part .result)) ≤ 1152
@@ -35,9 +36,7 @@ unfolding rowBytes
 returns-4 c = rw (ne-eqb _ 2 (c .match .rest .0 .0 .1), ne-eqb _ 3 (c .match .rest .0 .1), ne-eqb _ 4 (c .match .rest .1)) (omega arith, omega arith)
 
 pub rows-length-spec : {M : Type 1} → statement M
-rows-length-spec =
-    tie.close
-    (tie.spec
+rows-length-spec = tie.close (tie.spec
     (λ c κs. search needs) (λ c κs. search needs) (λ c κs. search needs) (λ c. search needs) (λ c κs. search needs) (λ c κs. search needs) returns
     returns-2
     returns-3

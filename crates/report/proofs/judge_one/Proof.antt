@@ -31,7 +31,4 @@ returns c =
     as-judged (s .args .t) (lent (s .args .clock) (now (s .args .«record»))) _ (call .tillerclover-judge .ensures .gives)
 
 pub judge-one-spec : {M : Type 1} → statement M
-judge-one-spec =
-    tie.close
-    (tie.spec
-    (λ c. search needs) (λ c. search needs) (λ c. search needs) (λ c κs. search needs) returns)
+judge-one-spec = tie.close (tie.spec (λ c. search needs) (λ c. search needs) (λ c. search needs) (λ c κs. search needs) returns)

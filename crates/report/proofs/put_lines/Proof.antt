@@ -28,7 +28,11 @@ small c = field-below _ 0 16 16 _ (omega arith) (c .word .ensures)
 
 same-length : tie.Need-same-length Inv-loop μ-loop
 same-length c =
-    omega (arith, puts-length (c .before .before .put-cut .ensures), writing-length (c .before .before .before .before .before .before .before .before .loop .inv .writing))
+    omega (
+      arith,
+      puts-length (c .before .before .put-cut .ensures),
+      writing-length (c .before .before .before .before .before .before .before .before .loop .inv .writing),
+    )
 
 returns : tie.Need-returns Inv-loop μ-loop
 returns c =
@@ -66,9 +70,7 @@ returns-2 : tie.Need-returns-2 Inv-loop μ-loop
 returns-2 c = run-end (c .before .loop .inv) (c .loop-test .left)
 
 pub put-lines-spec : {M : Type 1} → statement M
-put-lines-spec =
-    tie.close
-    (tie.spec
+put-lines-spec = tie.close (tie.spec
     Inv-loop
     μ-loop
     (λ c κs. search needs) loop-holds

@@ -21,7 +21,5 @@ returns c =
     (whole .0, (whole .1, (whole .2, counted .1)))
 
 pub run-text-spec : {M : Type 1} → statement M
-run-text-spec =
-    tie.close
-    (tie.spec
+run-text-spec = tie.close (tie.spec
     (λ c. search needs) (λ c κs. search needs) (λ c κs. search needs) (λ c κs. search needs) (λ c. search needs) returns)

@@ -9,10 +9,9 @@ returns c =
     let roles = c .before in
     let body = roles .before .before .before in
     let start = body .before .before .before .before .before in
-    row-is _ _ _ (start .pre .0) (start .pre .1) (start .pre .2) (start .pre .3) _ _ _ _ _ (body .before .body .ensures) (body .put .ensures) (roles .put-with .ensures)
+    row-is _ _ _ (start .pre .0) (start .pre .1) (start .pre .2) (start .pre .3) _ _ _
+    _ _ (body .before .body .ensures) (body .put .ensures) (roles .put-with .ensures)
 
 pub asserted-row-spec : {M : Type 1} → statement M
-asserted-row-spec =
-    tie.close
-    (tie.spec
+asserted-row-spec = tie.close (tie.spec
     (λ c. search needs) (λ c κs. search needs) (λ c κs. search needs) (λ c. search needs) (λ c κs. search needs) returns)

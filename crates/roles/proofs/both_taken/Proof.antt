@@ -10,7 +10,5 @@ returns c =
     rw (both-taken, c .holds-other2 .ensures, c .before .second-role .ensures, first .holds-other .ensures, first .before .first-role .ensures)
 
 pub both-taken-spec : {M : Type 1} → statement M
-both-taken-spec =
-    tie.close
-    (tie.spec
+both-taken-spec = tie.close (tie.spec
     (λ c κs. search needs) (λ c κs. search needs) (λ c κs. search needs) (λ c κs. search needs) returns)

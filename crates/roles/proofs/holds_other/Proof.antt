@@ -7,7 +7,4 @@ returns : tie.Need-returns
 returns c = rw (c .same-role .ensures, c .before .in-force .ensures)
 
 pub holds-other-spec : {M : Type 1} → statement M
-holds-other-spec =
-    tie.close
-    (tie.spec
-    (λ c κs. search needs) (λ c κs. search needs) returns)
+holds-other-spec = tie.close (tie.spec (λ c κs. search needs) (λ c κs. search needs) returns)

@@ -9,7 +9,4 @@ unfolding free
 returns c = rw (c .last .ensures, c .before .no-role .ensures)
 
 pub in-force-spec : {M : Type 1} → statement M
-in-force-spec =
-    tie.close
-    (tie.spec
-    (λ c κs. search needs) (λ c κs. search needs) returns)
+in-force-spec = tie.close (tie.spec (λ c κs. search needs) (λ c κs. search needs) returns)

@@ -11,8 +11,4 @@ returns-2 : tie.Need-returns-2
 returns-2 c = (sym (ap length (one-free _ _ (not-false _ (sym (c .before .in-force .ensures) ∙ c .if1 .left)))), omega arith)
 
 pub place-length-spec : {M : Type 1} → statement M
-place-length-spec =
-    tie.close
-    (tie.spec
-    (λ c κs. search needs) returns
-    returns-2)
+place-length-spec = tie.close (tie.spec (λ c κs. search needs) returns returns-2)

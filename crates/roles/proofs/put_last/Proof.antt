@@ -18,8 +18,6 @@ returns-2 c =
     rw (last-new _ _ _ (sym (test .before .holds-other .ensures) ∙ test .if1 .left)) (c .before .before .put3 .ensures)
 
 pub put-last-spec : {M : Type 1} → statement M
-put-last-spec =
-    tie.close
-    (tie.spec
+put-last-spec = tie.close (tie.spec
     (λ c κs. search needs) (λ c κs. search needs) (λ c κs. search needs) (λ c. search needs) returns
     (λ c κs. search needs) (λ c. search needs) returns-2)

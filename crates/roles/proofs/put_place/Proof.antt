@@ -15,8 +15,6 @@ returns-2 c =
     rw (one-free _ _ (not-false _ (sym (test .before .in-force .ensures) ∙ test .if1 .left))) (c .before .before .put2 .ensures)
 
 pub put-place-spec : {M : Type 1} → statement M
-put-place-spec =
-    tie.close
-    (tie.spec
+put-place-spec = tie.close (tie.spec
     (λ c κs. search needs) (λ c κs. search needs) (λ c. search needs) returns
     (λ c. search needs) (λ c κs. search needs) (λ c. search needs) returns-2)

@@ -11,10 +11,9 @@ returns c =
     let last = c .before .before in
     let second = last .before in
     let first = second .before .before .before .before in
-    rw (joined-both _ _ _ _ (first .before .first-role .ensures) (second .second-role .ensures)) (puts-then (omega arith) (first .put-place .ensures) (last .put-place2 .ensures))
+    rw (joined-both _ _ _ _ (first .before .first-role .ensures) (second .second-role .ensures))
+    (puts-then (omega arith) (first .put-place .ensures) (last .put-place2 .ensures))
 
 pub put-roles-spec : {M : Type 1} → statement M
-put-roles-spec =
-    tie.close
-    (tie.spec
+put-roles-spec = tie.close (tie.spec
     (λ c κs. search needs) (λ c κs. search needs) (λ c κs. search needs) (λ c κs. search needs) (λ c. search needs) returns)

@@ -13,7 +13,9 @@ returns : tie.Need-returns
 returns c =
     let test = c .before .before .before .before in
     let second = test .before .before in
-    rw (with-free _ _ _ _ (second .before .first-role .ensures) (second .second-role .ensures) _ (not-false _ (sym (test .before .in-force .ensures) ∙ not-true _ (test .if1 .taken)))) (c .before .before .put-last .ensures)
+    rw (with-free _ _ _ _ (second .before .first-role .ensures) (second .second-role .ensures)
+    _ (not-false _ (sym (test .before .in-force .ensures) ∙ not-true _ (test .if1 .taken))))
+    (c .before .before .put-last .ensures)
 
 returns-2 : tie.Need-returns-2
 returns-2 c =
@@ -22,8 +24,10 @@ returns-2 c =
     let same = put .before .before in
     let test = same .before .before in
     let second = test .before .before in
-    rw (with-same _ _ _ _ (second .before .first-role .ensures) (second .second-role .ensures) _ (not-true _ (sym (test .before .in-force .ensures) ∙ not-false _ (test .if1 .left)))
-    (sym (same .before .same-role .ensures) ∙ same .if2 .taken)) (puts-then (bound (second .before .before .before .before)) (put .put .ensures) (last .put-place .ensures))
+    rw (with-same _ _ _ _ (second .before .first-role .ensures) (second .second-role .ensures)
+    _ (not-true _ (sym (test .before .in-force .ensures) ∙ not-false _ (test .if1 .left)))
+    (sym (same .before .same-role .ensures) ∙ same .if2 .taken))
+    (puts-then (bound (second .before .before .before .before)) (put .put .ensures) (last .put-place .ensures))
 
 returns-3 : tie.Need-returns-3
 returns-3 c =
@@ -32,13 +36,13 @@ returns-3 c =
     let same = put .before .before in
     let test = same .before .before in
     let second = test .before .before in
-    rw (with-other _ _ _ _ (second .before .first-role .ensures) (second .second-role .ensures) _ (not-true _ (sym (test .before .in-force .ensures) ∙ not-false _ (test .if1 .left)))
-    (sym (same .before .same-role .ensures) ∙ same .if2 .left)) (puts-then (bound (second .before .before .before .before)) (put .put2 .ensures) (last .put-last2 .ensures))
+    rw (with-other _ _ _ _ (second .before .first-role .ensures) (second .second-role .ensures)
+    _ (not-true _ (sym (test .before .in-force .ensures) ∙ not-false _ (test .if1 .left)))
+    (sym (same .before .same-role .ensures) ∙ same .if2 .left))
+    (puts-then (bound (second .before .before .before .before)) (put .put2 .ensures) (last .put-last2 .ensures))
 
 pub put-with-spec : {M : Type 1} → statement M
-put-with-spec =
-    tie.close
-    (tie.spec
+put-with-spec = tie.close (tie.spec
     (λ c κs. search needs) (λ c κs. search needs) (λ c κs. search needs) (λ c κs. search needs) (λ c. search needs) returns
     (λ c κs. search needs) (λ c κs. search needs) (λ c κs. search needs) (λ c. search needs) returns-2
     (λ c κs. search needs) (λ c κs. search needs) (λ c. search needs) returns-3)

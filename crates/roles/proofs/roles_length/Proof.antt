@@ -15,13 +15,22 @@ returns : tie.Need-returns
 returns c =
     let second = c .before in
     let first = second .before .before in (
-      rw (joined-both _ _ _ _ (first .first-role .ensures) (second .second-role .ensures), length-append, ← c .place-length2 .ensures .0, ← second .before .place-length .ensures .0),
+      rw (
+        joined-both _ _ _ _ (first .first-role .ensures) (second .second-role .ensures),
+        length-append,
+        ← c .place-length2 .ensures .0,
+        ← second .before .place-length .ensures .0,
+      ),
       omega (arith, first-short first, second-short second, c .place-length2 .ensures .1, second .before .place-length .ensures .1),
     )
 
 pub roles-length-spec : {M : Type 1} → statement M
-roles-length-spec =
-    tie.close
-    (tie.spec
+roles-length-spec = tie.close (tie.spec
     (λ c κs. search needs) (λ c κs. search needs) (λ c κs. search needs) (λ c κs. search needs)
-    (λ c. omega (arith, first-short (c .before .before .before), second-short (c .before), c .place-length2 .ensures .1, c .before .before .place-length .ensures .1)) returns)
+    (λ c. omega (
+      arith,
+      first-short (c .before .before .before),
+      second-short (c .before),
+      c .place-length2 .ensures .1,
+      c .before .before .place-length .ensures .1,
+    )) returns)

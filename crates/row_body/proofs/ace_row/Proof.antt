@@ -14,7 +14,8 @@ opened b x y l e f =
     let front = b ++ (0 ∷ 0 ∷ 0 ∷ 0 ∷ []) in
     let long : length front ≡ 32 = rw (length-append, l) in
     let is : x ≡ front ++ (0 ∷ 0 ∷ 0 ∷ 0 ∷ []) = e ∙ sym (append-assoc b (0 ∷ 0 ∷ 0 ∷ 0 ∷ []) (0 ∷ 0 ∷ 0 ∷ 0 ∷ [])) in
-    let over : take 32 (front ++ (0 ∷ 0 ∷ 0 ∷ 0 ∷ [])) ++ (replicate 4 255 ++ drop 4 (drop 32 (front ++ (0 ∷ 0 ∷ 0 ∷ 0 ∷ [])))) ≡ front ++ (255 ∷ 255 ∷ 255 ∷ 255 ∷ []) =
+    let over : take 32 (front ++ (0 ∷ 0 ∷ 0 ∷ 0 ∷ [])) ++ (replicate 4 255 ++ drop 4 (drop 32 (front ++ (0 ∷ 0 ∷ 0 ∷ 0 ∷ []))))
+    ≡ front ++ (255 ∷ 255 ∷ 255 ∷ 255 ∷ []) =
     rw (take-at front (0 ∷ 0 ∷ 0 ∷ 0 ∷ []) 32 long, drop-at front (0 ∷ 0 ∷ 0 ∷ 0 ∷ []) 32 long) in
     f ∙ ap (λ (r : List ℕ). take 32 r ++ (replicate 4 255 ++ drop 4 (drop 32 r))) is
     ∙ over
@@ -39,16 +40,15 @@ returns-2 c =
     let call = c .before in
     let body = call .before .before .before .before in
     let at = body .before .before in
-    simp (at .match .keys2) (opened (now (at .before .before .args .b)) (body .put-row2 .last .0) (call .put-row3 .last .0) (at .match .keys2) (body .put-row2 .ensures) (call .put-row3 .ensures))
+    simp (at .match .keys2) (opened (now (at .before .before .args .b)) (body .put-row2 .last .0) (call .put-row3 .last .0)
+    (at .match .keys2) (body .put-row2 .ensures) (call .put-row3 .ensures))
 
 returns-3 : tie.Need-returns-3
 unfolding aceRowOf
 returns-3 c = simp (ne-eqb _ 36 (c .match .rest .0 .1), ne-eqb _ 28 (c .match .rest .1))
 
 pub ace-row-spec : {M : Type 1} → statement M
-ace-row-spec =
-    tie.close
-    (tie.spec
+ace-row-spec = tie.close (tie.spec
     (λ c. search needs) put-row-requires
     (λ c. search needs) put-row-requires-2
     (λ c. search needs) (λ c. search needs) (λ c κs. search needs) returns

@@ -45,16 +45,15 @@ unfolding credRowOf
 returns-2 c =
     let call = c .before .before in
     let at = call .before .before .before in
-    simp (at .match .keys2) (opened (now (at .before .before .args .b)) _ (call .put-row2 .last .0) (at .match .keys2) (call .before .part .ensures) (call .put-row2 .ensures))
+    simp (at .match .keys2) (opened (now (at .before .before .args .b)) _ (call .put-row2 .last .0)
+    (at .match .keys2) (call .before .part .ensures) (call .put-row2 .ensures))
 
 returns-3 : tie.Need-returns-3
 unfolding credRowOf
 returns-3 c = simp (ne-eqb _ 23 (c .match .rest .0 .1), ne-eqb _ 21 (c .match .rest .1))
 
 pub cred-row-spec : {M : Type 1} → statement M
-cred-row-spec =
-    tie.close
-    (tie.spec
+cred-row-spec = tie.close (tie.spec
     (λ c. search needs) put-row-requires
     (λ c. search needs) (λ c κs. search needs) put-row-requires-2
     (λ c. search needs) (λ c. search needs) returns

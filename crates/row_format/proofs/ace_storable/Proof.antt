@@ -31,9 +31,7 @@ returns-3 c =
     )
 
 pub ace-storable-spec : {M : Type 1} → statement M
-ace-storable-spec =
-    tie.close
-    (tie.spec
+ace-storable-spec = tie.close (tie.spec
     returns
     (λ c κs. search needs) returns-2
     (λ c κs. search needs) (λ c κs. search needs) (λ c κs. search needs) (λ c κs. search needs) (λ c κs. search needs) returns-3)

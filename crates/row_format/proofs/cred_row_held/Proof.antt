@@ -44,9 +44,7 @@ returns-2 c =
     )
 
 pub cred-row-held-spec : {M : Type 1} → statement M
-cred-row-held-spec =
-    tie.close
-    (tie.spec
+cred-row-held-spec = tie.close (tie.spec
     returns
     (λ c κs. search needs) (λ c κs. search needs) (λ c κs. search needs) (λ c κs. search needs) returns-2
     (λ c κs. search needs) (λ c. c .cred-held .ensures))

@@ -26,8 +26,7 @@ returns-2 c =
     )
 
 pub cred-storable-spec : {M : Type 1} → statement M
-cred-storable-spec =
-    tie.close
-    (tie.spec
+cred-storable-spec = tie.close (tie.spec
     returns
-    (λ c κs. search needs) (λ c κs. search needs) (λ c κs. search needs) (λ c κs. search needs) (λ c κs. search needs) (λ c κs. search needs) (λ c κs. search needs) returns-2)
+    (λ c κs. search needs) (λ c κs. search needs) (λ c κs. search needs) (λ c κs. search needs)
+    (λ c κs. search needs) (λ c κs. search needs) (λ c κs. search needs) returns-2)

@@ -37,9 +37,7 @@ returns-3 c =
     )
 
 pub roles-sound-spec : {M : Type 1} → statement M
-roles-sound-spec =
-    tie.close
-    (tie.spec
+roles-sound-spec = tie.close (tie.spec
     (λ c κs. search needs) (λ c κs. search needs) (λ c κs. search needs) returns
     (λ c κs. search needs) (λ c κs. search needs) (λ c. search needs) (λ c κs. search needs) returns-2
     (λ c κs. search needs) returns-3)

@@ -10,8 +10,6 @@ returns-2 : tie.Need-returns-2
 returns-2 c = rw (c .before .enum-told2 .given .1) (c .ace-storable .ensures)
 
 pub row-storable-spec : {M : Type 1} → statement M
-row-storable-spec =
-    tie.close
-    (tie.spec
+row-storable-spec = tie.close (tie.spec
     (λ c. search needs) (λ c κs. search needs) (λ c. search needs) (λ c κs. search needs) returns
     returns-2)

@@ -9,7 +9,4 @@ unfolding stateBody
 returns c = rw (c .target-zeros .ensures, c .before .target .ensures)
 
 pub state-body-spec : {M : Type 1} → statement M
-state-body-spec =
-    tie.close
-    (tie.spec
-    (λ c κs. search needs) (λ c κs. search needs) returns)
+state-body-spec = tie.close (tie.spec (λ c κs. search needs) (λ c κs. search needs) returns)

@@ -10,11 +10,27 @@ returns c = let at = c .before in rw (sym (at .before .kind .ensures) ∙ at .ma
 
 returns-2 : tie.Need-returns-2
 unfolding subjectStorable
-returns-2 c = let at = c .before .before .before in rw (sym (at .before .kind .ensures) ∙ at .match .keys2, c .role .ensures, c .before .short-zero .ensures, c .before .before .part .ensures, at .before .before .subject .ensures)
+returns-2 c =
+    let at = c .before .before .before in
+    rw (
+      sym (at .before .kind .ensures) ∙ at .match .keys2,
+      c .role .ensures,
+      c .before .short-zero .ensures,
+      c .before .before .part .ensures,
+      at .before .before .subject .ensures,
+    )
 
 returns-3 : tie.Need-returns-3
 unfolding subjectStorable
-returns-3 c = let at = c .before .before .before in rw (sym (at .before .kind .ensures) ∙ at .match .keys3, c .connection-zeros .ensures, c .before .short-zero2 .ensures, c .before .before .part2 .ensures, at .before .before .subject .ensures)
+returns-3 c =
+    let at = c .before .before .before in
+    rw (
+      sym (at .before .kind .ensures) ∙ at .match .keys3,
+      c .connection-zeros .ensures,
+      c .before .short-zero2 .ensures,
+      c .before .before .part2 .ensures,
+      at .before .before .subject .ensures,
+    )
 
 returns-4 : tie.Need-returns-4
 unfolding subjectStorable
@@ -24,10 +40,9 @@ returns-4 c =
     rw (ne-eqb _ 0 (λ e. none .0 .0 .1 (is ∙ e)), ne-eqb _ 1 (λ e. none .0 .1 (is ∙ e)), ne-eqb _ 2 (λ e. none .1 (is ∙ e)))
 
 pub subject-storable-spec : {M : Type 1} → statement M
-subject-storable-spec =
-    tie.close
-    (tie.spec
-    (λ c κs. search needs) (λ c κs. search needs) (λ c κs. search needs) (λ c κs. search needs) (λ c κs. search needs) (λ c κs. search needs) (λ c κs. search needs) (λ c κs. search needs) (λ c κs. search needs) returns
+subject-storable-spec = tie.close (tie.spec
+    (λ c κs. search needs) (λ c κs. search needs) (λ c κs. search needs) (λ c κs. search needs) (λ c κs. search needs)
+    (λ c κs. search needs) (λ c κs. search needs) (λ c κs. search needs) (λ c κs. search needs) returns
     returns-2
     returns-3
     returns-4)

@@ -25,7 +25,8 @@ tables s = tablesOf (s .args .h) (now (s .args .creds)) (now (s .args .aces))
 abbrev start : tie.After-first → tie.Start
 start c = c .before .before .before .before
 
-found : (c : tie.After-first) → let a = start c .args in placeFrom 0 (hasKey (a .at) (now (a .key))) (rows (a .table) (tables (start c))) ≡ At (c .first .given .0 .0)
+found : (c : tie.After-first)
+    → let a = start c .args in placeFrom 0 (hasKey (a .at) (now (a .key))) (rows (a .table) (tables (start c))) ≡ At (c .first .given .0 .0)
 found c = sym (c .before .before .place .ensures) ∙ c .first .given .1
 
 returns : tie.Need-returns
@@ -35,15 +36,20 @@ returns c =
     rw (some-place 0 _ _ ∙ ap isAt (sym (told .before .before .place .ensures) ∙ told .enum-told .given .1)) (c .none .ensures)
 
 sub-many : tie.Need-sub-t10
-sub-many c = let s = start (c .before .before) in omega (arith, c .held-of .ensures, before-is _ _ _ (found (c .before .before)), before-all (hasKey (s .args .at) (now (s .args .key))) (rows (s .args .table) (tables s)))
+sub-many c =
+    let s = start (c .before .before) in
+    omega (
+      arith,
+      c .held-of .ensures,
+      before-is _ _ _ (found (c .before .before)),
+      before-all (hasKey (s .args .at) (now (s .args .key))) (rows (s .args .table) (tables s)),
+    )
 
 returns-2 : tie.Need-returns-2
 returns-2 c = gap-is _ _ _ _ (found (c .before .before)) (c .held-of .ensures)
 
 pub gap-spec : {M : Type 1} → statement M
-gap-spec =
-    tie.close
-    (tie.spec
+gap-spec = tie.close (tie.spec
     (λ c κs. search needs) (λ c. search needs) (λ c. search needs) (λ c κs. search needs) returns
     (λ c κs. search needs) sub-many
     returns-2)

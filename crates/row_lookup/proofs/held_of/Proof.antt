@@ -15,8 +15,6 @@ unfolding rowsIn
 returns-2 c = rw (c .before .enum-told2 .given .1) (c .held2 .ensures ∙ sym (length-rowsOf _ _ _))
 
 pub held-of-spec : {M : Type 1} → statement M
-held-of-spec =
-    tie.close
-    (tie.spec
+held-of-spec = tie.close (tie.spec
     (λ c. search needs) (λ c κs. search needs) (λ c. search needs) (λ c κs. search needs) returns
     returns-2)

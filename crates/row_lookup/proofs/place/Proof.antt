@@ -31,9 +31,7 @@ returns-2 c =
     rw (told .before .enum-told2 .given .1, ← told .held2 .ensures) (c .find2 .ensures)
 
 pub place-spec : {M : Type 1} → statement M
-place-spec =
-    tie.close
-    (tie.spec
+place-spec = tie.close (tie.spec
     (λ c. search needs) (λ c κs. search needs) find-requires
     (λ c. search needs) (λ c κs. search needs) find-requires-2
     returns

@@ -19,8 +19,6 @@ returns-2 : tie.Need-returns-2
 returns-2 c = rw (c .before .before .before .a .given .1, ← c .before .body-of .ensures) (c .gap .ensures)
 
 pub places-of-spec : {M : Type 1} → statement M
-places-of-spec =
-    tie.close
-    (tie.spec
+places-of-spec = tie.close (tie.spec
     (λ c. search needs) (λ c κs. search needs) returns
     (λ c κs. search needs) (λ c κs. search needs) returns-2)

@@ -45,9 +45,7 @@ returns : tie.Need-returns Inv-loop μ-loop
 returns c = let l = c .before .loop in sym (l .inv ∙ end _ _ _ _ (c .before .before .pre) (l .any) (l .i) (c .loop-test .left))
 
 pub any-of-four-spec : {M : Type 1} → statement M
-any-of-four-spec =
-    tie.close
-    (tie.spec
+any-of-four-spec = tie.close (tie.spec
     Inv-loop
     μ-loop
     (λ c. refl)

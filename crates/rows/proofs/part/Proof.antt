@@ -21,9 +21,7 @@ returns-3 : tie.Need-returns-3
 returns-3 c = rw add-sub-cancel-left
 
 pub part-spec : {M : Type 1} → statement M
-part-spec =
-    tie.close
-    (tie.spec
+part-spec = tie.close (tie.spec
     (λ c. search needs) returns
     (λ c. search needs) (λ c. search needs) (λ c. search needs) (λ c. search needs) returns-2
     (λ c. search needs) (λ c. search needs) (λ c. search needs) (λ c. search needs) returns-3)

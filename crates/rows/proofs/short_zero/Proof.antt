@@ -28,12 +28,11 @@ returns-3 : tie.Need-returns-3
 returns-3 c =
     let test = c .before in
     let start = test .before .before .before in
-    c .any-from3 .ensures ∙ sym (in-runs _ ∙ rw (sym (first (start .before)) ∙ not-false _ (start .if1 .left), sym (second (test .before)) ∙ not-false _ (test .if2 .left)))
+    c .any-from3 .ensures
+    ∙ sym (in-runs _ ∙ rw (sym (first (start .before)) ∙ not-false _ (start .if1 .left), sym (second (test .before)) ∙ not-false _ (test .if2 .left)))
 
 pub short-zero-spec : {M : Type 1} → statement M
-short-zero-spec =
-    tie.close
-    (tie.spec
+short-zero-spec = tie.close (tie.spec
     (λ c κs. search needs) (λ c κs. search needs) returns
     (λ c κs. search needs) (λ c κs. search needs) returns-2
     (λ c κs. search needs) returns-3)

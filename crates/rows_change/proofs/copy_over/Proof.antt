@@ -51,9 +51,7 @@ returns : tie.Need-returns Inv-loop μ-loop
 returns c = end _ _ _ _ (c .before .loop .inv) (c .loop-test .left)
 
 pub copy-over-spec : {M : Type 1} → statement M
-copy-over-spec =
-    tie.close
-    (tie.spec
+copy-over-spec = tie.close (tie.spec
     Inv-loop
     μ-loop
     loop-holds

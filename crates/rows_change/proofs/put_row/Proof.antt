@@ -35,9 +35,7 @@ returns c =
     lent _ _ _ _ _ (c .before .before .before .before .before .before .pre .0) (c .before .before .copy-over .ensures)
 
 pub put-row-spec : {M : Type 1} → statement M
-put-row-spec =
-    tie.close
-    (tie.spec
+put-row-spec = tie.close (tie.spec
     mul-at
     sub-copy-over
     part-copy-over-start

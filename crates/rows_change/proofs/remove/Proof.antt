@@ -37,7 +37,8 @@ loop-again c =
     let call = c .before .before .remove-row in
     let test = c .before .before .before .before in
     let turn = test .before .before .before in
-    gone _ _ _ _ _ _ _ (turn .before .loop .inv) (turn .loop-test .taken) _ (call .ensures) (call .kept .0) (sym (test .before .row-has .ensures) ∙ test .if1 .taken)
+    gone _ _ _ _ _ _ _ (turn .before .loop .inv) (turn .loop-test .taken) _ (call .ensures)
+    (call .kept .0) (sym (test .before .row-has .ensures) ∙ test .if1 .taken)
 
 add-i : tie.Need-add-i Inv-loop μ-loop
 add-i c = search needs
@@ -57,9 +58,7 @@ returns : tie.Need-returns Inv-loop μ-loop
 returns c = end _ _ _ _ _ _ _ (c .before .loop .inv) (c .loop-test .left)
 
 pub remove-spec : {M : Type 1} → statement M
-remove-spec =
-    tie.close
-    (tie.spec
+remove-spec = tie.close (tie.spec
     Inv-loop
     μ-loop
     loop-holds

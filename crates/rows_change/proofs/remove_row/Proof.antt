@@ -34,9 +34,7 @@ returns : tie.Need-returns
 returns c = lent _ _ _ _ (c .before .before .shift-down .ensures)
 
 pub remove-row-spec : {M : Type 1} → statement M
-remove-row-spec =
-    tie.close
-    (tie.spec
+remove-row-spec = tie.close (tie.spec
     mul-at
     sub-shift-down
     part-shift-down-start

@@ -92,9 +92,7 @@ returns c =
     end _ _ _ _ _ (after .before .loop .inv) (after .loop-test .left) _ (c .before .before .clear .ensures)
 
 pub shift-down-spec : {M : Type 1} → statement M
-shift-down-spec =
-    tie.close
-    (tie.spec
+shift-down-spec = tie.close (tie.spec
     Inv-loop
     μ-loop
     sub-kept

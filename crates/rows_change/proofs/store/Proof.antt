@@ -52,7 +52,12 @@ add-result c =
     let at = c .before .before .before .before in
     let s = start (at .before .before) in
     let two : 2 ≤ s .args .stride = s .pre .0 .numbered in
-    omega (arith, le-mul-of-pos-right {m = s .args .stride} (s .args .count) (omega arith), end-inside _ _ _ _ (s .pre .0) (missing at) (s .pre .1 .1), s .good .0 .0)
+    omega (
+      arith,
+      le-mul-of-pos-right {m = s .args .stride} (s .args .count) (omega arith),
+      end-inside _ _ _ _ (s .pre .0) (missing at) (s .pre .1 .1),
+      s .good .0 .0,
+    )
 
 returns : tie.Need-returns
 returns c =
@@ -67,9 +72,7 @@ returns-2 c =
     stored-end _ _ _ _ (start (at .before .before) .pre .0) (missing at) _ (call .ensures) (call .kept .0)
 
 pub store-spec : {M : Type 1} → statement M
-store-spec =
-    tie.close
-    (tie.spec
+store-spec = tie.close (tie.spec
     slice-aggregate-find
     find-requires
     (λ c. search needs) put-row-requires

@@ -32,9 +32,7 @@ returns-3 : tie.Need-returns-3
 returns-3 c = sym (ap isAt (c .enum-told2 .given .1)) ∙ told (c .before .before)
 
 pub again-spec : {M : Type 1} → statement M
-again-spec =
-    tie.close
-    (tie.spec
+again-spec = tie.close (tie.spec
     returns
     (λ c. search needs) (λ c κs. search needs) (λ c κs. search needs) (λ c. search needs) returns-2
     (λ c. search needs) returns-3)

@@ -64,9 +64,7 @@ returns-2 : tie.Need-returns-2 Inv-loop μ-loop
 returns-2 c = seen-end _ _ _ _ _ (c .before .loop .inv) (c .loop-test .left)
 
 pub before-repeat-spec : {M : Type 1} → statement M
-before-repeat-spec =
-    tie.close
-    (tie.spec
+before-repeat-spec = tie.close (tie.spec
     Inv-loop
     μ-loop
     loop-holds

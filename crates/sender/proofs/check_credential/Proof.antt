@@ -1,5 +1,6 @@
 -- `check_credential`: a partner has a row exactly where the bytes that were found are some.
-use Rattle.rows.proofs.Prelude.{_≡_, refl, sym, ap, _∙_, Bool, true, false, not, arith, length, eqb, needs}
+use Rattle.rows.proofs.Prelude.{_≡_, refl, sym, ap, _∙_, false, not, arith, length, eqb, needs}
+use mathlib.Core.Bool.{Bool·not-not}
 use Rattle.rows.specs.Rows.{Row}
 use Rattle.rules.specs.declared.Tables.{Tables}
 use Rattle.rules.specs.declared.Table.the-variants.{Creds}
@@ -11,13 +12,9 @@ use Rattle.sender.specs.Own.{Own}
 use Rattle.sender.proofs.check_credential.Statement.{statement}
 use Rattle.sender.proofs.check_credential.Tie as tie
 
-not-not : (b : Bool) → not (not b) ≡ b
-not-not true = refl
-not-not false = refl
-
 no-row : (t : Tables) (s : Sender) (w : Row) → Own (rows Creds t) s w → connectionOf s ≡ 1 → eqb (length w) 0 ≡ noRow t s
 no-row t unauthenticated w o e = absurd (omega (arith, e))
-no-row t (partner n) w o e = sym (ap not (o .found n refl) ∙ not-not (eqb (length w) 0))
+no-row t (partner n) w o e = sym (ap not (o .found n refl) ∙ Bool·not-not (eqb (length w) 0))
 
 no-partner : (t : Tables) (s : Sender) → (connectionOf s ≡ 1 → ⊥) → noRow t s ≡ false
 no-partner t unauthenticated e = refl
@@ -35,8 +32,4 @@ returns-2 c =
     c .refuse-if .ensures ∙ ap (refuseIf 7) (no-row _ (sender _) _ (s .pre) (sym (test .before .sender-connection .ensures) ∙ test .if1 .left))
 
 pub check-credential-spec : {M : Type 1} → statement M
-check-credential-spec =
-    tie.close
-    (tie.spec
-    (λ c κs. search needs) returns
-    (λ c κs. search needs) returns-2)
+check-credential-spec = tie.close (tie.spec (λ c κs. search needs) returns (λ c κs. search needs) returns-2)

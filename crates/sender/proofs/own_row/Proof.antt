@@ -61,12 +61,11 @@ returns-3 c =
     let bytes = call .before .before .shared-slice-known .given in
     let l : length creds ≡ 936 = search needs in
     let fits : AllLong 39 (rowsOf 39 (held .held .result) creds) = long-rowsOf 39 (held .held .result) creds (omega (arith, held .held .ensures)) in
-    partner-row _ _ _ (rw (held .held .ensures) at fits) (call .before .if1 .left) (sym (call .connection-of .ensures) ∙ test .if2 .left) (bytes 2 .fits) (bytes 3 .fits) (rw (held .held .ensures) at (c .row-with .ensures))
+    partner-row _ _ _ (rw (held .held .ensures) at fits) (call .before .if1 .left) (sym (call .connection-of .ensures) ∙ test .if2 .left)
+    (bytes 2 .fits) (bytes 3 .fits) (rw (held .held .ensures) at (c .row-with .ensures))
 
 pub own-row-spec : {M : Type 1} → statement M
-own-row-spec =
-    tie.close
-    (tie.spec
+own-row-spec = tie.close (tie.spec
     (λ c κs. search needs) returns
     (λ c κs. search needs) (λ c κs. search needs) returns-2
     (λ c κs. search needs) (λ c. search needs) (λ c. search needs) (λ c. search needs) row-with-requires returns-3)

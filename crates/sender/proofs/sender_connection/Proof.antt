@@ -7,9 +7,7 @@ use Rattle.sender.proofs.sender_connection.Statement.{statement}
 use Rattle.sender.proofs.sender_connection.Tie as tie
 
 pub sender-connection-spec : {M : Type 1} → statement M
-sender-connection-spec =
-    tie.close
-    (tie.spec
+sender-connection-spec = tie.close (tie.spec
     (λ c. sym (ap connectionOf (sender-short _ (c .if1 .taken))))
     (λ c κs. search needs)
     (λ c. c .connection-of .ensures ∙ connection-is _ (c .before .if1 .left)))

@@ -8,7 +8,18 @@ returns : tie.Need-returns
 returns c =
     let a = c .before .before .before .before .before .before .before .args in
     let j = a .j in
-    ap (λ (n : ℕ). record { answer = j .answer; permission = j .permission; start = n; length = a .length; reply = j .reply; first = j .places .first; many = j .places .many; set = j .links .set; size = j .links .size; tables = tablesOf (j .head) (a .creds) (a .aces) })
+    ap (λ (n : ℕ). record {
+      answer = j .answer;
+      permission = j .permission;
+      start = n;
+      length = a .length;
+      reply = j .reply;
+      first = j .places .first;
+      many = j .places .many;
+      set = j .links .set;
+      size = j .links .size;
+      tables = tablesOf (j .head) (a .creds) (a .aces);
+    })
     (c .before .start-of .ensures)
 
 pub export-spec : {M : Type 1} → statement M

@@ -25,10 +25,10 @@ returns c =
     let head = call .before .before .before .before .before in
     let s = head .before .before in
     let gives = hands-whole (s .args .t1) (now (s .args .memory)) _ (head .head .ensures) _ _ _ (call .hand-in .ensures) in
-    record { gives = kept (terminal (s .args .t1) (now (s .args .memory))) (now (s .args .«record»)) _ _ (gives .says) (c .export .ensures); keeps = gives .keeps }
+    record {
+      gives = kept (terminal (s .args .t1) (now (s .args .memory))) (now (s .args .«record»)) _ _ (gives .says) (c .export .ensures);
+      keeps = gives .keeps;
+    }
 
 pub tillerclover-hand-in-spec : {M : Type 1} → statement M
-tillerclover-hand-in-spec =
-    tie.close
-    (tie.spec
-    (λ c κs. search needs) (λ c κs. search needs) (λ c κs. search needs) returns)
+tillerclover-hand-in-spec = tie.close (tie.spec (λ c κs. search needs) (λ c κs. search needs) (λ c κs. search needs) returns)

@@ -26,7 +26,5 @@ returns c =
     record { gives = told _ _ _ _ _ _ (gives .says) (payload .payload .ensures) (c .export .ensures); leaves = gives .leaves }
 
 pub tillerclover-judge-spec : {M : Type 1} → statement M
-tillerclover-judge-spec =
-    tie.close
-    (tie.spec
+tillerclover-judge-spec = tie.close (tie.spec
     (λ c κs. search needs) (λ c κs. search needs) (λ c κs. search needs) (λ c κs. search needs) (λ c. search needs) returns)

@@ -22,7 +22,8 @@ start c = headed c .before .before .before .before .before .before
 abbrev answer : tie.After-take → Answered
 answer c =
     let s = start c in
-    taken (defaults (now (s .args .creds)) (now (s .args .aces))) (terminal (s .args .t) (now (s .args .memory))) (s .args .clock) (length (now (s .args .reply)))
+    taken (defaults (now (s .args .creds)) (now (s .args .aces)))
+    (terminal (s .args .t) (now (s .args .memory))) (s .args .clock) (length (now (s .args .reply)))
 
 -- the record in the bytes handed out
 module _ (a : Answered) (u : HandedOut) (is : u ≡ handedOut a) where
@@ -42,7 +43,8 @@ told : (d : Defaults) (x : Terminal) (clock room : ℕ) (u : HandedOut) (p : Lis
     → record { outcome = o; size = u .size; bytes = u .bytes } ≡ turnOf (taken d x clock room)
 told d x clock room u p o e f g =
     let a = taken d x clock room in
-    let payload : p ≡ a .told .payload = f ∙ ap₂ (λ (v : HandedOut) (r : List ℕ). payloadAt (v .judgement .answer) r) e (prefix-is a u e) ∙ taken-payload d x clock room in
+    let payload : p ≡ a .told .payload =
+    f ∙ ap₂ (λ (v : HandedOut) (r : List ℕ). payloadAt (v .judgement .answer) r) e (prefix-is a u e) ∙ taken-payload d x clock room in
     let out : o ≡ exported a = g ∙ ap₂ (λ (v : HandedOut) (r : List ℕ). outcomeIn (v .judgement) (length r)) e payload in
     ap₂ (λ (v : HandedOut) (z : Outcome). record { outcome = z; size = v .size; bytes = v .bytes }) e out
 
@@ -51,7 +53,8 @@ abbrev out-of : tie.After-take → HandedOut
 out-of c = takenOf (c .take .result) (c .take .last .1 .0) (c .take .last .1 .1 .0)
 
 gives : (c : tie.After-take) → let s = start c in
-    Takes (defaults (now (s .args .creds)) (now (s .args .aces))) (terminal (s .args .t) (now (s .args .memory))) (s .args .clock) (length (now (s .args .reply))) (out-of c) (now (s .args .reply)) (c .take .last .1 .1 .1 .0) (c .take .last .1 .1 .1 .1 .1 .1 .1 .0)
+    Takes (defaults (now (s .args .creds)) (now (s .args .aces))) (terminal (s .args .t) (now (s .args .memory))) (s .args .clock)
+    (length (now (s .args .reply))) (out-of c) (now (s .args .reply)) (c .take .last .1 .1 .1 .0) (c .take .last .1 .1 .1 .1 .1 .1 .1 .0)
 gives c = let s = start c in takes-whole (s .args .t) (now (s .args .memory)) _ (headed c .head .ensures) _ _ _ _ _ _ _ (c .take .ensures)
 
 array-share-prefix-bytes : tie.Need-array-share-prefix-bytes
@@ -67,8 +70,6 @@ returns c =
     record { gives = told _ _ _ _ (out-of call) _ _ (gives call .hands) (payload .payload .ensures) (c .export .ensures); leaves = gives call .leaves }
 
 pub tillerclover-take-spec : {M : Type 1} → statement M
-tillerclover-take-spec =
-    tie.close
-    (tie.spec
+tillerclover-take-spec = tie.close (tie.spec
     (λ c κs. search needs) (λ c κs. search needs) array-share-prefix-bytes slice-aggregate-payload
     (λ c κs. search needs) (λ c κs. search needs) (λ c. search needs) returns)

@@ -39,9 +39,7 @@ returns c =
     (drop-of-length-le (now (c .before .before .before .before .args .text)) {i = c .before .loop .i} (omega arith))
 
 pub put-spec : {M : Type 1} → statement M
-put-spec =
-    tie.close
-    (tie.spec
+put-spec = tie.close (tie.spec
     Inv-loop
     μ-loop
     loop-holds

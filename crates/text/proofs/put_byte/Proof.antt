@@ -16,9 +16,7 @@ returns-3 : tie.Need-returns-3
 returns-3 c = puts-past _ _ _ (omega arith) (omega arith)
 
 pub put-byte-spec : {M : Type 1} → statement M
-put-byte-spec =
-    tie.close
-    (tie.spec
+put-byte-spec = tie.close (tie.spec
     (λ c. search needs) (λ c. search needs) (λ c. search needs) returns
     (λ c. search needs) returns-2
     returns-3)

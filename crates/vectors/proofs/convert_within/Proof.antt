@@ -7,8 +7,6 @@ slice-aggregate-convert : tie.Need-slice-aggregate-convert
 slice-aggregate-convert c = let n = c .before in sym (length-take-le (n .smaller .result) _ (n .smaller .ensures))
 
 pub convert-within-spec : {M : Type 1} → statement M
-convert-within-spec =
-    tie.close
-    (tie.spec
+convert-within-spec = tie.close (tie.spec
     (λ c κs. search needs) (λ c. search needs) slice-aggregate-convert
     (λ c κs. search needs) (λ c. search needs) (λ c. search needs))

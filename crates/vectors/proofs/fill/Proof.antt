@@ -14,9 +14,7 @@ loop-again : tie.Need-loop-again Inv-loop μ-loop
 loop-again c = let l = c .before .before .before .loop in (search needs, length-set (l .out) (l .i) (c .byte-or .result) ∙ l .inv .1)
 
 pub fill-spec : {M : Type 1} → statement M
-fill-spec =
-    tie.close
-    (tie.spec
+fill-spec = tie.close (tie.spec
     Inv-loop
     μ-loop
     (λ c. search needs) (λ c. search needs) (λ c κs. search needs) (λ c. search needs) (λ c. search needs)

@@ -7,8 +7,6 @@ slice-aggregate-tillerclover-judge : tie.Need-slice-aggregate-tillerclover-judge
 slice-aggregate-tillerclover-judge c = let n = c .before .before in sym (length-take-le (n .smaller .result) _ (n .smaller .ensures))
 
 pub judge-within-spec : {M : Type 1} → statement M
-judge-within-spec =
-    tie.close
-    (tie.spec
+judge-within-spec = tie.close (tie.spec
     (λ c κs. search needs) (λ c. search needs) slice-aggregate-tillerclover-judge
     (λ c κs. search needs) (λ c. search needs) (λ c. search needs))

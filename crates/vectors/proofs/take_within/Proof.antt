@@ -7,8 +7,6 @@ slice-aggregate-tillerclover-take : tie.Need-slice-aggregate-tillerclover-take
 slice-aggregate-tillerclover-take c = let n = c .before .before in sym (length-take-le (n .smaller .result) _ (n .smaller .ensures))
 
 pub take-within-spec : {M : Type 1} → statement M
-take-within-spec =
-    tie.close
-    (tie.spec
+take-within-spec = tie.close (tie.spec
     (λ c κs. search needs) (λ c. search needs) slice-aggregate-tillerclover-take
     (λ c κs. search needs) (λ c. search needs) (λ c. search needs))

@@ -12,9 +12,7 @@ abbrev μ-loop : tie.MeasureT-loop
 μ-loop bytes p₀ rest₀ p rest = length rest
 
 pub walk-spec : {M : Type 1} → statement M
-walk-spec =
-    tie.close
-    (tie.spec
+walk-spec = tie.close (tie.spec
     Inv-loop
     μ-loop
     (λ c κs. search needs) (λ c. search needs)

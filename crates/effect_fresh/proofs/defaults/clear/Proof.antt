@@ -9,7 +9,4 @@ unfolding cleared
 returns c = c .fresh .ensures
 
 pub clear-spec : {M : Type 1} → statement M
-clear-spec =
-    tie.close
-    (tie.spec
-    (λ c κs. search needs) returns)
+clear-spec = tie.close (tie.spec (λ c κs. search needs) returns)

@@ -13,7 +13,5 @@ returns c =
     rw (creds .put-defaults .ensures .0 .0, creds .put-defaults .ensures .1, c .put-defaults2 .ensures .0 .0, c .put-defaults2 .ensures .1)
 
 pub fresh-in-spec : {M : Type 1} → statement M
-fresh-in-spec =
-    tie.close
-    (tie.spec
+fresh-in-spec = tie.close (tie.spec
     (λ c κs. search needs) (λ c κs. search needs) (λ c. search needs) (λ c. search needs) returns)

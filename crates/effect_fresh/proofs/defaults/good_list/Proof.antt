@@ -1,8 +1,8 @@
 -- `defaults::good_list`: the rows over the table of zeros are those of the list.
 use Rattle.rows.proofs.Prelude.{now, needs, le-leb, lt-leb}
 use Rattle.rules.specs.Defaults.{goodList}
-use Rattle.rules.proofs.BodyLaws.{two-long}
-use Rattle.effect_fresh.proofs.DefaultLaws.{positive, listed-fits, listed-rows, listed-length}
+use Rattle.rules.proofs.BodyLaws.{two-long, positive}
+use Rattle.effect_fresh.proofs.DefaultLaws.{listed-fits, listed-rows, listed-length}
 use Rattle.effect_fresh.proofs.defaults.good_list.Statement.{statement}
 use Rattle.effect_fresh.proofs.defaults.good_list.Tie as tie
 
@@ -21,7 +21,11 @@ distinct-requires c κs =
     let test = c .before .before in
     let s = test .before .before .before .before in
     let few = rw (test .before .longest-of .ensures) at (test .if1 .left) in
-    rw (c .stride-of .ensures, test .before .longest-of .ensures, listed-length (s .args .table) (now (s .args .list)) (now (s .args .rows)) few (s .pre)) (two-long (s .args .table), listed-fits (s .args .table) (now (s .args .list)) (now (s .args .rows)) few (s .pre))
+    rw (
+      c .stride-of .ensures,
+      test .before .longest-of .ensures,
+      listed-length (s .args .table) (now (s .args .list)) (now (s .args .rows)) few (s .pre),
+    ) (two-long (s .args .table), listed-fits (s .args .table) (now (s .args .list)) (now (s .args .rows)) few (s .pre))
 
 returns-2 : tie.Need-returns-2
 unfolding goodList
@@ -39,9 +43,7 @@ returns-2 c =
     )
 
 pub good-list-spec : {M : Type 1} → statement M
-good-list-spec =
-    tie.close
-    (tie.spec
+good-list-spec = tie.close (tie.spec
     (λ c κs. search needs) div-n
     returns
     rem-result

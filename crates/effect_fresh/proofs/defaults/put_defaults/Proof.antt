@@ -4,7 +4,8 @@ use Rattle.text.specs.Buffer.{written}
 use Rattle.rows.specs.Rows.{joined}
 use Rattle.rules.specs.Tables.{stride, capacity}
 use Rattle.rules.specs.Defaults.{listed}
-use Rattle.effect_fresh.proofs.DefaultLaws.{positive, good-few, good-table, good-count, bad-none, bad-table}
+use Rattle.rules.proofs.BodyLaws.{positive}
+use Rattle.effect_fresh.proofs.DefaultLaws.{good-few, good-table, good-count, bad-none, bad-table}
 use Rattle.effect_fresh.proofs.defaults.put_defaults.Statement.{statement}
 use Rattle.effect_fresh.proofs.defaults.put_defaults.Tie as tie
 
@@ -13,11 +14,13 @@ start c = c .before .before .before .before .before .before .before .before
 
 -- the rows stand over zeros
 over : (c : tie.After-put-listed)
-    → let s = start c in c .put-listed .last .1 .0 ≡ written (replicate (capacity (s .args .table) * stride (s .args .table)) 0) 0 (joined (listed (s .args .table) (now (s .args .list))))
+    → let s = start c in c .put-listed .last .1 .0
+    ≡ written (replicate (capacity (s .args .table) * stride (s .args .table)) 0) 0 (joined (listed (s .args .table) (now (s .args .list))))
 over c =
     let s = start c in
     c .put-listed .ensures .buffer
-    ∙ ap (λ (z : List ℕ). written z 0 (joined (listed (s .args .table) (now (s .args .list))))) (c .before .before .before .before .clear .ensures ∙ ap (λ (n : ℕ). replicate n 0) (s .pre))
+    ∙ ap (λ (z : List ℕ). written z 0 (joined (listed (s .args .table) (now (s .args .list)))))
+    (c .before .before .before .before .clear .ensures ∙ ap (λ (n : ℕ). replicate n 0) (s .pre))
 
 good-list-requires : tie.Need-good-list-requires
 good-list-requires c κs = over (c .before .before .before)
@@ -32,7 +35,10 @@ returns c =
     let s = start put in
     let table = s .args .table in
     let good = sym (call .good-list .ensures) ∙ c .before .if1 .taken in
-    rw (c .longest-of .ensures) ((good-count table (now (s .args .list)) good, good-few table (now (s .args .list)) good), good-table table (now (s .args .list)) _ good (over put))
+    rw (c .longest-of .ensures) (
+      (good-count table (now (s .args .list)) good, good-few table (now (s .args .list)) good),
+      good-table table (now (s .args .list)) _ good (over put),
+    )
 
 returns-2 : tie.Need-returns-2
 returns-2 c =
@@ -42,13 +48,12 @@ returns-2 c =
     let s = start put in
     let table = s .args .table in
     let bad = sym (call .good-list .ensures) ∙ wiped .before .before .if1 .left in
-    let zeros = wiped .clear2 .ensures ∙ ap (λ (n : ℕ). replicate n 0) (put .put-listed .kept .1 .0 ∙ put .before .before .before .before .clear .kept .0 ∙ s .pre) in
+    let zeros = wiped .clear2 .ensures
+    ∙ ap (λ (n : ℕ). replicate n 0) (put .put-listed .kept .1 .0 ∙ put .before .before .before .before .clear .kept .0 ∙ s .pre) in
     ((ap length (sym (bad-none table (now (s .args .list)) bad)), omega arith), bad-table table (now (s .args .list)) _ bad zeros)
 
 pub put-defaults-spec : {M : Type 1} → statement M
-put-defaults-spec =
-    tie.close
-    (tie.spec
+put-defaults-spec = tie.close (tie.spec
     (λ c κs. search needs) (λ c κs. search needs) good-list-requires
     (λ c κs. search needs) div-result
     (λ c. search needs) returns

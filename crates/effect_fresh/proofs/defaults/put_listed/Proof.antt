@@ -3,7 +3,8 @@ use Rattle.rows.proofs.Prelude.{_*_, _/_, _≤_, arith, length, now, needs}
 use native.Mathlib.Nat.{div-add-mod'}
 use Rattle.text.proofs.Buffers.{Writing, writing-start, writing-step, writing-end, writing-length}
 use Rattle.rows.proofs.Laws.{a-row, next-room}
-use Rattle.effect_fresh.proofs.DefaultLaws.{positive, rowsFrom, from-take, from-end}
+use Rattle.rules.proofs.BodyLaws.{positive}
+use Rattle.effect_fresh.proofs.DefaultLaws.{rowsFrom, from-take, from-end}
 use Rattle.effect_fresh.proofs.defaults.put_listed.Statement.{statement}
 use Rattle.effect_fresh.proofs.defaults.put_listed.Tie as tie
 
@@ -40,7 +41,9 @@ loop-again c =
     let l = turn .before .loop in
     let long = turn .before .before .longest-of .result in (
       next-room long (l .left) (l .rest .now) (turn .loop-test .taken) (l .inv .0),
-      writing-step _ _ (l .inv .1) (from-take (turn .before .before .before .before .before .args .table) long (l .left) (l .rest .now) (turn .loop-test .taken)) (rw (row .part .ensures) at (put .put-listed-row .ensures)),
+      writing-step _ _ (l .inv .1)
+          (from-take (turn .before .before .before .before .before .args .table) long (l .left) (l .rest .now) (turn .loop-test .taken))
+          (rw (row .part .ensures) at (put .put-listed-row .ensures)),
     )
 
 same-length : tie.Need-same-length Inv-loop μ-loop
@@ -54,9 +57,7 @@ returns c =
     rw (← made .longest-of .ensures) (writing-end (l .inv .1) (from-end table (made .longest-of .result) (l .left) (l .rest .now) (c .loop-test .left)))
 
 pub put-listed-spec : {M : Type 1} → statement M
-put-listed-spec =
-    tie.close
-    (tie.spec
+put-listed-spec = tie.close (tie.spec
     Inv-loop
     μ-loop
     (λ c κs. search needs) div-left

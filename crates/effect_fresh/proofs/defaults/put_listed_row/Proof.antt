@@ -8,7 +8,8 @@ use Rattle.effect_fresh.proofs.defaults.put_listed_row.Statement.{state
 use Rattle.effect_fresh.proofs.defaults.put_listed_row.Tie as tie
 
 sub-more : tie.Need-sub-more
-sub-more c = rw (c .longest-of .ensures, c .before .stride-of .ensures) (body-within (c .before .before .before .before .before .before .before .before .args .table))
+sub-more c =
+    rw (c .longest-of .ensures, c .before .stride-of .ensures) (body-within (c .before .before .before .before .before .before .before .before .args .table))
 
 bound : (c : tie.After-slice-known) → length (now (c .before .args .out)) ≤ largest
 bound c = omega arith
@@ -20,12 +21,12 @@ returns c =
     let sizes = zeros .before .before .before in
     let first = sizes .before .before .before .before in
     let table = first .before .before .before .before .args .table in
-    let none = zeros .part .ensures ∙ ap₂ (λ (m n : ℕ). take (m - n) (replicate 16 0)) (sizes .before .stride-of .ensures) (sizes .longest-of .ensures) ∙ zeros-part table in
+    let none = zeros .part .ensures
+    ∙ ap₂ (λ (m n : ℕ). take (m - n) (replicate 16 0)) (sizes .before .stride-of .ensures) (sizes .longest-of .ensures)
+    ∙ zeros-part table in
     rw (row-from table, ← none) (puts-then (bound (first .before .before .before)) (first .put .ensures) (last .put2 .ensures))
 
 pub put-listed-row-spec : {M : Type 1} → statement M
-put-listed-row-spec =
-    tie.close
-    (tie.spec
+put-listed-row-spec = tie.close (tie.spec
     (λ c κs. search needs) (λ c κs. search needs) (λ c κs. search needs) sub-more
     (λ c. search needs) (λ c κs. search needs) (λ c κs. search needs) (λ c. search needs) returns)

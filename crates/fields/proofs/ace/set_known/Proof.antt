@@ -12,7 +12,8 @@ use Rattle.fields.proofs.ace.set_known.Tie as tie
 -- a number of two bytes is 0 where they are
 zero-pair : (x y : ℕ) → eqb (x * 256 + y) 0 ≡ (eqb x 0 && eqb y 0)
 zero-pair zero y = ap (λ (n : ℕ). eqb n 0) (zero-add y)
-zero-pair (suc x) y = ne-eqb (suc x * 256 + y) 0 (λ e. absurd (omega arith)) ∙ ap (λ (t : Bool). t && eqb y 0) (sym (ne-eqb (suc x) 0 (λ e. absurd (omega arith))))
+zero-pair (suc x) y =
+    ne-eqb (suc x * 256 + y) 0 (λ e. absurd (omega arith)) ∙ ap (λ (t : Bool). t && eqb y 0) (sym (ne-eqb (suc x) 0 (λ e. absurd (omega arith))))
 
 -- the last bits of a byte
 last-bits : (r : List ℕ) (b a : ℕ) → b ≡ getD r a 0 → (bits r (8 * a + 5) 3 ≡ b % 8) × (bits r (8 * a + 7) 1 ≡ b % 2) × (bits r (8 * a + 1) 7 ≡ b % 128)
@@ -31,7 +32,8 @@ module _ (r : List ℕ) (b4 b5 b6 b7 b8 b9 b10 b11 : ℕ) where
       → b4 ≡ getD r 4 0 → b5 ≡ getD r 5 0 → b6 ≡ getD r 6 0 → b7 ≡ getD r 7 0 → b8 ≡ getD r 8 0 → b9 ≡ getD r 9 0 → b10 ≡ getD r 10 0 → b11 ≡ getD r 11 0
       → eqb (bitOr (bitOr (bitOr (bitOr (b4 % 8) (b5 % 2)) (bitOr (b6 % 128) b7)) (bitOr b8 b9)) (bitOr b10 b11)) 0 ≡ setKnown r 64
   by-bytes h7 h8 h9 h10 h11 e4 e5 e6 e7 e8 e9 e10 e11 =
-      let fifteen : bits r 49 15 ≡ b6 % 128 * 256 + b7 = bits-split r 49 7 8 ∙ ap₂ (λ (p q : ℕ). p * 256 + q) (last-bits r b6 6 e6 .2) (bits-byte r 7 (omega (arith, e7)) ∙ sym e7) in
+      let fifteen : bits r 49 15 ≡ b6 % 128 * 256 + b7 =
+      bits-split r 49 7 8 ∙ ap₂ (λ (p q : ℕ). p * 256 + q) (last-bits r b6 6 e6 .2) (bits-byte r 7 (omega (arith, e7)) ∙ sym e7) in
       rw (
         zero-both,
         zero-both,
@@ -62,8 +64,6 @@ returns c =
     (p5 .byte-at5 .ensures) (p6 .byte-at6 .ensures) (p7 .byte-at7 .ensures) (c .byte-at8 .ensures)
 
 pub set-known-spec : {M : Type 1} → statement M
-set-known-spec =
-    tie.close
-    (tie.spec
+set-known-spec = tie.close (tie.spec
     (λ c κs. search needs) (λ c κs. search needs) (λ c κs. search needs) (λ c κs. search needs)
     (λ c κs. search needs) (λ c κs. search needs) (λ c κs. search needs) (λ c κs. search needs) returns)

@@ -12,7 +12,5 @@ returns : tie.Need-returns
 returns c = halves _ _ _ _ (c .before .field .ensures) (c .field2 .ensures)
 
 pub double-field-spec : {M : Type 1} → statement M
-double-field-spec =
-    tie.close
-    (tie.spec
+double-field-spec = tie.close (tie.spec
     (λ c κs. search needs) (λ c. search needs) (λ c κs. search needs) (λ c. search needs) (λ c. search needs) (λ c. search needs) (λ c. search needs) returns)

@@ -17,9 +17,7 @@ module _ (r : List ℕ) (start width three size : ℕ) (w : width ≤ 16) (t : t
   small = rw is (bits-below r start width 16 w)
 
 pub field-spec : {M : Type 1} → statement M
-field-spec =
-    tie.close
-    (tie.spec
+field-spec = tie.close (tie.spec
     (λ c κs. search needs) (λ c. search needs) (λ c. search needs) (λ c κs. search needs) (λ c. search needs) (λ c. search needs)
     (λ c. rw (c .power .ensures) (pow-pos _))
     (λ c. omega (arith, small _ _ _ _ _ (c .before .before .before .pre .1) (c .before .three-at .ensures) (c .power .ensures)))

@@ -12,11 +12,10 @@ number r i a b c x y z e f g =
     omega (arith, n, e, f, g)
 
 returns : tie.Need-returns
-returns c = number _ _ _ _ _ (search needs) (search needs) (search needs) (c .before .before .byte-at .ensures) (c .before .byte-at2 .ensures) (c .byte-at3 .ensures)
+returns c =
+    number _ _ _ _ _ (search needs) (search needs) (search needs) (c .before .before .byte-at .ensures) (c .before .byte-at2 .ensures) (c .byte-at3 .ensures)
 
 pub three-at-spec : {M : Type 1} → statement M
-three-at-spec =
-    tie.close
-    (tie.spec
+three-at-spec = tie.close (tie.spec
     (λ c κs. search needs) (λ c. search needs) (λ c κs. search needs) (λ c. search needs) (λ c κs. search needs)
     (λ c. search needs) (λ c. search needs) (λ c. search needs) (λ c. search needs) (λ c. search needs) (λ c. search needs) (λ c. search needs) returns)

@@ -25,8 +25,6 @@ returns-2 c =
     one-puts _ _ _ (sym (test .before .is-anybody .ensures) ∙ test .if1 .left) (part .part .ensures) (put .put-row .ensures)
 
 pub put-made-spec : {M : Type 1} → statement M
-put-made-spec =
-    tie.close
-    (tie.spec
+put-made-spec = tie.close (tie.spec
     (λ c κs. search needs) (λ c κs. search needs) (λ c. search needs) (λ c κs. search needs) (λ c. search needs) returns
     (λ c κs. search needs) (λ c κs. search needs) (λ c. search needs) returns-2)

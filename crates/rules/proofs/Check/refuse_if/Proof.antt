@@ -12,8 +12,4 @@ unfolding refuseIf
 returns-2 c = simp (c .if1 .left)
 
 pub refuse-if-spec : {M : Type 1} → statement M
-refuse-if-spec =
-    tie.close
-    (tie.spec
-    returns
-    returns-2)
+refuse-if-spec = tie.close (tie.spec returns returns-2)

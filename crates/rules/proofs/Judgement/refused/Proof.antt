@@ -10,8 +10,6 @@ returns-2 : tie.Need-returns-2
 returns-2 c = rw (c .before .before .before .c .given .1, c .before .none3 .ensures, c .none4 .ensures)
 
 pub refused-spec : {M : Type 1} → statement M
-refused-spec =
-    tie.close
-    (tie.spec
+refused-spec = tie.close (tie.spec
     (λ c. search needs) (λ c κs. search needs) (λ c κs. search needs) (λ c. search needs) (λ c κs. search needs) (λ c κs. search needs) returns
     returns-2)
