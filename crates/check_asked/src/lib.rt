@@ -107,7 +107,9 @@ fn check_roles<'a>(
     record: &[u8],
 ) -> Check
     requires { ⌜ Own (rows Creds (tablesOf h (now creds) (now aces))) (sender (now «record»)) (now cred) ⌝ }
-    ensures { λ c. ⌜ c ≡ refuseIf 22 (rolesFull (rolesInForce clock (ownRow (tablesOf h (now (creds .entry)) (now (aces .entry))) (sender (now («record» .entry))))) (body (now («record» .entry))) a) ⌝ }
+    ensures { λ c. ⌜
+        c ≡ refuseIf 22 (rolesFull (rolesInForce clock (ownRow (tablesOf h (now (creds .entry)) (now (aces .entry))) (sender (now («record» .entry)))))
+        (body (now («record» .entry))) a) ⌝ }
 {
     let Action::Assert(_) = a else {
         return Check::Pass;
@@ -115,7 +117,8 @@ fn check_roles<'a>(
     Check::refuse_if(22, both_taken(clock, body_of(record), cred))
 }
 
-// The first of the checks 16, 8 to 14 and 22 that applies to the action `a` of the record, where `cred` is the sender's own row or no bytes and `e` the row of the resource.
+// The first of the checks 16, 8 to 14 and 22 that applies to the action `a` of the record,
+// where `cred` is the sender's own row or no bytes and `e` the row of the resource.
 // Rules out: the body judged before the permission; a full table that refuses a row whose number it holds; a role that is over counted for 22.
 pub fn check_asked<'a>(
     clock: u32,

@@ -22,7 +22,11 @@ ghost use Rattle.rules_waiting.specs.Terminal.{terminal, slotSound, memorySound
 
 // Whether the slot is the one that keeps the record in it: the sender's number, the record's length, and zeros behind.
 fn is_slot_of(slot: &[u8], record: &[u8]) -> bool
-    requires { ⌜ (length (now slot) ≡ 260) × (now «record» ≡ take (length (now «record»)) (drop 4 (now slot))) × (4 ≤ length (now «record»)) × (length (now «record») ≤ 256) ⌝ }
+    requires { ⌜
+        (length (now slot) ≡ 260)
+        × (now «record» ≡ take (length (now «record»)) (drop 4 (now slot)))
+        × (4 ≤ length (now «record»))
+        × (length (now «record») ≤ 256) ⌝ }
     ensures { λ r. ⌜ r ≡ same (now (slot .entry)) (slotOf (now («record» .entry))) ⌝ }
 {
     let n = record.len();

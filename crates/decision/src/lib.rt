@@ -1,5 +1,6 @@
 // The decision on a record beside sound tables: the checks after 1 in their order and, where none applies, what is permitted.
-// The resource's row of the directory and the sender's own row are found once, for all checks and for the permission. Check 1 is the caller's, since it covers the memory of waiting records too.
+// The resource's row of the directory and the sender's own row are found once, for all checks and for the
+// permission. Check 1 is the caller's, since it covers the memory of waiting records too.
 use action::action_of;
 use check_asked::check_asked;
 use check_header::check_header;

@@ -67,8 +67,14 @@ fn link_bit<'a>(
     n: u8,
     bit: u64,
 ) -> u64
-    requires { ⌜ (n < 64) × (known n ≡ true) × (verdict (formChecks (tablesOf h (now creds) (now aces)) (now «record»)) ≡ Pass) × Own (rows Creds (tablesOf h (now creds) (now aces))) (sender (now «record»)) (now cred) ⌝ }
-    ensures { λ r. ⌜ (r ≡ cond (permits clock (tablesOf h (now (creds .entry)) (now (aces .entry))) (ownRecord (now («record» .entry)) n)) bit 0) × (r ≤ bit) ⌝ }
+    requires { ⌜
+        (n < 64)
+        × (known n ≡ true)
+        × (verdict (formChecks (tablesOf h (now creds) (now aces)) (now «record»)) ≡ Pass)
+        × Own (rows Creds (tablesOf h (now creds) (now aces))) (sender (now «record»)) (now cred) ⌝ }
+    ensures { λ r. ⌜
+        (r ≡ cond (permits clock (tablesOf h (now (creds .entry)) (now (aces .entry))) (ownRecord (now («record» .entry)) n)) bit 0)
+        × (r ≤ bit) ⌝ }
 {
     let own = own_record(record, n);
     if is_permitted(clock, h, creds, aces, cred, &own) {
@@ -89,7 +95,9 @@ fn link_set<'a>(
     cred: &[u8],
     record: &[u8],
 ) -> u64
-    requires { ⌜ (verdict (formChecks (tablesOf h (now creds) (now aces)) (now «record»)) ≡ Pass) × Own (rows Creds (tablesOf h (now creds) (now aces))) (sender (now «record»)) (now cred) ⌝ }
+    requires { ⌜
+        (verdict (formChecks (tablesOf h (now creds) (now aces)) (now «record»)) ≡ Pass)
+        × Own (rows Creds (tablesOf h (now creds) (now aces))) (sender (now «record»)) (now cred) ⌝ }
     ensures { λ r. ⌜ r ≡ setOf (λ n. permits clock (tablesOf h (now (creds .entry)) (now (aces .entry))) (ownRecord (now («record» .entry)) n)) links ⌝ }
 {
     let mut set: u64 = 0;

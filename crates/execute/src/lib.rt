@@ -37,8 +37,15 @@ pub fn execute(
     record: &[u8],
     reply: &mut [u8],
 ) -> Judgement
-    requires { ⌜ (sound (tablesOf h (now creds) (now aces)) ≡ true) × (d ≡ decided (tablesOf h (now creds) (now aces)) (received clock (now «record») (length (now reply)))) × (d .check ≡ Pass) ⌝ }
-    ensures { λ r. ⌜ Executes (defaults (now («default_creds» .entry)) (now («default_aces» .entry))) (tablesOf h (now (creds .entry)) (now (aces .entry))) (received clock (now («record» .entry)) (length (now (reply .entry)))) (now (reply .entry)) r (now (creds .exit)) (now (aces .exit)) (now (reply .exit)) ⌝ }
+    requires { ⌜
+        (sound (tablesOf h (now creds) (now aces)) ≡ true)
+        × (d ≡ decided (tablesOf h (now creds) (now aces)) (received clock (now «record») (length (now reply))))
+        × (d .check ≡ Pass) ⌝ }
+    ensures { λ r. ⌜
+        Executes (defaults (now («default_creds» .entry)) (now («default_aces» .entry)))
+        (tablesOf h (now (creds .entry)) (now (aces .entry)))
+        (received clock (now («record» .entry)) (length (now (reply .entry))))
+        (now (reply .entry)) r (now (creds .exit)) (now (aces .exit)) (now (reply .exit)) ⌝ }
 {
     put_reply(reply, clock, h, creds, aces, record, d.reply);
     let a = d.action;
@@ -87,10 +94,22 @@ fn change(
     record: &[u8],
     reply: &mut [u8],
 ) -> Judgement
-    requires { ⌜ (sound (tablesOf h (now creds) (now aces)) ≡ true) × (d ≡ decided (tablesOf h (now creds) (now aces)) (received clock (now «record») (length (now reply)))) × (d .check ≡ Pass) ⌝ }
+    requires { ⌜
+        (sound (tablesOf h (now creds) (now aces)) ≡ true)
+        × (d ≡ decided (tablesOf h (now creds) (now aces)) (received clock (now «record») (length (now reply))))
+        × (d .check ≡ Pass) ⌝ }
     requires { ⌜ (IsQueue (now memory)) × (now memory ≡ memoryOf (roundOf (now memory)) (waiting (now memory))) ⌝ }
-    ensures { λ r. ⌜ Executes (defaults (now («default_creds» .entry)) (now («default_aces» .entry))) (tablesOf h (now (creds .entry)) (now (aces .entry))) (received clock (now («record» .entry)) (length (now (reply .entry)))) (now (reply .entry)) r (now (creds .exit)) (now (aces .exit)) (now (reply .exit)) ⌝ }
-    ensures { λ _. ⌜ now (memory .exit) ≡ memoryAfter (defaults (now («default_creds» .entry)) (now («default_aces» .entry))) (tablesOf h (now (creds .entry)) (now (aces .entry))) (received clock (now («record» .entry)) (length (now (reply .entry)))) (roundOf (now (memory .entry))) (waiting (now (memory .entry))) ⌝ }
+    ensures { λ r. ⌜
+        Executes (defaults (now («default_creds» .entry)) (now («default_aces» .entry)))
+        (tablesOf h (now (creds .entry)) (now (aces .entry)))
+        (received clock (now («record» .entry)) (length (now (reply .entry))))
+        (now (reply .entry)) r (now (creds .exit)) (now (aces .exit)) (now (reply .exit)) ⌝ }
+    ensures { λ _. ⌜
+        now (memory .exit)
+        ≡ memoryAfter (defaults (now («default_creds» .entry)) (now («default_aces» .entry)))
+        (tablesOf h (now (creds .entry)) (now (aces .entry)))
+        (received clock (now («record» .entry)) (length (now (reply .entry))))
+        (roundOf (now (memory .entry))) (waiting (now (memory .entry))) ⌝ }
 {
     let was_held = queue::round_held(h.ncreds, creds, memory);
     let a = d.action;
@@ -131,10 +150,22 @@ pub fn carry_out(
     record: &[u8],
     reply: &mut [u8],
 ) -> Judgement
-    requires { ⌜ (sound (tablesOf h (now creds) (now aces)) ≡ true) × (d ≡ decided (tablesOf h (now creds) (now aces)) (received clock (now «record») (length (now reply)))) × (d .check ≡ Pass) ⌝ }
+    requires { ⌜
+        (sound (tablesOf h (now creds) (now aces)) ≡ true)
+        × (d ≡ decided (tablesOf h (now creds) (now aces)) (received clock (now «record») (length (now reply))))
+        × (d .check ≡ Pass) ⌝ }
     requires { ⌜ (IsQueue (now memory)) × (now memory ≡ memoryOf (roundOf (now memory)) (waiting (now memory))) ⌝ }
-    ensures { λ r. ⌜ Executes (defaults (now («default_creds» .entry)) (now («default_aces» .entry))) (tablesOf h (now (creds .entry)) (now (aces .entry))) (received clock (now («record» .entry)) (length (now (reply .entry)))) (now (reply .entry)) r (now (creds .exit)) (now (aces .exit)) (now (reply .exit)) ⌝ }
-    ensures { λ _. ⌜ now (memory .exit) ≡ memoryAfter (defaults (now («default_creds» .entry)) (now («default_aces» .entry))) (tablesOf h (now (creds .entry)) (now (aces .entry))) (received clock (now («record» .entry)) (length (now (reply .entry)))) (roundOf (now (memory .entry))) (waiting (now (memory .entry))) ⌝ }
+    ensures { λ r. ⌜
+        Executes (defaults (now («default_creds» .entry)) (now («default_aces» .entry)))
+        (tablesOf h (now (creds .entry)) (now (aces .entry)))
+        (received clock (now («record» .entry)) (length (now (reply .entry))))
+        (now (reply .entry)) r (now (creds .exit)) (now (aces .exit)) (now (reply .exit)) ⌝ }
+    ensures { λ _. ⌜
+        now (memory .exit)
+        ≡ memoryAfter (defaults (now («default_creds» .entry)) (now («default_aces» .entry)))
+        (tablesOf h (now (creds .entry)) (now (aces .entry)))
+        (received clock (now («record» .entry)) (length (now (reply .entry))))
+        (roundOf (now (memory .entry))) (waiting (now (memory .entry))) ⌝ }
 {
     let a = d.action;
     let Action::Serve = a else {

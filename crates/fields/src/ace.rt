@@ -8,7 +8,8 @@ use rows::part;
 ghost use mathlib.Core.Path.{_≡_};
 ghost use Rattle.rules.specs.Bits.{bits};
 ghost use Rattle.rules.specs.Directory.{someSecurity};
-ghost use Rattle.rules.specs.Bodies.{aceKind, acePermission, acePlus, aceMinus, aceStar, inSet, setKnown, aceSubject, aceAuthority, aceRole, aceConnection, aceFirst, aceLast};
+ghost use Rattle.rules.specs.Bodies.{aceKind, acePermission, acePlus, aceMinus, aceStar, inSet, setKnown};
+ghost use Rattle.rules.specs.Bodies.{aceSubject, aceAuthority, aceRole, aceConnection, aceFirst, aceLast};
 
 // 0 UUID, 1 role, 2 connection
 pub fn kind(row: &[u8]) -> u16

@@ -1,5 +1,6 @@
 // The fields of a credential row.
-// Number, subject UUID, role, its authority, type, and behind these, its body, two places for asserted roles. Each contract rules out the bit beside the field and one bit fewer.
+// Number, subject UUID, role, its authority, type, and behind these, its body, two places for
+// asserted roles. Each contract rules out the bit beside the field and one bit fewer.
 use crate::bits::field;
 use rows::part;
 use rules::CRED_BODY;

@@ -6,6 +6,8 @@ use row::is_bad;
 use row::made_count;
 use row::put_made;
 use rows::part;
+use rules::ACE_ROW;
+use rules::ACES;
 ghost use mathlib.Core.Path.{_≡_};
 ghost use Prim.Native.Nat.{_≤_};
 ghost use lib.ListN.{length};
@@ -19,11 +21,8 @@ ghost use Rattle.rules_legacy.specs.Conversion.{rowsMade, conversionVerdict, co
 // Bytes of an old row.
 const OLD_ROW: usize = 25;
 
-// Bytes of an access row.
-const ACCESS_ROW: usize = 36;
-
 // Access rows that a list holds at most.
-const MOST_ROWS: usize = 32;
+const MOST_ROWS: usize = ACES as usize;
 
 // What the caller is told: 0, 23, 24 or 25, and how many bytes were written.
 #[repr(C)]
@@ -108,7 +107,7 @@ pub fn convert(file: &[u8], rows: &mut [u8]) -> Converted
             length: 0,
         };
     }
-    if rows.len() < made * ACCESS_ROW {
+    if rows.len() < made * ACE_ROW {
         return Converted {
             answer: 25,
             length: 0,

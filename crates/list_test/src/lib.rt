@@ -4,6 +4,8 @@ use fields::ace;
 use row_format::ace_storable;
 use rows::part;
 use rows_distinct::before_repeat;
+use rules::ACE_ROW;
+use rules::ACES;
 use rules::Check;
 use rules::Permission;
 use rules_lists::Tested;
@@ -19,11 +21,8 @@ ghost use Rattle.rules.specs.Checks.{verdict};
 ghost use Rattle.rules.specs.Isolation.{alters};
 ghost use Rattle.rules_lists.specs.Lists.{excessive, rowsTested, listTested};
 
-// Bytes of an access row.
-const LONG: usize = 36;
-
 // Access rows at most.
-const MOST: usize = 32;
+const MOST_ROWS: usize = ACES as usize;
 
 // Create, update or delete.
 fn alters(permission: u16) -> bool
@@ -60,10 +59,10 @@ fn test_rows(rows: &[u8], count: usize) -> Tested
     requires { ⌜ count * 36 ≤ length (now rows) ⌝ }
     ensures { λ r. ⌜ r ≡ rowsTested [] (rowsOf 36 count (now (rows .entry))) ⌝ }
 {
-    let repeat = before_repeat(rows, LONG, count);
+    let repeat = before_repeat(rows, ACE_ROW, count);
     let mut i = 0;
     while i < count {
-        let row = part(rows, i * LONG, LONG);
+        let row = part(rows, i * ACE_ROW, ACE_ROW);
         if let Check::Refuse(n) = check_row(row, i == repeat) {
             return Tested {
                 answer: n,
@@ -76,12 +75,13 @@ fn test_rows(rows: &[u8], count: usize) -> Tested
 }
 
 // What is said of the list: 0 and row 0 where it is accepted, 19 and row 0 for its size, else the fault of the first bad row, counted from 1.
-// Rules out: a list of 33 rows; a later bad row named; a number that stands twice; a row for a connection that gives UPDATE of acl2; 21 for a row that could not be stored.
+// Rules out: a list of 33 rows; a later bad row named; a number that stands twice; a row for a
+// connection that gives UPDATE of acl2; 21 for a row that could not be stored.
 pub fn test_list(rows: &[u8]) -> Tested
     ensures { λ r. ⌜ r ≡ listTested (now (rows .entry)) ⌝ }
 {
-    let count = rows.len() / LONG;
-    if (rows.len() % LONG != 0) | (MOST < count) {
+    let count = rows.len() / ACE_ROW;
+    if (rows.len() % ACE_ROW != 0) | (MOST_ROWS < count) {
         return Tested { answer: 19, row: 0 };
     }
     test_rows(rows, count)

@@ -11,7 +11,8 @@ ghost use mathlib.Core.List.{_++_};
 ghost use Prim.Native.Nat.{_<_};
 ghost use Rattle.text.specs.Text.{ascii, decimal};
 ghost use Rattle.text.specs.Buffer.{Puts};
-ghost use Rattle.rules_office.specs.Office.{hexDigit, dashed, dash, hexByte, uuidText, uuidSubject, roleSubject, connectionSubject, subjectText, resourcesText, rowText};
+ghost use Rattle.rules_office.specs.Office.{hexDigit, dashed, dash, hexByte, uuidText, uuidSubject};
+ghost use Rattle.rules_office.specs.Office.{roleSubject, connectionSubject, subjectText, resourcesText, rowText};
 
 fn hex_digit(d: u8) -> u8
     requires { ⌜ d < 16 ⌝ }

@@ -76,7 +76,8 @@ fn put_list(out: &mut [u8], t: Tables) -> usize
 }
 
 // The tables' access list as office text: the answer, the length of the text, and the lent buffer afterwards.
-// Rules out: a byte written on 18; 18 where the text fits exactly; the text of tables that are not sound, be it only in what waits; a row of a shorter period in the text.
+// Rules out: a byte written on 18; 18 where the text fits exactly; the text of tables that are
+// not sound, be it only in what waits; a row of a shorter period in the text.
 pub fn access_list(t: Tables, memory: &[u8; MEMORY], out: &mut [u8]) -> Listed
     ensures answer { λ r. ⌜ r .answer ≡ numberOf (officeVerdict (terminal t (now (memory .entry))) (length (now (out .entry)))) ⌝ }
     ensures length { λ r. ⌜ r .length ≡ length (officeReply (terminal t (now (memory .entry))) (length (now (out .entry)))) ⌝ }

@@ -79,7 +79,9 @@ fn put_wildcard(out: &mut [u8], at: usize, first: bool, named: bool, text: &[u8]
 
 // The wildcards: what may be named after the known resources.
 fn put_wildcards(out: &mut [u8], at: usize, first: bool, row: &[u8]) -> usize
-    ensures { λ r. ⌜ Puts (now (out .entry)) at (separated first (map braced (picked (drop (length names) (chosen (now (row .entry)))) (drop (length names) choices)))) (now (out .exit)) r ⌝ }
+    ensures { λ r. ⌜
+        Puts (now (out .entry)) at
+        (separated first (map braced (picked (drop (length names) (chosen (now (row .entry)))) (drop (length names) choices)))) (now (out .exit)) r ⌝ }
 {
     let plus = ace::plus(row);
     let minus = ace::minus(row);

@@ -73,7 +73,9 @@ fn put_head(memory: &mut [u8], count: usize, round: [u8; 3])
 fn take_out(slots: &mut [u8], count: usize, seat: &[u8]) -> usize
     requires { ⌜ IsTable 260 count (now slots) ⌝ }
     ensures { λ r. ⌜ r ≡ length (without (hasKey 0 (now (seat .entry))) (rowsOf 260 count (now (slots .entry)))) ⌝ }
-    ensures { λ _. ⌜ now (slots .exit) ≡ packed (length (now (slots .entry))) (without (hasKey 0 (now (seat .entry))) (rowsOf 260 count (now (slots .entry)))) ⌝ }
+    ensures { λ _. ⌜
+        now (slots .exit)
+        ≡ packed (length (now (slots .entry))) (without (hasKey 0 (now (seat .entry))) (rowsOf 260 count (now (slots .entry)))) ⌝ }
 {
     let used = count * SLOT;
     rows_change::remove(&mut slots[..used], SLOT, count, 0, seat)
@@ -110,7 +112,9 @@ fn seat_held(count: u8, creds: &[u8; CRED_ROWS], seat: &[u8]) -> bool
 fn drop_gone(rows: u8, creds: &[u8; CRED_ROWS], slots: &mut [u8], count: usize) -> usize
     requires { ⌜ IsTable 260 count (now slots) ⌝ }
     ensures { λ r. ⌜ r ≡ length (without (gone (seatsIn rows (now (creds .entry)))) (rowsOf 260 count (now (slots .entry)))) ⌝ }
-    ensures { λ _. ⌜ now (slots .exit) ≡ packed (length (now (slots .entry))) (without (gone (seatsIn rows (now (creds .entry)))) (rowsOf 260 count (now (slots .entry)))) ⌝ }
+    ensures { λ _. ⌜
+        now (slots .exit)
+        ≡ packed (length (now (slots .entry))) (without (gone (seatsIn rows (now (creds .entry)))) (rowsOf 260 count (now (slots .entry)))) ⌝ }
 {
     let mut n = count;
     let mut i = 0;
@@ -157,7 +161,10 @@ fn round_after(was_held: bool, count: u8, creds: &[u8; CRED_ROWS], memory: &[u8]
 // Rules out: a record that outlives its row; one that goes though its row stays; a round that a new row revives.
 pub fn settle(was_held: bool, count: u8, creds: &[u8; CRED_ROWS], memory: &mut [u8])
     requires { ⌜ IsQueue (now memory) ⌝ }
-    ensures { λ _. ⌜ now (memory .exit) ≡ memoryOf (heldRound (seatsIn count (now (creds .entry))) (cond «was_held» (roundOf (now (memory .entry))) anew)) (without (gone (seatsIn count (now (creds .entry)))) (waiting (now (memory .entry)))) ⌝ }
+    ensures { λ _. ⌜
+        now (memory .exit)
+        ≡ memoryOf (heldRound (seatsIn count (now (creds .entry))) (cond «was_held» (roundOf (now (memory .entry))) anew))
+        (without (gone (seatsIn count (now (creds .entry)))) (waiting (now (memory .entry)))) ⌝ }
 {
     let round = round_after(was_held, count, creds, memory);
     let used = memory[0] as usize;

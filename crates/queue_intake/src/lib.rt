@@ -41,7 +41,8 @@ fn check_hand_in<'a>(
     memory: &[u8; MEMORY],
     record: &[u8],
 ) -> Check
-    ensures { λ c. ⌜ c ≡ verdict (handInChecks (terminal (tablesOf h (now (creds .entry)) (now (aces .entry))) (now (memory .entry))) (now («record» .entry))) ⌝ }
+    ensures { λ c. ⌜
+        c ≡ verdict (handInChecks (terminal (tablesOf h (now (creds .entry)) (now (aces .entry))) (now (memory .entry))) (now («record» .entry))) ⌝ }
 {
     let c = check_terminal(h, creds, aces, memory);
     let Check::Pass = c else {
@@ -63,7 +64,9 @@ pub fn hand_in<'a>(
     memory: &mut [u8; MEMORY],
     record: &[u8],
 ) -> Judgement
-    ensures { λ r. ⌜ HandsIn (terminal (tablesOf h (now (creds .entry)) (now (aces .entry))) (now (memory .entry))) (now («record» .entry)) (saidOf r (now (creds .entry)) (now (aces .entry))) (now (memory .exit)) ⌝ }
+    ensures { λ r. ⌜
+        HandsIn (terminal (tablesOf h (now (creds .entry)) (now (aces .entry))) (now (memory .entry)))
+        (now («record» .entry)) (saidOf r (now (creds .entry)) (now (aces .entry))) (now (memory .exit)) ⌝ }
 {
     let c = check_hand_in(h, creds, aces, memory, record);
     let Check::Pass = c else {

@@ -63,7 +63,9 @@ fn rows_before(creds: &[u8], count: usize, m: &[u8]) -> usize
 // The slot of the coming take: that of the occupied seat that comes first in turn.
 fn next_slot(creds: &[u8], count: usize, m: &[u8], slots: &[u8], kept: usize) -> Found
     requires { ⌜ (count * stride Creds ≤ length (now creds)) × (4 ≤ length (now m)) × (kept * 260 ≤ length (now slots)) ⌝ }
-    ensures { λ r. ⌜ r ≡ slotIn (rowsOf 260 kept (now (slots .entry))) (inTurn (roundOf (now (m .entry))) (nobody ∷ map (take 2) (rowsOf (stride Creds) count (now (creds .entry))))) ⌝ }
+    ensures { λ r. ⌜
+        r ≡ slotIn (rowsOf 260 kept (now (slots .entry)))
+        (inTurn (roundOf (now (m .entry))) (nobody ∷ map (take 2) (rowsOf (stride Creds) count (now (creds .entry))))) ⌝ }
 {
     let k = rows_before(creds, count, m);
     let start = k * CRED_ROW;
@@ -82,7 +84,9 @@ fn next_slot(creds: &[u8], count: usize, m: &[u8], slots: &[u8], kept: usize) ->
 // The slot of the record whose turn it is.
 fn due_slot<'a>(h: Head, creds: &'a [u8; CRED_ROWS], aces: &'a [u8; ACE_ROWS], m: &[u8]) -> usize
     requires { ⌜ (soundTerminal (terminal (tablesOf h (now creds) (now aces)) (now m)) ≡ true) × (eqb (length (waiting (now m))) 0 ≡ false) ⌝ }
-    ensures { λ r. ⌜ placeOf (hasKey 0 (turn (terminal (tablesOf h (now (creds .entry)) (now (aces .entry))) (now (m .entry))))) (waiting (now (m .entry))) ≡ At r ⌝ }
+    ensures { λ r. ⌜
+        placeOf (hasKey 0 (turn (terminal (tablesOf h (now (creds .entry)) (now (aces .entry))) (now (m .entry))))) (waiting (now (m .entry)))
+        ≡ At r ⌝ }
 {
     let count = m[0] as usize;
     let n = held(h.ncreds, CREDS);

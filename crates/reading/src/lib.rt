@@ -78,7 +78,9 @@ fn rows_length<'a>(
     resource: u16,
 ) -> usize
     requires { ⌜ Own (rows Creds (tablesOf h (now creds) (now aces))) (sender (now «record»)) (now cred) ⌝ }
-    ensures { λ r. ⌜ (r ≡ length (rowBytes clock (tablesOf h (now (creds .entry)) (now (aces .entry))) (sender (now («record» .entry))) resource)) × (r ≤ 1152) ⌝ }
+    ensures { λ r. ⌜
+        (r ≡ length (rowBytes clock (tablesOf h (now (creds .entry)) (now (aces .entry))) (sender (now («record» .entry))) resource))
+        × (r ≤ 1152) ⌝ }
 {
     match resource {
         2 => bodies_length(creds, held(h.ncreds, CREDS)),
@@ -192,7 +194,9 @@ fn put_rows<'a>(
     record: &[u8],
     resource: u16,
 ) -> usize
-    ensures { λ r. ⌜ Puts (now (out .entry)) at (rowBytes clock (tablesOf h (now (creds .entry)) (now (aces .entry))) (sender (now («record» .entry))) resource) (now (out .exit)) r ⌝ }
+    ensures { λ r. ⌜
+        Puts (now (out .entry)) at
+        (rowBytes clock (tablesOf h (now (creds .entry)) (now (aces .entry))) (sender (now («record» .entry))) resource) (now (out .exit)) r ⌝ }
 {
     match resource {
         2 => {
@@ -217,7 +221,9 @@ fn put_contents<'a>(
     record: &[u8],
     resource: u16,
 ) -> usize
-    ensures { λ r. ⌜ Puts (now (out .entry)) 0 (contents clock (tablesOf h (now (creds .entry)) (now (aces .entry))) (sender (now («record» .entry))) resource) (now (out .exit)) r ⌝ }
+    ensures { λ r. ⌜
+        Puts (now (out .entry)) 0
+        (contents clock (tablesOf h (now (creds .entry)) (now (aces .entry))) (sender (now («record» .entry))) resource) (now (out .exit)) r ⌝ }
 {
     let p = put_own(out, 0, h, creds, aces, resource);
     let at = resource as usize * 16;
@@ -237,7 +243,9 @@ pub fn put_reply<'a>(
     size: usize,
 ) -> usize
     requires { ⌜ size ≡ length (replyOf clock (tablesOf h (now creds) (now aces)) (now «record»)) ⌝ }
-    ensures { λ r. ⌜ Puts (now (out .entry)) 0 (replyOf clock (tablesOf h (now (creds .entry)) (now (aces .entry))) (now («record» .entry))) (now (out .exit)) r ⌝ }
+    ensures { λ r. ⌜
+        Puts (now (out .entry)) 0
+        (replyOf clock (tablesOf h (now (creds .entry)) (now (aces .entry))) (now («record» .entry))) (now (out .exit)) r ⌝ }
 {
     // only a record that is read has a reply
     if size == 0 {

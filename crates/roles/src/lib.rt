@@ -106,7 +106,11 @@ fn put_with(out: &mut [u8], at: usize, clock: u32, new: &[u8], row: &[u8]) -> us
 // The credential row after the role is asserted.
 // Rules out: roles that are over kept; an equal role at the end; a byte of the body changed.
 pub fn asserted_row(clock: u32, new: &[u8], row: &[u8]) -> [u8; CRED_ROW]
-    requires { ⌜ (credHeld (now row) ≡ true) × (length (now new) ≡ 8) × (noRole (now new) ≡ false) × (bothTaken (now new) (rolesInForce clock (now row)) ≡ false) ⌝ }
+    requires { ⌜
+        (credHeld (now row) ≡ true)
+        × (length (now new) ≡ 8)
+        × (noRole (now new) ≡ false)
+        × (bothTaken (now new) (rolesInForce clock (now row)) ≡ false) ⌝ }
     ensures { λ r. ⌜ r ≡ asserted clock (now (new .entry)) (now (row .entry)) ⌝ }
 {
     let mut next = [0u8; CRED_ROW];

@@ -94,7 +94,9 @@ pub fn store(rows: &mut [u8], stride: usize, count: usize, row: &[u8]) -> usize
 pub fn remove(rows: &mut [u8], stride: usize, count: usize, at: usize, key: &[u8]) -> usize
     requires { ⌜ IsTable stride count (now rows) ⌝ }
     ensures { λ r. ⌜ r ≡ length (without (hasKey at (now (key .entry))) (rowsOf stride count (now (rows .entry)))) ⌝ }
-    ensures { λ _. ⌜ now (rows .exit) ≡ packed (length (now (rows .entry))) (without (hasKey at (now (key .entry))) (rowsOf stride count (now (rows .entry)))) ⌝ }
+    ensures { λ _. ⌜
+        now (rows .exit)
+        ≡ packed (length (now (rows .entry))) (without (hasKey at (now (key .entry))) (rowsOf stride count (now (rows .entry)))) ⌝ }
 {
     let mut n = count;
     let mut i = 0;

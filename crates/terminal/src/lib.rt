@@ -68,7 +68,9 @@ pub extern "C" fn tillerclover_clear(
     aces: &[u8],
 ) -> Tables
     ensures tables { λ r. ⌜ r ≡ clearedTerminal (defaults (now (creds .entry)) (now (aces .entry))) (terminal t (now (memory .entry))) .tables ⌝ }
-    ensures memory { λ _. ⌜ now (memory .exit) ≡ clearedTerminal (defaults (now (creds .entry)) (now (aces .entry))) (terminal t (now (memory .entry))) .memory ⌝ }
+    ensures memory { λ _. ⌜
+        now (memory .exit)
+        ≡ clearedTerminal (defaults (now (creds .entry)) (now (aces .entry))) (terminal t (now (memory .entry))) .memory ⌝ }
 {
     queue::clear(memory);
     effect_fresh::defaults::clear(t, creds, aces)
@@ -114,7 +116,8 @@ fn export(j: Judgement, creds: [u8; CRED_ROWS], aces: [u8; ACE_ROWS], length: us
 }
 
 // Judges a record at once.
-// Rules out: the payload of a refused record; the tables of another record; a byte of the buffer changed behind the reply; a record that outlives its credential row.
+// Rules out: the payload of a refused record; the tables of another record; a byte of the
+// buffer changed behind the reply; a record that outlives its credential row.
 #[no_mangle]
 pub extern "C" fn tillerclover_judge(
     t: Tables,
@@ -125,7 +128,10 @@ pub extern "C" fn tillerclover_judge(
     record: &[u8],
     reply: &mut [u8],
 ) -> Outcome
-    ensures { λ r. ⌜ CJudges (defaults (now (creds .entry)) (now (aces .entry))) (terminal t (now (memory .entry))) (received clock (now («record» .entry)) (length (now (reply .entry)))) r (now (reply .entry)) (now (memory .exit)) (now (reply .exit)) ⌝ }
+    ensures { λ r. ⌜
+        CJudges (defaults (now (creds .entry)) (now (aces .entry))) (terminal t (now (memory .entry)))
+        (received clock (now («record» .entry)) (length (now (reply .entry))))
+        r (now (reply .entry)) (now (memory .exit)) (now (reply .exit)) ⌝ }
 {
     let mut cred_rows = t.creds;
     let mut ace_rows = t.aces;
@@ -169,7 +175,10 @@ pub extern "C" fn tillerclover_take(
     clock: u32,
     reply: &mut [u8],
 ) -> Turn
-    ensures { λ r. ⌜ CTakes (defaults (now (creds .entry)) (now (aces .entry))) (terminal t (now (memory .entry))) clock (length (now (reply .entry))) r (now (reply .entry)) (now (memory .exit)) (now (reply .exit)) ⌝ }
+    ensures { λ r. ⌜
+        CTakes (defaults (now (creds .entry)) (now (aces .entry))) (terminal t (now (memory .entry)))
+        clock (length (now (reply .entry)))
+        r (now (reply .entry)) (now (memory .exit)) (now (reply .exit)) ⌝ }
 {
     let mut cred_rows = t.creds;
     let mut ace_rows = t.aces;

@@ -1,5 +1,6 @@
 // Judges the records of vectors.bin, which the second model wrote, and compares what comes of each.
-// The file's form stands in model/src/vectors.rs: tables to take, records with their outcome, tables that must be reached, default lists, lists to load, older lists, what waits, hand-ins and takes.
+// The file's form stands in model/src/vectors.rs: tables to take, records with their outcome, tables that
+// must be reached, default lists, lists to load, older lists, what waits, hand-ins and takes.
 use fields::after;
 use fields::double_word;
 use fields::word;
@@ -153,7 +154,8 @@ fn tables_size(s: &[u8]) -> usize {
     89 + creds + aces
 }
 
-// Tag, clock, length and bytes of the record, room, answer, permission, payload start and length, length of the reply, first place and how many, the links and their number, the reply.
+// Tag, clock, length and bytes of the record, room, answer, permission, payload start and length,
+// length of the reply, first place and how many, the links and their number, the reply.
 fn record_size(s: &[u8]) -> usize {
     let length = word(after(s, 5)) as usize;
     let reply = word(after(after(s, 15), length)) as usize;

@@ -18,9 +18,6 @@ returns c =
     let h = c .before .before in
     stop-all (headerChecks (now (start h .args .«record»))) _ _ (h .check-header .ensures) (c .enum-told2 .given .1)
 
-check-credential-requires : tie.Need-check-credential-requires
-check-credential-requires c κs = c .own-row .ensures
-
 returns-2 : tie.Need-returns-2
 returns-2 c =
     let p = c .before .before in
@@ -29,5 +26,7 @@ returns-2 c =
 
 pub check-sender-spec : {M : Type 1} → statement M
 check-sender-spec = tie.close (tie.spec
-    (λ c κs. search needs) (λ c. search needs) (λ c κs. search needs) check-header-requires (λ c. search needs) (λ c. search needs) returns
-    (λ c κs. search needs) check-credential-requires returns-2)
+    (λ c κs. search needs) (λ c. search needs) (λ c κs. search needs) check-header-requires
+    (λ c. search needs) (λ c. search needs) returns
+    (λ c κs. search needs) (λ c κs. c .own-row .ensures)
+    returns-2)

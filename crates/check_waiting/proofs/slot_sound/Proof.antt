@@ -4,18 +4,6 @@ use Rattle.check_waiting.proofs.Laws.{not-kept, fits, kept-is}
 use Rattle.check_waiting.proofs.slot_sound.Statement.{statement}
 use Rattle.check_waiting.proofs.slot_sound.Tie as tie
 
-record-in-requires : tie.Need-record-in-requires
-record-in-requires c κs = search needs
-
-check-sender-requires : tie.Need-check-sender-requires
-check-sender-requires c κs = search needs
-
-enum-told : tie.Need-enum-told
-enum-told c = search needs
-
-enum-told-2 : tie.Need-enum-told-2
-enum-told-2 c = search needs
-
 returns : tie.Need-returns
 returns c = let call = c .before .before in not-kept _ _ _ (call .before .record-in .ensures) _ (call .check-sender .ensures) _ (c .enum-told2 .given .1)
 
@@ -33,10 +21,5 @@ returns-2 c =
 
 pub slot-sound-spec : {M : Type 1} → statement M
 slot-sound-spec = tie.close (tie.spec
-    record-in-requires
-    check-sender-requires
-    enum-told
-    enum-told-2
-    returns
-    is-slot-of-requires
-    returns-2)
+    (λ c κs. search needs) (λ c κs. search needs) (λ c. search needs) (λ c. search needs) returns
+    is-slot-of-requires returns-2)

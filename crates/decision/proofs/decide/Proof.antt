@@ -48,9 +48,6 @@ sender-checked c =
     skip-all (headerChecks (now (start head .args .«record»))) _ (head .check-header .ensures)
     (p .enum-told .given .1) (last _ _ (c .check-credential .ensures))
 
-check-credential-requires : tie.Need-check-credential-requires
-check-credential-requires c κs = c .own-row .ensures
-
 returns-2 : tie.Need-returns-2
 unfolding decided
 returns-2 c =
@@ -82,5 +79,6 @@ pub decide-spec : {M : Type 1} → statement M
 decide-spec = tie.close (tie.spec
     (λ c κs. search needs) (λ c. search needs) (λ c κs. search needs) check-header-requires
     (λ c. search needs) (λ c. search needs) (λ c κs. search needs) returns
-    (λ c κs. search needs) check-credential-requires (λ c. search needs) (λ c. search needs) (λ c κs. search needs) returns-2
+    (λ c κs. search needs) (λ c κs. c .own-row .ensures)
+    (λ c. search needs) (λ c. search needs) (λ c κs. search needs) returns-2
     grant-requires returns-3)

@@ -13,9 +13,6 @@ Inv-loop clock h creds aces cred «record» set₀ bit₀ n₀ set bit n = Halve
 abbrev μ-loop : tie.MeasureT-loop
 μ-loop clock h creds aces cred «record» set₀ bit₀ n₀ set bit n = 15 - n
 
-loop-holds : tie.Need-loop-holds Inv-loop μ-loop
-loop-holds c = at-first _
-
 link-bit-requires : tie.Need-link-bit-requires Inv-loop μ-loop
 link-bit-requires c κs =
     let turn = c .before in
@@ -38,4 +35,6 @@ returns : tie.Need-returns Inv-loop μ-loop
 returns c = at-last _ _ _ _ (c .before .loop .inv) (c .loop-test .left)
 
 pub link-set-spec : {M : Type 1} → statement M
-link-set-spec = tie.close (tie.spec Inv-loop μ-loop loop-holds link-bit-requires add-set add-n loop-less loop-again returns)
+link-set-spec = tie.close (tie.spec
+    Inv-loop μ-loop (λ c. at-first _) link-bit-requires
+    add-set add-n loop-less loop-again returns)

@@ -7,23 +7,8 @@ use Rattle.queue.proofs.Queues.{count-is}
 use Rattle.judge.proofs.check_take.Statement.{statement}
 use Rattle.judge.proofs.check_take.Tie as tie
 
-check-terminal-requires : tie.Need-check-terminal-requires
-check-terminal-requires c κs = search needs
-
-enum-told : tie.Need-enum-told
-enum-told c = search needs
-
-enum-told-2 : tie.Need-enum-told-2
-enum-told-2 c = search needs
-
 returns : tie.Need-returns
 returns c = stop _ _ _ _ (c .before .before .check-terminal .ensures) (c .enum-told2 .given .1)
-
-element-copy-out-refuse-if : tie.Need-element-copy-out-refuse-if
-element-copy-out-refuse-if c = search needs
-
-refuse-if-requires : tie.Need-refuse-if-requires
-refuse-if-requires c κs = search needs
 
 returns-2 : tie.Need-returns-2
 returns-2 c =
@@ -37,10 +22,5 @@ returns-2 c =
 
 pub check-take-spec : {M : Type 1} → statement M
 check-take-spec = tie.close (tie.spec
-    check-terminal-requires
-    enum-told
-    enum-told-2
-    returns
-    element-copy-out-refuse-if
-    refuse-if-requires
-    returns-2)
+    (λ c κs. search needs) (λ c. search needs) (λ c. search needs) returns
+    (λ c. search needs) (λ c κs. search needs) returns-2)

@@ -101,9 +101,6 @@ due-record-requires c κs = can-take (c .before .before .before .before)
 slice-aggregate-leave : tie.Need-slice-aggregate-leave
 slice-aggregate-leave c = sym (leaves (c .before .before) .1)
 
-leave-requires : tie.Need-leave-requires
-leave-requires c κs = leaves (c .before .before)
-
 returns-2 : tie.Need-returns-2
 returns-2 c =
     let no = c .before .before in
@@ -156,6 +153,6 @@ returns-3 c =
 pub take-spec : {M : Type 1} → statement M
 take-spec = tie.close (tie.spec
     (λ c κs. search needs) (λ c. search needs) (λ c. search needs) (λ c κs. search needs) returns
-    due-record-requires (λ c κs. search needs)
-    (λ c κs. search needs) slice-aggregate-leave leave-requires (λ c. search needs) (λ c. search needs) (λ c κs. search needs) returns-2
+    due-record-requires (λ c κs. search needs) (λ c κs. search needs) slice-aggregate-leave
+    (λ c κs. leaves (c .before .before)) (λ c. search needs) (λ c. search needs) (λ c κs. search needs) returns-2
     carry-out-requires (λ c. search needs) returns-3)

@@ -15,9 +15,6 @@ Inv-loop file total₀ rest₀ left₀ total rest left = (left * 25 ≤ length r
 abbrev μ-loop : tie.MeasureT-loop
 μ-loop file total₀ rest₀ left₀ total rest left = left
 
-loop-holds : tie.Need-loop-holds Inv-loop μ-loop
-loop-holds c = (omega arith, omega arith)
-
 -- a turn has a row
 row-here : (c : tie.In-loop Inv-loop μ-loop) → 25 ≤ length (c .before .loop .rest .now)
 row-here c = a-row 25 _ (c .before .loop .rest .now) (c .loop-test .taken) (c .before .loop .inv .0)
@@ -49,10 +46,7 @@ returns c =
 
 pub count-made-spec : {M : Type 1} → statement M
 count-made-spec = tie.close (tie.spec
-    Inv-loop
-    μ-loop
-    loop-holds
-    (λ c κs. search needs) (λ c κs. search needs) (λ c. search needs) add-total
-    (λ c. row-here (c .before .before)) (λ c. row-here (c .before .before))
+    Inv-loop μ-loop (λ c. (omega arith, omega arith)) (λ c κs. search needs) (λ c κs. search needs) (λ c. search needs)
+    add-total (λ c. row-here (c .before .before)) (λ c. row-here (c .before .before))
     (λ c. search needs) (λ c. search needs) (λ c. search needs) loop-again
     returns)

@@ -13,9 +13,6 @@ Inv-loop file rest₀ left₀ rest left = (left * 25 ≤ length rest) × SomeInv
 abbrev μ-loop : tie.MeasureT-loop
 μ-loop file rest₀ left₀ rest left = left
 
-loop-holds : tie.Need-loop-holds Inv-loop μ-loop
-loop-holds c = (omega arith, refl)
-
 returns : tie.Need-returns Inv-loop μ-loop
 unfolding oldRows
 returns c =
@@ -45,10 +42,7 @@ returns-2 c = some-end _ _ _ _ _ _ (c .before .loop .inv .1) (c .loop-test .left
 
 pub has-bad-row-spec : {M : Type 1} → statement M
 has-bad-row-spec = tie.close (tie.spec
-    Inv-loop
-    μ-loop
-    loop-holds
-    (λ c κs. search needs) (λ c κs. search needs) returns
+    Inv-loop μ-loop (λ c. (omega arith, refl)) (λ c κs. search needs) (λ c κs. search needs) returns
     (λ c. row-here (c .before .before .before)) (λ c. row-here (c .before .before .before))
     (λ c. search needs) (λ c. search needs) (λ c. search needs) loop-again
     returns-2)

@@ -12,9 +12,6 @@ Inv-loop rows count repeat i₀ i = RowInv rows count repeat i
 abbrev μ-loop : tie.MeasureT-loop
 μ-loop rows count repeat i₀ i = count - i
 
-before-repeat-requires : tie.Need-before-repeat-requires Inv-loop μ-loop
-before-repeat-requires c κs = (omega arith, c .before .pre)
-
 loop-holds : tie.Need-loop-holds Inv-loop μ-loop
 loop-holds c = row-start _ _ _ (c .before-repeat .ensures)
 
@@ -42,10 +39,7 @@ returns-2 c = row-end _ _ _ _ (c .before .loop .inv) (c .loop-test .left)
 
 pub test-rows-spec : {M : Type 1} → statement M
 test-rows-spec = tie.close (tie.spec
-    Inv-loop
-    μ-loop
-    before-repeat-requires
-    loop-holds
-    (λ c. search needs) (λ c κs. search needs) (λ c κs. search needs) (λ c. search needs) (λ c. search needs) returns
-    (λ c. search needs) (λ c. search needs) (λ c. search needs) loop-again
+    Inv-loop μ-loop (λ c κs. (omega arith, c .before .pre))
+    loop-holds (λ c. search needs) (λ c κs. search needs) (λ c κs. search needs) (λ c. search needs) (λ c. search needs)
+    returns (λ c. search needs) (λ c. search needs) (λ c. search needs) loop-again
     returns-2)

@@ -15,15 +15,6 @@ loop-holds : tie.Need-loop-holds Inv-loop μ-loop
 unfolding uuidText
 loop-holds c = (omega arith, writing-start _ _ _ (omega arith) (omega arith))
 
-shared-slice-read-put-hex : tie.Need-shared-slice-read-put-hex Inv-loop μ-loop
-shared-slice-read-put-hex c = omega arith
-
-add-i : tie.Need-add-i Inv-loop μ-loop
-add-i c = omega arith
-
-loop-less : tie.Need-loop-less Inv-loop μ-loop
-loop-less c = omega arith
-
 loop-again : tie.Need-loop-again Inv-loop μ-loop
 loop-again c =
     let l = c .before .before .before .before .before .before .loop in
@@ -43,12 +34,6 @@ returns c =
 
 pub put-uuid-spec : {M : Type 1} → statement M
 put-uuid-spec = tie.close (tie.spec
-    Inv-loop
-    μ-loop
-    loop-holds
-    shared-slice-read-put-hex
-    (λ c κs. search needs) add-i
-    loop-less
-    loop-again
-    same-length
+    Inv-loop μ-loop loop-holds (λ c. omega arith) (λ c κs. search needs) (λ c. omega arith)
+    (λ c. omega arith) loop-again same-length
     returns)

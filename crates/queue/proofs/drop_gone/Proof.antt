@@ -13,15 +13,9 @@ Inv-loop rows creds slots₀ count n₀ i₀ slots n i = Going (gone (seatsIn ro
 abbrev μ-loop : tie.MeasureT-loop
 μ-loop rows creds slots₀ count n₀ i₀ slots n i = n - i
 
-loop-holds : tie.Need-loop-holds Inv-loop μ-loop
-loop-holds c = begin _ _ _ _ (c .before .pre)
-
 mul-a : tie.Need-mul-a Inv-loop μ-loop
 mul-a c =
     let turn = c in omega (arith, row-within 260 _ _ _ ((turn .before .loop .inv) .table .fits) (turn .loop-test .taken), turn .before .before .before .good)
-
-part-requires : tie.Need-part-requires Inv-loop μ-loop
-part-requires c κs = search needs
 
 seat-held-requires : tie.Need-seat-held-requires Inv-loop μ-loop
 seat-held-requires c κs =
@@ -32,12 +26,6 @@ seat-held-requires c κs =
       row-within 260 _ _ _ ((turn .before .loop .inv) .table .fits) (turn .loop-test .taken),
       length-drop ((turn .before .loop .i) * 260) (turn .before .loop .slots),
     ))
-
-add-i : tie.Need-add-i Inv-loop μ-loop
-add-i c = search needs
-
-loop-less : tie.Need-loop-less Inv-loop μ-loop
-loop-less c = search needs
 
 loop-again : tie.Need-loop-again Inv-loop μ-loop
 loop-again c =
@@ -50,12 +38,6 @@ remove-row-requires : tie.Need-remove-row-requires Inv-loop μ-loop
 remove-row-requires c κs =
     let turn = c .before .before .before .before .before in row-within 260 _ _ _ ((turn .before .loop .inv) .table .fits) (turn .loop-test .taken)
 
-sub-n : tie.Need-sub-n Inv-loop μ-loop
-sub-n c = search needs
-
-loop-less-2 : tie.Need-loop-less-2 Inv-loop μ-loop
-loop-less-2 c = search needs
-
 loop-again-2 : tie.Need-loop-again-2 Inv-loop μ-loop
 loop-again-2 c =
     let call = c .before .before in
@@ -66,26 +48,13 @@ loop-again-2 c =
     (seat-gone _ (turn .before .loop .i) (turn .before .loop .slots) _ (test .before .before .part .ensures) _ (test .before .seat-held .ensures)
     ∙ ap not (test .if1 .left))
 
-same-length : tie.Need-same-length Inv-loop μ-loop
-same-length c = c .before .loop .inv .long
-
 returns : tie.Need-returns Inv-loop μ-loop
 returns c = end _ _ _ _ _ _ _ (c .before .loop .inv) (c .loop-test .left)
 
 pub drop-gone-spec : {M : Type 1} → statement M
 drop-gone-spec = tie.close (tie.spec
-    Inv-loop
-    μ-loop
-    loop-holds
-    mul-a
-    part-requires
-    seat-held-requires
-    add-i
-    loop-less
-    loop-again
-    remove-row-requires
-    sub-n
-    loop-less-2
-    loop-again-2
-    same-length
-    returns)
+    Inv-loop μ-loop (λ c. begin _ _ _ _ (c .before .pre))
+    mul-a (λ c κs. search needs) seat-held-requires
+    (λ c. search needs) (λ c. search needs) loop-again
+    remove-row-requires (λ c. search needs) (λ c. search needs) loop-again-2
+    (λ c. c .before .loop .inv .long) returns)

@@ -6,29 +6,8 @@ use Rattle.queue.proofs.Laws.{slotsOf, slots-table, slots-rows, between
 use Rattle.queue.proofs.leave.Statement.{statement}
 use Rattle.queue.proofs.leave.Tie as tie
 
-slice-read-count : tie.Need-slice-read-count
-slice-read-count c = search needs
-
-cast-count : tie.Need-cast-count
-cast-count c = search needs
-
-sub-take-out : tie.Need-sub-take-out
-sub-take-out c = search needs
-
-part-take-out-start : tie.Need-part-take-out-start
-part-take-out-start c = search needs
-
-part-take-out-end : tie.Need-part-take-out-end
-part-take-out-end c = search needs
-
 take-out-requires : tie.Need-take-out-requires
 take-out-requires c κs = let s = c .before .before .before .before in slots-table (now (s .args .memory)) (s .pre .0)
-
-shared-slice-read-t7 : tie.Need-shared-slice-read-t7
-shared-slice-read-t7 c = search needs
-
-shared-slice-read-t14 : tie.Need-shared-slice-read-t14
-shared-slice-read-t14 c = search needs
 
 put-head-requires : tie.Need-put-head-requires
 put-head-requires c κs =
@@ -36,9 +15,6 @@ put-head-requires c κs =
     let s = call .before .before .before .before .before in
     let m = now (s .args .memory) in
     (omega (arith, between-long m (s .pre .0) (call .take-out .last .0) (call .take-out .kept .0)), few-left m (s .pre .0) _ _ (call .take-out .ensures .0))
-
-same-length : tie.Need-same-length
-same-length c = search needs
 
 returns : tie.Need-returns
 returns c =
@@ -53,14 +29,6 @@ returns c =
 
 pub leave-spec : {M : Type 1} → statement M
 leave-spec = tie.close (tie.spec
-    slice-read-count
-    cast-count
-    sub-take-out
-    part-take-out-start
-    part-take-out-end
-    take-out-requires
-    shared-slice-read-t7
-    shared-slice-read-t14
-    put-head-requires
-    same-length
-    returns)
+    (λ c. search needs) (λ c. search needs) (λ c. search needs) (λ c. search needs) (λ c. search needs) take-out-requires
+    (λ c. search needs) (λ c. search needs) put-head-requires
+    (λ c. search needs) returns)

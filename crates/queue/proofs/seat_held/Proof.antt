@@ -5,25 +5,10 @@ use Rattle.queue.proofs.Laws.{seat-zero, seat-found}
 use Rattle.queue.proofs.seat_held.Statement.{statement}
 use Rattle.queue.proofs.seat_held.Tie as tie
 
-all-zero-requires : tie.Need-all-zero-requires
-all-zero-requires c κs = search needs
-
 returns : tie.Need-returns
 returns c =
     let s = c .before .before .before in
     seat-zero (s .args .count) (now (s .args .creds)) (s .args .seat .now) (s .pre) _ (c .before .all-zero .ensures) (c .if1 .taken)
-
-held-requires : tie.Need-held-requires
-held-requires c κs = search needs
-
-find-requires : tie.Need-find-requires
-find-requires c κs = search needs
-
-enum-told : tie.Need-enum-told
-enum-told c = search needs
-
-enum-told-2 : tie.Need-enum-told-2
-enum-told-2 c = search needs
 
 returns-2 : tie.Need-returns-2
 returns-2 c =
@@ -47,11 +32,5 @@ returns-3 c =
 
 pub seat-held-spec : {M : Type 1} → statement M
 seat-held-spec = tie.close (tie.spec
-    all-zero-requires
-    returns
-    held-requires
-    find-requires
-    enum-told
-    enum-told-2
-    returns-2
-    returns-3)
+    (λ c κs. search needs) returns (λ c κs. search needs) (λ c κs. search needs) (λ c. search needs) (λ c. search needs)
+    returns-2 returns-3)

@@ -7,24 +7,6 @@ use Rattle.queue.proofs.Laws.{slotsOf, slots-table, slots-rows, between
 use Rattle.queue.proofs.settle.Statement.{statement}
 use Rattle.queue.proofs.settle.Tie as tie
 
-round-after-requires : tie.Need-round-after-requires
-round-after-requires c κs = search needs
-
-slice-read-used : tie.Need-slice-read-used
-slice-read-used c = search needs
-
-cast-used : tie.Need-cast-used
-cast-used c = search needs
-
-sub-drop-gone : tie.Need-sub-drop-gone
-sub-drop-gone c = search needs
-
-part-drop-gone-start : tie.Need-part-drop-gone-start
-part-drop-gone-start c = search needs
-
-part-drop-gone-end : tie.Need-part-drop-gone-end
-part-drop-gone-end c = search needs
-
 drop-gone-requires : tie.Need-drop-gone-requires
 drop-gone-requires c κs = let s = c .before .before .before .before .before in slots-table (now (s .args .memory)) (s .pre)
 
@@ -36,9 +18,6 @@ put-head-requires c κs =
       omega (arith, between-long m (s .pre) (call .drop-gone .last .1 .1 .0) (call .drop-gone .kept .1 .1 .0)),
       few-left m (s .pre) _ _ (call .drop-gone .ensures .0),
     )
-
-same-length : tie.Need-same-length
-same-length c = search needs
 
 returns : tie.Need-returns
 returns c =
@@ -55,13 +34,5 @@ returns c =
 
 pub settle-spec : {M : Type 1} → statement M
 settle-spec = tie.close (tie.spec
-    round-after-requires
-    slice-read-used
-    cast-used
-    sub-drop-gone
-    part-drop-gone-start
-    part-drop-gone-end
-    drop-gone-requires
-    put-head-requires
-    same-length
-    returns)
+    (λ c κs. search needs) (λ c. search needs) (λ c. search needs) (λ c. search needs) (λ c. search needs) (λ c. search needs)
+    drop-gone-requires put-head-requires (λ c. search needs) returns)

@@ -4,20 +4,11 @@ use Rattle.queue.proofs.Laws.{used-long, used-rows, used-table, used-pa
 use Rattle.queue.proofs.take_out.Statement.{statement}
 use Rattle.queue.proofs.take_out.Tie as tie
 
-mul-used : tie.Need-mul-used
-mul-used c = search needs
-
-slice-relend-prefix-remove : tie.Need-slice-relend-prefix-remove
-slice-relend-prefix-remove c = search needs
-
 slice-aggregate-remove : tie.Need-slice-aggregate-remove
 slice-aggregate-remove c = let s = c .before .before .before in sym (used-long 260 (s .args .count) (now (s .args .slots)) (s .pre))
 
 remove-requires : tie.Need-remove-requires
 remove-requires c κs = let s = c .before .before .before in used-table 260 (s .args .count) (now (s .args .slots)) (s .pre)
-
-same-length : tie.Need-same-length
-same-length c = search needs
 
 returns : tie.Need-returns
 returns c =
@@ -30,9 +21,5 @@ returns c =
 
 pub take-out-spec : {M : Type 1} → statement M
 take-out-spec = tie.close (tie.spec
-    mul-used
-    slice-relend-prefix-remove
-    slice-aggregate-remove
-    remove-requires
-    same-length
-    returns)
+    (λ c. search needs) (λ c. search needs) slice-aggregate-remove
+    remove-requires (λ c. search needs) returns)

@@ -6,39 +6,6 @@ use borrow.Author.Needs.{needs}
 use Rattle.queue_intake.proofs.check_free.Statement.{statement}
 use Rattle.queue_intake.proofs.check_free.Tie as tie
 
-shared-slice-read-count : tie.Need-shared-slice-read-count
-shared-slice-read-count c = search needs
-
-cast-count : tie.Need-cast-count
-cast-count c = search needs
-
-sub-find : tie.Need-sub-find
-sub-find c = search needs
-
-part-find-start : tie.Need-part-find-start
-part-find-start c = search needs
-
-part-find-end : tie.Need-part-find-end
-part-find-end c = search needs
-
-sub-find-2 : tie.Need-sub-find-2
-sub-find-2 c = search needs
-
-part-find-start-2 : tie.Need-part-find-start-2
-part-find-start-2 c = search needs
-
-part-find-end-2 : tie.Need-part-find-end-2
-part-find-end-2 c = search needs
-
-find-requires : tie.Need-find-requires
-find-requires c κs = search needs
-
-enum-told : tie.Need-enum-told
-enum-told c = search needs
-
-enum-told-2 : tie.Need-enum-told-2
-enum-told-2 c = search needs
-
 returns : tie.Need-returns
 unfolding refuseIf
 returns c =
@@ -63,16 +30,6 @@ returns-2 c =
 
 pub check-free-spec : {M : Type 1} → statement M
 check-free-spec = tie.close (tie.spec
-    shared-slice-read-count
-    cast-count
-    sub-find
-    part-find-start
-    part-find-end
-    sub-find-2
-    part-find-start-2
-    part-find-end-2
-    find-requires
-    enum-told
-    enum-told-2
-    returns
+    (λ c. search needs) (λ c. search needs) (λ c. search needs) (λ c. search needs) (λ c. search needs) (λ c. search needs)
+    (λ c. search needs) (λ c. search needs) (λ c κs. search needs) (λ c. search needs) (λ c. search needs) returns
     returns-2)

@@ -16,26 +16,8 @@ tables s = tablesOf (s .args .h) (now (s .args .creds)) (now (s .args .aces))
 abbrev start : tie.After-enum-told → tie.Start
 start p = p .before .before .before .before
 
-check-terminal-requires : tie.Need-check-terminal-requires
-check-terminal-requires c κs = search needs
-
-enum-told : tie.Need-enum-told
-enum-told c = search needs
-
-enum-told-2 : tie.Need-enum-told-2
-enum-told-2 c = search needs
-
 returns : tie.Need-returns
 returns c = stop _ _ _ _ (c .before .before .check-terminal .ensures) (c .enum-told2 .given .1)
-
-check-sender-requires : tie.Need-check-sender-requires
-check-sender-requires c κs = search needs
-
-enum-told-3 : tie.Need-enum-told-3
-enum-told-3 c = search needs
-
-enum-told-4 : tie.Need-enum-told-4
-enum-told-4 c = search needs
 
 returns-2 : tie.Need-returns-2
 returns-2 c =
@@ -68,13 +50,6 @@ returns-3 c =
 
 pub check-hand-in-spec : {M : Type 1} → statement M
 check-hand-in-spec = tie.close (tie.spec
-    check-terminal-requires
-    enum-told
-    enum-told-2
-    returns
-    check-sender-requires
-    enum-told-3
-    enum-told-4
-    returns-2
-    check-free-requires
-    returns-3)
+    (λ c κs. search needs) (λ c. search needs) (λ c. search needs) returns
+    (λ c κs. search needs) (λ c. search needs) (λ c. search needs) returns-2
+    check-free-requires returns-3)

@@ -12,18 +12,6 @@ start c = c .before .before .before
 abbrev tables : tie.Start → Tables
 tables s = tablesOf (s .args .h) (now (s .args .creds)) (now (s .args .aces))
 
-check-hand-in-requires : tie.Need-check-hand-in-requires
-check-hand-in-requires c κs = search needs
-
-enum-told : tie.Need-enum-told
-enum-told c = search needs
-
-enum-told-2 : tie.Need-enum-told-2
-enum-told-2 c = search needs
-
-refused-requires : tie.Need-refused-requires
-refused-requires c κs = search needs
-
 returns : tie.Need-returns
 returns c =
     let told = c .before in
@@ -39,9 +27,6 @@ keep-requires c κs =
     let s = start call in
     can-keep (tables s) (now (s .args .memory)) (now (s .args .«record»)) (sym (call .check-hand-in .ensures) ∙ told .enum-told .given .1)
 
-refused-requires-2 : tie.Need-refused-requires-2
-refused-requires-2 c κs = search needs
-
 returns-2 : tie.Need-returns-2
 returns-2 c =
     let keep = c .before in
@@ -53,11 +38,5 @@ returns-2 c =
 
 pub hand-in-spec : {M : Type 1} → statement M
 hand-in-spec = tie.close (tie.spec
-    check-hand-in-requires
-    enum-told
-    enum-told-2
-    refused-requires
-    returns
-    keep-requires
-    refused-requires-2
-    returns-2)
+    (λ c κs. search needs) (λ c. search needs) (λ c. search needs) (λ c κs. search needs) returns
+    keep-requires (λ c κs. search needs) returns-2)

@@ -14,27 +14,15 @@ slice-is : (c : tie.After-part)
     → let d = c .before .before in now (c .part .result) ≡ take 260 (drop (d .due-slot .result * 260) (drop 4 (now (d .before .before .args .memory))))
 slice-is c = let d = c .before .before in c .part .ensures ∙ ap (λ (b : List ℕ). take 260 (drop (d .due-slot .result * 260) b)) (c .before .after .ensures)
 
-due-slot-requires : tie.Need-due-slot-requires
-due-slot-requires c κs = search needs
-
-after-requires : tie.Need-after-requires
-after-requires c κs = search needs
-
 mul-part : tie.Need-mul-part
 mul-part c =
     let d = c .before in
     let s = d .before .before in omega (arith, due-small (tables s) (now (s .args .memory)) (s .pre .0) (s .pre .1) _ (d .due-slot .ensures))
 
-part-requires : tie.Need-part-requires
-part-requires c κs = search needs
-
 record-bytes-requires : tie.Need-record-bytes-requires
 record-bytes-requires c κs =
     let d = c .before .before in
     let s = d .before .before in ap length (slice-is c) ∙ slot-whole-long (tables s) (now (s .args .memory)) (s .pre .0) (s .pre .1) _ (d .due-slot .ensures)
-
-record-in-requires : tie.Need-record-in-requires
-record-in-requires c κs = search needs
 
 shared-slice-read-t13 : tie.Need-shared-slice-read-t13
 shared-slice-read-t13 c =
@@ -61,12 +49,7 @@ returns c =
 
 pub due-record-spec : {M : Type 1} → statement M
 due-record-spec = tie.close (tie.spec
-    due-slot-requires
-    after-requires
-    mul-part
-    part-requires
-    record-bytes-requires
-    record-in-requires
-    shared-slice-read-t13
-    shared-slice-read-t15
-    returns)
+    (λ c κs. search needs) (λ c κs. search needs) mul-part
+    (λ c κs. search needs) record-bytes-requires
+    (λ c κs. search needs) shared-slice-read-t13
+    shared-slice-read-t15 returns)

@@ -17,17 +17,11 @@ shared-slice-read-count c = let s = c .before .before in omega (arith, six (tabl
 cast-count : tie.Need-cast-count
 cast-count c = search (needs, c .shared-slice-known2 .given 0)
 
-held-requires : tie.Need-held-requires
-held-requires c κs = search needs
-
 sub-next-slot : tie.Need-sub-next-slot
 sub-next-slot c = let s = c .before .before .before .before in omega (arith, six (tables s) (now (s .args .m)) (s .pre .0))
 
 part-next-slot-start : tie.Need-part-next-slot-start
 part-next-slot-start c = let s = c .before .before .before .before in omega (arith, six (tables s) (now (s .args .m)) (s .pre .0))
-
-part-next-slot-end : tie.Need-part-next-slot-end
-part-next-slot-end c = search needs
 
 next-slot-requires : tie.Need-next-slot-requires
 next-slot-requires c κs =
@@ -38,12 +32,6 @@ next-slot-requires c κs =
       omega (arith, six (tables s) (now (s .args .m)) (s .pre .0)),
       slots-room (tables s) (now (s .args .m)) (s .pre .0),
     )
-
-enum-known-i : tie.Need-enum-known-i
-enum-known-i c = search needs
-
-enum-told : tie.Need-enum-told
-enum-told c = search needs
 
 returns : tie.Need-returns
 returns c =
@@ -61,14 +49,7 @@ returns-2 c =
 
 pub due-slot-spec : {M : Type 1} → statement M
 due-slot-spec = tie.close (tie.spec
-    shared-slice-read-count
-    cast-count
-    held-requires
-    sub-next-slot
-    part-next-slot-start
-    part-next-slot-end
-    next-slot-requires
-    enum-known-i
-    enum-told
-    returns
+    shared-slice-read-count cast-count (λ c κs. search needs) sub-next-slot
+    part-next-slot-start (λ c. search needs) next-slot-requires
+    (λ c. search needs) (λ c. search needs) returns
     returns-2)

@@ -22,17 +22,11 @@ slice-aggregate-find c =
 find-requires : tie.Need-find-requires Inv-loop μ-loop
 find-requires c κs = c .before .before .before .before .before .pre .1
 
-enum-known-i : tie.Need-enum-known-i Inv-loop μ-loop
-enum-known-i c = search needs
-
 returns : tie.Need-returns Inv-loop μ-loop
 returns c =
     let call = c .before .before .before in
     let turn = call .before .before in
     found _ _ _ _ (turn .before .loop .rest .now) _ (turn .before .loop .inv) (turn .loop-test .taken) _ (call .find .ensures) _ (c .before .i .given .1)
-
-enum-told : tie.Need-enum-told Inv-loop μ-loop
-enum-told c = search needs
 
 sub-rest : tie.Need-sub-rest Inv-loop μ-loop
 sub-rest c =
@@ -41,15 +35,6 @@ sub-rest c =
 part-rest-start : tie.Need-part-rest-start Inv-loop μ-loop
 part-rest-start c =
     let turn = c .before .before .before .before in row-here _ _ _ _ (turn .before .loop .rest .now) _ (turn .before .loop .inv) (turn .loop-test .taken)
-
-part-rest-end : tie.Need-part-rest-end Inv-loop μ-loop
-part-rest-end c = search needs
-
-sub-left : tie.Need-sub-left Inv-loop μ-loop
-sub-left c = search needs
-
-loop-less : tie.Need-loop-less Inv-loop μ-loop
-loop-less c = search needs
 
 loop-again : tie.Need-loop-again Inv-loop μ-loop
 loop-again c =
@@ -63,18 +48,8 @@ returns-2 c = none _ _ _ _ (c .before .loop .rest .now) _ (c .before .loop .inv)
 
 pub first-waiting-spec : {M : Type 1} → statement M
 first-waiting-spec = tie.close (tie.spec
-    Inv-loop
-    μ-loop
-    loop-holds
-    slice-aggregate-find
-    find-requires
-    enum-known-i
-    returns
-    enum-told
-    sub-rest
-    part-rest-start
-    part-rest-end
-    sub-left
-    loop-less
-    loop-again
+    Inv-loop μ-loop loop-holds slice-aggregate-find
+    find-requires (λ c. search needs) returns
+    (λ c. search needs) sub-rest part-rest-start
+    (λ c. search needs) (λ c. search needs) (λ c. search needs) loop-again
     returns-2)

@@ -10,9 +10,6 @@ start c = c .before .before .before .before
 bound : (c : tie.After-rows-before) → c .rows-before .result ≤ start c .args .count
 bound c = before-fits (start c .args .count) (start c .args .creds .now) (start c .args .m .now) _ (c .rows-before .ensures)
 
-rows-before-requires : tie.Need-rows-before-requires
-rows-before-requires c κs = search needs
-
 mul-start : tie.Need-mul-start
 mul-start c = omega (arith, bound c, c .before .before .before .before .pre .0, c .before .before .before .before .good)
 
@@ -22,36 +19,12 @@ sub-first-waiting c = omega (arith, bound c, c .before .before .before .before .
 part-first-waiting-start : tie.Need-part-first-waiting-start
 part-first-waiting-start c = omega (arith, bound c, c .before .before .before .before .pre .0)
 
-part-first-waiting-end : tie.Need-part-first-waiting-end
-part-first-waiting-end c = search needs
-
-sub-first-waiting-2 : tie.Need-sub-first-waiting-2
-sub-first-waiting-2 c = bound (c .before)
-
-first-waiting-requires : tie.Need-first-waiting-requires
-first-waiting-requires c κs = search needs
-
-enum-known-later : tie.Need-enum-known-later
-enum-known-later c = search needs
-
 returns : tie.Need-returns
 returns c =
     let f = c .before .before .before in
     let p = f .before .before in
     next-first _ _ (start p .args .count) (start p .args .creds .now) _ (p .rows-before .ensures)
     (bound p) _ (f .first-waiting .ensures) _ (c .before .later .given .1)
-
-enum-told : tie.Need-enum-told
-enum-told c = search needs
-
-slice-aggregate-find : tie.Need-slice-aggregate-find
-slice-aggregate-find c = search needs
-
-find-requires : tie.Need-find-requires
-find-requires c κs = search needs
-
-enum-known-shared : tie.Need-enum-known-shared
-enum-known-shared c = search needs
 
 returns-2 : tie.Need-returns-2
 returns-2 c =
@@ -61,9 +34,6 @@ returns-2 c =
     let p = f .before .before in
     next-nobody _ _ (start p .args .count) (start p .args .creds .now) _ (p .rows-before .ensures) (bound p) _
     (f .first-waiting .ensures) (told .enum-told .given .1) _ (g .find .ensures) _ (c .before .shared .given .1)
-
-enum-told-2 : tie.Need-enum-told-2
-enum-told-2 c = search needs
 
 first-waiting-requires-2 : tie.Need-first-waiting-requires-2
 first-waiting-requires-2 c κs =
@@ -81,20 +51,9 @@ returns-3 c =
 
 pub next-slot-spec : {M : Type 1} → statement M
 next-slot-spec = tie.close (tie.spec
-    rows-before-requires
-    mul-start
-    sub-first-waiting
-    part-first-waiting-start
-    part-first-waiting-end
-    sub-first-waiting-2
-    first-waiting-requires
-    enum-known-later
-    returns
-    enum-told
-    slice-aggregate-find
-    find-requires
-    enum-known-shared
-    returns-2
-    enum-told-2
-    first-waiting-requires-2
+    (λ c κs. search needs) mul-start sub-first-waiting
+    part-first-waiting-start (λ c. search needs) (λ c. bound (c .before))
+    (λ c κs. search needs) (λ c. search needs) returns
+    (λ c. search needs) (λ c. search needs) (λ c κs. search needs) (λ c. search needs) returns-2
+    (λ c. search needs) first-waiting-requires-2
     returns-3)

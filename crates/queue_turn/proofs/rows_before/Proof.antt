@@ -4,38 +4,14 @@ use Rattle.queue_turn.proofs.TurnLaws.{before-anew, before-zero, before
 use Rattle.queue_turn.proofs.rows_before.Statement.{statement}
 use Rattle.queue_turn.proofs.rows_before.Tie as tie
 
-shared-slice-read-if1 : tie.Need-shared-slice-read-if1
-shared-slice-read-if1 c = search needs
-
 returns : tie.Need-returns
 returns c = let e = c in let s = e .before .before .before .before in before-anew (s .args .count) (s .args .creds .now) (s .args .m .now) (c .if1 .taken)
-
-sub-seat : tie.Need-sub-seat
-sub-seat c = search needs
-
-part-seat-start : tie.Need-part-seat-start
-part-seat-start c = search needs
-
-part-seat-end : tie.Need-part-seat-end
-part-seat-end c = search needs
-
-all-zero-requires : tie.Need-all-zero-requires
-all-zero-requires c κs = search needs
 
 returns-2 : tie.Need-returns-2
 returns-2 c =
     let e = c .before .before .before in
     let s = e .before .before .before .before in
     before-zero (s .args .count) (s .args .creds .now) (s .args .m .now) (e .if1 .left) (s .pre .1) _ (c .before .all-zero .ensures) (c .if2 .taken)
-
-find-requires : tie.Need-find-requires
-find-requires c κs = search needs
-
-enum-known-i : tie.Need-enum-known-i
-enum-known-i c = search needs
-
-enum-told : tie.Need-enum-told
-enum-told c = search needs
 
 returns-3 : tie.Need-returns-3
 returns-3 c =
@@ -70,16 +46,6 @@ returns-4 c =
 
 pub rows-before-spec : {M : Type 1} → statement M
 rows-before-spec = tie.close (tie.spec
-    shared-slice-read-if1
-    returns
-    sub-seat
-    part-seat-start
-    part-seat-end
-    all-zero-requires
-    returns-2
-    find-requires
-    enum-known-i
-    enum-told
-    returns-3
-    add-result
-    returns-4)
+    (λ c. search needs) returns (λ c. search needs) (λ c. search needs) (λ c. search needs) (λ c κs. search needs) returns-2
+    (λ c κs. search needs) (λ c. search needs) (λ c. search needs) returns-3
+    add-result returns-4)

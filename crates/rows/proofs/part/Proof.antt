@@ -17,11 +17,7 @@ returns c = let a = c .before .before .args in none (now (a .s)) (a .at) (a .n) 
 returns-2 : tie.Need-returns-2
 returns-2 c = let a = c .before .before .before .args in whole (now (a .s)) (a .at) (a .n) (c .before .if2 .taken)
 
-returns-3 : tie.Need-returns-3
-returns-3 c = rw add-sub-cancel-left
-
 pub part-spec : {M : Type 1} → statement M
 part-spec = tie.close (tie.spec
-    (λ c. search needs) returns
-    (λ c. search needs) (λ c. search needs) (λ c. search needs) (λ c. search needs) returns-2
-    (λ c. search needs) (λ c. search needs) (λ c. search needs) (λ c. search needs) returns-3)
+    (λ c. search needs) returns (λ c. search needs) (λ c. search needs) (λ c. search needs) (λ c. search needs) returns-2
+    (λ c. search needs) (λ c. search needs) (λ c. search needs) (λ c. search needs) (λ c. rw add-sub-cancel-left))

@@ -12,34 +12,11 @@ lent : (stride i : ℕ) (row rows last : List ℕ) → length row ≡ stride
 unfolding withRow
 lent stride i row rows last l e = lent-rest (i * stride) rows last ∙ rw (e, take-rest, l)
 
-mul-at : tie.Need-mul-at
-mul-at c = search needs
-
-sub-copy-over : tie.Need-sub-copy-over
-sub-copy-over c = search needs
-
-part-copy-over-start : tie.Need-part-copy-over-start
-part-copy-over-start c = search needs
-
-part-copy-over-end : tie.Need-part-copy-over-end
-part-copy-over-end c = search needs
-
-copy-over-requires : tie.Need-copy-over-requires
-copy-over-requires c κs = search needs
-
-same-length : tie.Need-same-length
-same-length c = search needs
-
 returns : tie.Need-returns
 returns c =
     lent _ _ _ _ _ (c .before .before .before .before .before .before .pre .0) (c .before .before .copy-over .ensures)
 
 pub put-row-spec : {M : Type 1} → statement M
 put-row-spec = tie.close (tie.spec
-    mul-at
-    sub-copy-over
-    part-copy-over-start
-    part-copy-over-end
-    copy-over-requires
-    same-length
+    (λ c. search needs) (λ c. search needs) (λ c. search needs) (λ c. search needs) (λ c κs. search needs) (λ c. search needs)
     returns)

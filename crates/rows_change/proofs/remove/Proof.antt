@@ -26,12 +26,6 @@ remove-row-requires c κs =
     let turn = c .before .before .before .before in
     row-within _ _ _ _ (turn .before .loop .inv .table .fits) (turn .loop-test .taken)
 
-sub-n : tie.Need-sub-n Inv-loop μ-loop
-sub-n c = search needs
-
-loop-less : tie.Need-loop-less Inv-loop μ-loop
-loop-less c = search needs
-
 loop-again : tie.Need-loop-again Inv-loop μ-loop
 loop-again c =
     let call = c .before .before .remove-row in
@@ -40,35 +34,17 @@ loop-again c =
     gone _ _ _ _ _ _ _ (turn .before .loop .inv) (turn .loop-test .taken) _ (call .ensures)
     (call .kept .0) (sym (test .before .row-has .ensures) ∙ test .if1 .taken)
 
-add-i : tie.Need-add-i Inv-loop μ-loop
-add-i c = search needs
-
-loop-less-2 : tie.Need-loop-less-2 Inv-loop μ-loop
-loop-less-2 c = search needs
-
 loop-again-2 : tie.Need-loop-again-2 Inv-loop μ-loop
 loop-again-2 c =
     let turn = c .before .before .before in
     stay _ _ _ _ _ _ _ (turn .before .loop .inv) (turn .loop-test .taken) (sym (c .before .row-has .ensures) ∙ c .if1 .left)
-
-same-length : tie.Need-same-length Inv-loop μ-loop
-same-length c = c .before .loop .inv .long
 
 returns : tie.Need-returns Inv-loop μ-loop
 returns c = end _ _ _ _ _ _ _ (c .before .loop .inv) (c .loop-test .left)
 
 pub remove-spec : {M : Type 1} → statement M
 remove-spec = tie.close (tie.spec
-    Inv-loop
-    μ-loop
-    loop-holds
-    row-has-requires
-    remove-row-requires
-    sub-n
-    loop-less
-    loop-again
-    add-i
-    loop-less-2
-    loop-again-2
-    same-length
-    returns)
+    Inv-loop μ-loop loop-holds row-has-requires
+    remove-row-requires (λ c. search needs) (λ c. search needs) loop-again
+    (λ c. search needs) (λ c. search needs) loop-again-2
+    (λ c. c .before .loop .inv .long) returns)

@@ -12,33 +12,10 @@ lent : (stride i : ℕ) (rows last : List ℕ)
 unfolding withoutRow
 lent stride i rows last e = lent-rest (i * stride) rows last ∙ rw (e, take-rest)
 
-mul-at : tie.Need-mul-at
-mul-at c = search needs
-
-sub-shift-down : tie.Need-sub-shift-down
-sub-shift-down c = search needs
-
-part-shift-down-start : tie.Need-part-shift-down-start
-part-shift-down-start c = search needs
-
-part-shift-down-end : tie.Need-part-shift-down-end
-part-shift-down-end c = search needs
-
-shift-down-requires : tie.Need-shift-down-requires
-shift-down-requires c κs = search needs
-
-same-length : tie.Need-same-length
-same-length c = search needs
-
 returns : tie.Need-returns
 returns c = lent _ _ _ _ (c .before .before .shift-down .ensures)
 
 pub remove-row-spec : {M : Type 1} → statement M
 remove-row-spec = tie.close (tie.spec
-    mul-at
-    sub-shift-down
-    part-shift-down-start
-    part-shift-down-end
-    shift-down-requires
-    same-length
+    (λ c. search needs) (λ c. search needs) (λ c. search needs) (λ c. search needs) (λ c κs. search needs) (λ c. search needs)
     returns)

@@ -47,41 +47,11 @@ module _ (bytes₀ bytes : List ℕ) (n kept i : ℕ) (inv : Inv bytes₀ n kept
       ∙ ap (λ (l : List ℕ). take kept l ++ last) front
       ∙ rw (take-at (drop n bytes₀) (drop kept bytes₀) kept long, e, gone)
 
-sub-kept : tie.Need-sub-kept Inv-loop μ-loop
-sub-kept c = search needs
-
 loop-holds : tie.Need-loop-holds Inv-loop μ-loop
 loop-holds c = (search needs, omega arith, refl, refl)
 
-add-bytes : tie.Need-add-bytes Inv-loop μ-loop
-add-bytes c = search needs
-
-slice-read-bytes : tie.Need-slice-read-bytes Inv-loop μ-loop
-slice-read-bytes c = search needs
-
-slice-write-bytes : tie.Need-slice-write-bytes Inv-loop μ-loop
-slice-write-bytes c = search needs
-
-add-i : tie.Need-add-i Inv-loop μ-loop
-add-i c = search needs
-
-loop-less : tie.Need-loop-less Inv-loop μ-loop
-loop-less c = search needs
-
 loop-again : tie.Need-loop-again Inv-loop μ-loop
 loop-again c = turn _ _ _ _ _ (c .before .before .loop .inv) (c .before .loop-test .taken)
-
-sub-clear : tie.Need-sub-clear Inv-loop μ-loop
-sub-clear c = search needs
-
-part-clear-start : tie.Need-part-clear-start Inv-loop μ-loop
-part-clear-start c = search needs
-
-part-clear-end : tie.Need-part-clear-end Inv-loop μ-loop
-part-clear-end c = search needs
-
-clear-requires : tie.Need-clear-requires Inv-loop μ-loop
-clear-requires c κs = tt
 
 same-length : tie.Need-same-length Inv-loop μ-loop
 same-length c = c .before .bytes .given .1 ∙ c .before .before .before .before .before .loop .inv .2
@@ -93,19 +63,7 @@ returns c =
 
 pub shift-down-spec : {M : Type 1} → statement M
 shift-down-spec = tie.close (tie.spec
-    Inv-loop
-    μ-loop
-    sub-kept
-    loop-holds
-    add-bytes
-    slice-read-bytes
-    slice-write-bytes
-    add-i
-    loop-less
-    loop-again
-    sub-clear
-    part-clear-start
-    part-clear-end
-    clear-requires
-    same-length
-    returns)
+    Inv-loop μ-loop (λ c. search needs) loop-holds
+    (λ c. search needs) (λ c. search needs) (λ c. search needs) (λ c. search needs) (λ c. search needs) loop-again
+    (λ c. search needs) (λ c. search needs) (λ c. search needs) (λ c κs. tt)
+    same-length returns)

@@ -11,15 +11,9 @@ Inv-loop rows stride count seen₀ i₀ seen i = SeenInv stride count rows seen 
 abbrev μ-loop : tie.MeasureT-loop
 μ-loop rows stride count seen₀ i₀ seen i = count - i
 
-loop-holds : tie.Need-loop-holds Inv-loop μ-loop
-loop-holds c = seen-start _ _ _ _ refl
-
 -- row i lies within the bytes
 here : (c : tie.In-loop Inv-loop μ-loop) → let a = c .before .before .before .args in c .before .loop .i * a .stride + a .stride ≤ length (a .rows .now)
 here c = let s = c .before .before .before in row-fits _ _ _ _ _ (s .pre .0) (s .pre .1) (c .before .loop .inv) (c .loop-test .taken)
-
-mul-low : tie.Need-mul-low Inv-loop μ-loop
-mul-low c = omega (arith, here c)
 
 add-low : tie.Need-add-low Inv-loop μ-loop
 add-low c = let two = c .before .before .before .pre .0 in omega (arith, here c)
@@ -31,12 +25,6 @@ shared-slice-read-low c = let two = c .before .before .before .before .pre .0 in
 low : (c : tie.After-shared-slice-known2 Inv-loop μ-loop) → let a = c .before .before .before .before .args in
     getD (a .rows .now) (c .before .before .loop .i * a .stride + 1) 0 < 256
 low c = let a = c .before .before .before .before .args in omega (arith, c .shared-slice-known2 .given (c .before .before .loop .i * a .stride + 1))
-
-cast-low : tie.Need-cast-low Inv-loop μ-loop
-cast-low c = omega (arith, low c)
-
-array-read-again : tie.Need-array-read-again Inv-loop μ-loop
-array-read-again c = low c
 
 again-requires : tie.Need-again-requires Inv-loop μ-loop
 again-requires c κs =
@@ -50,9 +38,6 @@ returns c =
     let s = turn .before .before .before in
     again-first _ _ _ _ _ (s .pre .0) (s .pre .1) (turn .before .loop .inv) (turn .loop-test .taken) (sym (c .before .again .ensures) ∙ c .if1 .taken)
 
-array-write-seen : tie.Need-array-write-seen Inv-loop μ-loop
-array-write-seen c = low (c .before .before)
-
 loop-again : tie.Need-loop-again Inv-loop μ-loop
 loop-again c =
     let turn = c .before .before .before in
@@ -65,18 +50,8 @@ returns-2 c = seen-end _ _ _ _ _ (c .before .loop .inv) (c .loop-test .left)
 
 pub before-repeat-spec : {M : Type 1} → statement M
 before-repeat-spec = tie.close (tie.spec
-    Inv-loop
-    μ-loop
-    loop-holds
-    mul-low
-    add-low
-    shared-slice-read-low
-    cast-low
-    array-read-again
-    again-requires
-    returns
-    array-write-seen
-    (λ c. search needs)
-    (λ c. search needs)
-    loop-again
+    Inv-loop μ-loop (λ c. seen-start _ _ _ _ refl) (λ c. omega (arith, here c))
+    add-low shared-slice-read-low (λ c. omega (arith, low c))
+    (λ c. low c) again-requires returns (λ c. low (c .before .before))
+    (λ c. search needs) (λ c. search needs) loop-again
     returns-2)

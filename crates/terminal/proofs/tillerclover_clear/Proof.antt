@@ -5,15 +5,9 @@ use borrow.Author.Needs.{needs}
 use Rattle.terminal.proofs.tillerclover_clear.Statement.{statement}
 use Rattle.terminal.proofs.tillerclover_clear.Tie as tie
 
-clear-requires : tie.Need-clear-requires
-clear-requires c κs = search needs
-
-clear-requires-2 : tie.Need-clear-requires-2
-clear-requires-2 c κs = search needs
-
 returns : tie.Need-returns
 unfolding clearedTerminal freshTerminal cleared
 returns c = (c .clear2 .ensures, c .before .clear .ensures)
 
 pub tillerclover-clear-spec : {M : Type 1} → statement M
-tillerclover-clear-spec = tie.close (tie.spec clear-requires clear-requires-2 returns)
+tillerclover-clear-spec = tie.close (tie.spec (λ c κs. search needs) (λ c κs. search needs) returns)

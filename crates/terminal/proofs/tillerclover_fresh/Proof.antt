@@ -4,15 +4,9 @@ use borrow.Author.Needs.{needs}
 use Rattle.terminal.proofs.tillerclover_fresh.Statement.{statement}
 use Rattle.terminal.proofs.tillerclover_fresh.Tie as tie
 
-clear-requires : tie.Need-clear-requires
-clear-requires c κs = search needs
-
-fresh-requires : tie.Need-fresh-requires
-fresh-requires c κs = search needs
-
 returns : tie.Need-returns
 unfolding freshTerminal
 returns c = (c .fresh .ensures, c .before .clear .ensures)
 
 pub tillerclover-fresh-spec : {M : Type 1} → statement M
-tillerclover-fresh-spec = tie.close (tie.spec clear-requires fresh-requires returns)
+tillerclover-fresh-spec = tie.close (tie.spec (λ c κs. search needs) (λ c κs. search needs) returns)

@@ -6,9 +6,6 @@ use Rattle.text.proofs.Buffers.{puts-one, puts-past}
 use Rattle.text.proofs.put_byte.Statement.{statement}
 use Rattle.text.proofs.put_byte.Tie as tie
 
-returns : tie.Need-returns
-returns c = puts-one _ _ _ (omega arith)
-
 returns-2 : tie.Need-returns-2
 returns-2 c = puts-past _ _ _ (omega arith) (omega arith)
 
@@ -17,6 +14,5 @@ returns-3 c = puts-past _ _ _ (omega arith) (omega arith)
 
 pub put-byte-spec : {M : Type 1} → statement M
 put-byte-spec = tie.close (tie.spec
-    (λ c. search needs) (λ c. search needs) (λ c. search needs) returns
-    (λ c. search needs) returns-2
-    returns-3)
+    (λ c. search needs) (λ c. search needs) (λ c. search needs) (λ c. puts-one _ _ _ (omega arith))
+    (λ c. search needs) returns-2 returns-3)

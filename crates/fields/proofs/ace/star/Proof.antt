@@ -3,11 +3,5 @@ use borrow.Author.Needs.{needs}
 use Rattle.fields.proofs.ace.star.Statement.{statement}
 use Rattle.fields.proofs.ace.star.Tie as tie
 
-field-requires : tie.Need-field-requires
-field-requires c κs = search needs
-
-returns : tie.Need-returns
-returns c = rw (c .field .ensures)
-
 pub star-spec : {M : Type 1} → statement M
-star-spec = tie.close (tie.spec field-requires returns)
+star-spec = tie.close (tie.spec (λ c κs. search needs) (λ c. rw (c .field .ensures)))
