@@ -19,22 +19,11 @@ slice-aggregate-find c =
     sym (length-take-le 2 (turn .before .loop .rest .now)
     (omega (arith, row-here _ _ _ _ (turn .before .loop .rest .now) _ (turn .before .loop .inv) (turn .loop-test .taken))))
 
-find-requires : tie.Need-find-requires Inv-loop μ-loop
-find-requires c κs = c .before .before .before .before .before .pre .1
-
 returns : tie.Need-returns Inv-loop μ-loop
 returns c =
     let call = c .before .before .before in
     let turn = call .before .before in
     found _ _ _ _ (turn .before .loop .rest .now) _ (turn .before .loop .inv) (turn .loop-test .taken) _ (call .find .ensures) _ (c .before .i .given .1)
-
-sub-rest : tie.Need-sub-rest Inv-loop μ-loop
-sub-rest c =
-    let turn = c .before .before .before .before in row-here _ _ _ _ (turn .before .loop .rest .now) _ (turn .before .loop .inv) (turn .loop-test .taken)
-
-part-rest-start : tie.Need-part-rest-start Inv-loop μ-loop
-part-rest-start c =
-    let turn = c .before .before .before .before in row-here _ _ _ _ (turn .before .loop .rest .now) _ (turn .before .loop .inv) (turn .loop-test .taken)
 
 loop-again : tie.Need-loop-again Inv-loop μ-loop
 loop-again c =
@@ -49,7 +38,6 @@ returns-2 c = none _ _ _ _ (c .before .loop .rest .now) _ (c .before .loop .inv)
 pub first-waiting-spec : {M : Type 1} → statement M
 first-waiting-spec = tie.close (tie.spec
     Inv-loop μ-loop loop-holds slice-aggregate-find
-    find-requires (λ c. search needs) returns
-    (λ c. search needs) sub-rest part-rest-start
-    (λ c. search needs) (λ c. search needs) (λ c. search needs) loop-again
-    returns-2)
+    (λ c κs. search needs) (λ c. search needs) returns
+    (λ c. search needs) (λ c. search needs) (λ c. search needs) (λ c. search needs) (λ c. search needs) (λ c. search needs)
+    loop-again returns-2)

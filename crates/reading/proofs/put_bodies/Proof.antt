@@ -19,12 +19,6 @@ loop-holds c = (c .before .before .pre, writing-start _ _ _ (omega arith) (omega
 row-here : (c : tie.In-loop Inv-loop μ-loop) → 39 ≤ length (c .before .loop .rest .now)
 row-here c = a-row 39 _ (c .before .loop .rest .now) (c .loop-test .taken) (c .before .loop .inv .0)
 
-sub-rest : tie.Need-sub-rest Inv-loop μ-loop
-sub-rest c = row-here (c .before .before .before .before .before)
-
-part-rest-start : tie.Need-part-rest-start Inv-loop μ-loop
-part-rest-start c = row-here (c .before .before .before .before .before)
-
 loop-again : tie.Need-loop-again Inv-loop μ-loop
 loop-again c =
     let put = c .before .before .before in
@@ -43,11 +37,6 @@ returns c = writing-end (c .before .loop .inv .1) (bodies-end (c .before .loop .
 
 pub put-bodies-spec : {M : Type 1} → statement M
 put-bodies-spec = tie.close (tie.spec
-    Inv-loop
-    μ-loop
-    loop-holds
-    (λ c κs. search needs) (λ c κs. search needs) sub-rest
-    part-rest-start
+    Inv-loop μ-loop loop-holds (λ c κs. search needs) (λ c κs. search needs) (λ c. search needs) (λ c. search needs)
     (λ c. search needs) (λ c. search needs) (λ c. search needs) loop-again
-    same-length
-    returns)
+    same-length returns)

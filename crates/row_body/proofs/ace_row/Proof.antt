@@ -1,5 +1,5 @@
 -- `ace_row`: each arm by the length that it was reached by.
-use Rattle.rows.proofs.Prelude.{_≡_, refl, sym, ap, _∙_, List, [], _∷_, _++_, append-assoc, ℕ, arith, length, take, drop, replicate, length-append, drop-at}
+use Rattle.rows.proofs.Prelude.{_≡_, refl, sym, ap, _∙_, List, [], _∷_, _++_, append-assoc, ℕ, length, take, drop, replicate, length-append, drop-at}
 use Rattle.rows.proofs.Prelude.{take-at, now, needs, ne-eqb}
 use Rattle.rows.specs.Rows.{withRow}
 use Rattle.rules.specs.Bodies.{everySecond, aceRowOf}
@@ -20,12 +20,6 @@ opened b x y l e f =
     f ∙ ap (λ (r : List ℕ). take 32 r ++ (replicate 4 255 ++ drop 4 (drop 32 r))) is
     ∙ over
     ∙ append-assoc b (0 ∷ 0 ∷ 0 ∷ 0 ∷ []) (255 ∷ 255 ∷ 255 ∷ 255 ∷ [])
-
-put-row-requires : tie.Need-put-row-requires
-put-row-requires c κs = (c .before .match .keys1, omega arith)
-
-put-row-requires-2 : tie.Need-put-row-requires-2
-put-row-requires-2 c κs = (c .before .match .keys2, omega arith)
 
 returns : tie.Need-returns
 unfolding aceRowOf
@@ -49,8 +43,5 @@ returns-3 c = simp (ne-eqb _ 36 (c .match .rest .0 .1), ne-eqb _ 28 (c .match .r
 
 pub ace-row-spec : {M : Type 1} → statement M
 ace-row-spec = tie.close (tie.spec
-    (λ c. search needs) put-row-requires
-    (λ c. search needs) put-row-requires-2
-    (λ c. search needs) (λ c. search needs) (λ c κs. search needs) returns
-    returns-2
-    returns-3)
+    (λ c. search needs) (λ c κs. search needs) (λ c. search needs) (λ c κs. search needs) (λ c. search needs) (λ c. search needs)
+    (λ c κs. search needs) returns returns-2 returns-3)

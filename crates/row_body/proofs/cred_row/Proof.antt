@@ -24,9 +24,6 @@ opened b p x l is e =
     ∙ sym (append-assoc (take 20 b) (0 ∷ 0 ∷ getD b 20 0 ∷ []) none)
     ∙ ap (λ (r : List ℕ). unasserted (take 20 b ++ (0 ∷ 0 ∷ r))) (sym last)
 
-put-row-requires : tie.Need-put-row-requires
-put-row-requires c κs = (c .before .match .keys1, omega arith)
-
 put-row-requires-2 : tie.Need-put-row-requires-2
 put-row-requires-2 c κs =
     let at = c .before .before in
@@ -54,8 +51,6 @@ returns-3 c = simp (ne-eqb _ 23 (c .match .rest .0 .1), ne-eqb _ 21 (c .match .r
 
 pub cred-row-spec : {M : Type 1} → statement M
 cred-row-spec = tie.close (tie.spec
-    (λ c. search needs) put-row-requires
-    (λ c. search needs) (λ c κs. search needs) put-row-requires-2
+    (λ c. search needs) (λ c κs. search needs) (λ c. search needs) (λ c κs. search needs) put-row-requires-2
     (λ c. search needs) (λ c. search needs) returns
-    returns-2
-    returns-3)
+    returns-2 returns-3)

@@ -45,12 +45,6 @@ returns-2 c =
     let test = c .before .before in
     nobody _ _ _ (sender-none _ (λ e. test .if2 .taken (test .before .connection-of .ensures ∙ e))) (c .part2 .ensures)
 
-row-with-requires : tie.Need-row-with-requires
-row-with-requires c κs =
-    let held = c .before .before in
-    let l : length (now (held .before .before .before .before .before .args .creds)) ≡ 936 = search needs in
-    omega (arith, held .held .ensures)
-
 returns-3 : tie.Need-returns-3
 unfolding rowsIn
 returns-3 c =
@@ -66,6 +60,5 @@ returns-3 c =
 
 pub own-row-spec : {M : Type 1} → statement M
 own-row-spec = tie.close (tie.spec
-    (λ c κs. search needs) returns
-    (λ c κs. search needs) (λ c κs. search needs) returns-2
-    (λ c κs. search needs) (λ c. search needs) (λ c. search needs) (λ c. search needs) row-with-requires returns-3)
+    (λ c κs. search needs) returns (λ c κs. search needs) (λ c κs. search needs) returns-2
+    (λ c κs. search needs) (λ c. search needs) (λ c. search needs) (λ c. search needs) (λ c κs. search needs) returns-3)
