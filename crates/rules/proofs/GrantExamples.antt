@@ -1,11 +1,12 @@
--- Examples of what an access row gives: to the role of an authority (U7), in a season (U8), and of the whole yard at once (U9).
+-- Examples of what an access row gives: to the role of an authority (U7), in a season (U8), of the whole yard at once (U9), to a role asserted on the day (U11).
 -- Each beside a sender, a second or a resource that the row gives nothing.
-use Rattle.rows.proofs.Prelude.{_≡_, refl, true, List, [], _∷_, _++_, map, ℕ, replicate}
+use Rattle.rows.proofs.Prelude.{_≡_, refl, true, false, List, [], _∷_, _++_, map, ℕ, replicate}
 use Rattle.rows.specs.Rows.{Row}
 use Rattle.rules.specs.declared.Tables.{Tables}
 use Rattle.rules.specs.Directory.{someSecurity}
 use Rattle.rules.specs.Record.{received, partner}
 use Rattle.rules.specs.Bodies.{credRowOf, aceRowOf}
+use Rattle.rules.specs.Roles.{free}
 use Rattle.rules.specs.Defaults.{noDefaults}
 use Rattle.rules.specs.Permission.{effective}
 use Rattle.rules.specs.Links.{ownRecord, permits, setOf}
@@ -131,3 +132,9 @@ links-told = refl
 pub yard-answered : map (λ clock. toldTo noDefaults polled (received clock (0x34 ∷ 0x00 ∷ 0x00 ∷ 0x07 ∷ []) 0) .answer) (15 ∷ 21 ∷ []) ≡ 0 ∷ 0 ∷ []
 unfolding definitions polled seasonRow haulierRow owned5 serving aceBody aceRow weight uuid credRow withCreds
 yard-answered = refl
+
+-- ---- a role that is asserted holds on its last second, and not behind it (U11)
+
+pub last-second : map (λ clock. free clock (0 ∷ 1 ∷ 0 ∷ 7 ∷ 0 ∷ 0 ∷ 0 ∷ 100 ∷ [])) (99 ∷ 100 ∷ 101 ∷ []) ≡ false ∷ false ∷ true ∷ []
+unfolding definitions
+last-second = refl

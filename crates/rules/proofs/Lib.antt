@@ -1,5 +1,5 @@
 -- The laws of the definitions, and the theorems over them: Refusals, SoundKept, ReadBack, RowsStored, Restored, Gaps,
--- Wear, SubjectRows, LinkLaws, AnyBody, YardSet, Isolated, PremiseNeeded; and the Examples, by what they show.
+-- Wear, SubjectRows, LinkLaws, AnyBody, YardSet, Isolated; and the Examples, by what they show.
 pub mod Bools
 pub mod BitLaws
 pub mod RecordLaws
@@ -33,6 +33,3 @@ pub mod Examples
 pub mod ReadExamples
 pub mod DeleteExamples
 pub mod GrantExamples
-pub mod IsolationExamples
-pub mod RoleExamples
-pub mod PremiseNeeded

@@ -2,25 +2,25 @@
 -- And a run in which a chosen partner asserts: what is compared is the same, and more is not.
 use Rattle.rows.proofs.Prelude.{_≡_, refl, true, false, List, [], _∷_, _++_, map, ℕ, take, replicate}
 use Rattle.rows.specs.Rows.{Row}
 use Rattle.rules.specs.declared.Tables.{Tables}
 use Rattle.rules.specs.declared.Table.the-variants.{Creds, Aces}
 use Rattle.rules.specs.Directory.{someSecurity}
 use Rattle.rules.specs.Record.{Request, received, unauthenticated, partner}
 use Rattle.rules.specs.Bodies.{nil}
 use Rattle.rules.specs.Roles.{unasserted, withoutRoles, rolesInForce, credHeld}
 use Rattle.rules.specs.Tables.{rows, withRows, withState}
 use Rattle.rules.specs.Defaults.{noDefaults, fresh}
 use Rattle.rules.specs.Permission.{ownRow, effective}
 use Rattle.rules.specs.Links.{ownRecord, permits, setOf}
 use Rattle.rules.specs.Outcome.{toldTo, tablesAfter}
 use Rattle.rules.specs.Run.{replies, final, Along, kept, keptOf}
 use Rattle.rules.specs.Storing.{inClear, AllStored}
 use Rattle.rules.specs.Isolation.{Premise, isOthers, namesOwner, rowAlters, mayFit, mayAlter, compared}
 use Rattle.rules.proofs.Examples.{definitions, uuid, credRow, withCreds, owned5, serving, aceBody, aceRow, weight, connected, haulierRow, haulier, yard}
 use Rattle.rules.proofs.GrantExamples.{foreman}
-use Rattle.rules.proofs.IsolationExamples.{chosen7, calm, calm-harmless}
+use Rattle.rules_examples.proofs.Isolation.{chosen7, calm, calm-harmless}
 use Rattle.rules.proofs.Restored.{reply-judged-clear}
 use Rattle.rules.proofs.Isolated.{isolation}
 
 -- state 3, the owner in row 5, a haulier in row 7; role 7 of authority 1 may read /tare and read and update /yard
 pub today : Tables
