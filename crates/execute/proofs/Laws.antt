@@ -1,11 +1,9 @@
--- What a decision that passes says of the record: it passed every check, so the outcome is its effect; and the memory that it leaves.
-use Rattle.rows.proofs.Prelude.{_≡_, refl, sym, ap, _∙_, Bool, true, false, not, _&&_, List, [], _∷_, _++_, ℕ, _≤_, length, eqb, eq-eqb, ltb-false, ne-eqb}
-use Rattle.rows.specs.Rows.{Row, without}
+-- What a decision that passes says of the record: it passed every check, so the outcome is its effect.
+use Rattle.rows.proofs.Prelude.{_≡_, refl, sym, ap, _∙_, Bool, true, false, not, List, [], _∷_, _++_, ℕ, _≤_, length, ltb-false}
 use Rattle.text.specs.Buffer.{Puts}
 use Rattle.text.proofs.Buffers.{written-start}
 use Rattle.rules.specs.declared.Tables.{Tables}
 use Rattle.rules.specs.declared.Check.the-variants.{Pass}
-use Rattle.rules.specs.declared.Action.the-variants.{Serve}
 use Rattle.rules.specs.declared.Decision.{Decision}
 use Rattle.rules.specs.declared.Places.{Places}
 use Rattle.rules.specs.declared.Links.{Links}
@@ -19,12 +17,9 @@ use Rattle.rules.specs.Links.{linksOf}
 use Rattle.rules.specs.Reading.{replyOf, tooShort, filled}
 use Rattle.rules.specs.Checks.{verdict, senderChecks, formChecks, requestChecks, stateChecks, rowChecks, askedChecks, roomChecks, checks}
 use Rattle.rules.specs.Decision.{grantChecks, decisionChecks, decisionBy, decided}
-use Rattle.rules.specs.Outcome.{Outcome, outcomeOf, outcomeAt, outcome, toldTo, tablesAfter, judgementOf, effect}
+use Rattle.rules.specs.Outcome.{Outcome, outcomeOf, outcomeAt, outcome, toldTo, judgementOf, effect}
 use Rattle.rules.proofs.CheckLaws.{skip-at, rest-passes}
 use Rattle.rules.proofs.Answers.{passed}
-use Rattle.rules_waiting.specs.Slots.{Round, memoryOf, freshMemory}
-use Rattle.rules_waiting.specs.Round.{seats, gone, heldRound}
-use Rattle.rules_waiting.specs.Terminal.{isReset, clears, asMany, memoryAfter}
 use Rattle.decision.proofs.Laws.{check-decided}
 
 -- ---- a group of checks that passes
@@ -83,7 +78,7 @@ module _ (t : Tables) (q : Request) (g : Decision) (is : g ≡ decided t q) (pas
     unfolding outcome outcomeAt
     says d p k next e f i = rw (← whole, e, f, i, granted-is)
 
-    passes : (d : Defaults) → outcomeOf d t (permission (q .clock) t (q .bytes)) q Pass ≡ outcome d t q
+    pub passes : (d : Defaults) → outcomeOf d t (permission (q .clock) t (q .bytes)) q Pass ≡ outcome d t q
     unfolding outcome outcomeAt
     passes d = ap (outcomeOf d t (permission (q .clock) t (q .bytes)) q) whole
 
@@ -91,34 +86,3 @@ module _ (t : Tables) (q : Request) (g : Decision) (is : g ≡ decided t q) (pas
         → b′ ≡ filled b (toldTo d t q .contents)
     unfolding filled
     fills d b b′ n l p = p .buffer ∙ written-start b _ (rw l reply-fits) ∙ ap (λ (o : Outcome). filled b (o .told .contents)) (passes d)
-
-    -- a record of an application resource leaves the tables
-    pub served : (d : Defaults) → g .action ≡ Serve → tablesAfter d t q ≡ t
-    served d e = sym (ap (λ (o : Outcome). o .tables) (passes d)) ∙ ap (effect d (q .clock) t (q .bytes)) (sym action-is ∙ e)
-
-    clears-is : (d : Defaults) → clears d t q ≡ isReset (g .action)
-    unfolding clears
-    clears-is d = sym (ap (λ (o : Outcome). eqb (o .told .answer) 0 && isReset (action (q .bytes))) (passes d)) ∙ ap isReset (sym action-is)
-
-    -- ---- the memory that it leaves
-
-    module _ (d : Defaults) (over : Bool) (told : over ≡ isReset (g .action)) (u : Tables) (after : u ≡ tablesAfter d t q) (k : Round) (ws : List Row) where
-      pub cleared-memory : over ≡ true → freshMemory ≡ memoryAfter d t q k ws
-      unfolding memoryAfter
-      cleared-memory e = sym (rw (clears-is d ∙ sym told ∙ e))
-
-      module _ (e : over ≡ false) where
-        pub same-memory : u .ncreds ≡ t .ncreds → memoryOf k ws ≡ memoryAfter d t q k ws
-        unfolding memoryAfter asMany
-        same-memory n =
-            sym (rw (clears-is d ∙ sym told ∙ e, ap (λ (v : Tables). eqb (t .ncreds) (v .ncreds)) (sym after) ∙ eq-eqb (t .ncreds) (u .ncreds) (sym n)))
-
-        pub moved-memory : (u .ncreds ≡ t .ncreds → ⊥)
-            → memoryOf (heldRound (seats u) (heldRound (seats t) k)) (without (gone (seats u)) ws) ≡ memoryAfter d t q k ws
-        unfolding memoryAfter asMany
-        moved-memory n =
-            ap (λ (v : Tables). memoryOf (heldRound (seats v) (heldRound (seats t) k)) (without (gone (seats v)) ws)) after
-            ∙ sym (rw (
-              clears-is d ∙ sym told ∙ e,
-              ap (λ (v : Tables). eqb (t .ncreds) (v .ncreds)) (sym after) ∙ ne-eqb (t .ncreds) (u .ncreds) (λ f. n (sym f)),
-            ))

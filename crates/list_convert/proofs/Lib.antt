@@ -1,4 +1,3 @@
--- Laws for the proofs of this crate: an old row's bytes (OldRows), the rows that are left (Files), and the four ends of the entry point (Ends).
-mod OldRows
+-- Laws for the proofs of this crate: the rows that are left (Files), and the four ends of the entry point (Ends).
 mod Files
 mod Ends

@@ -1,10 +1,8 @@
 // An access list of the older terminals as access rows, in a buffer that the caller lends.
 // The whole file is tested and the rows are counted before a byte is written.
-mod row;
-
-use row::is_bad;
-use row::made_count;
-use row::put_made;
+use list_row::is_bad;
+use list_row::made_count;
+use list_row::put_made;
 use rows::part;
 use rules::ACE_ROW;
 use rules::ACES;

@@ -8,7 +8,7 @@ use Rattle.rules.specs.Defaults.{noDefaults}
 use Rattle.rules.specs.declared.Places.{Places}
 use Rattle.rules.specs.Places.{nowhere}
 use Rattle.rules.specs.Outcome.{toldTo, tablesAfter}
-use Rattle.rules.proofs.Examples.{definitions, lent, answer, uuid, credRow, withCreds, owned5, haulierRow}
+use Rattle.rules.proofs.Samples.{samples, lent, answer, credRow, withCreds, owned5, haulierRow}
 
 -- ---- delete by subject (U3): two rows of a haulier between others; the order of the rest is kept
 
@@ -21,7 +21,7 @@ unfoldable pub deletes : List ℕ → Request
 deletes b = lent (0x70 ∷ 0x80 ∷ 0x00 ∷ 0x05 ∷ b)
 
 pub subject-deleted : tablesAfter noDefaults several (deletes (replicate 16 0x22)) ≡ withCreds several (credRow 5 ∷ credRow 6 ∷ [])
-unfolding definitions several deletes haulierRow owned5 uuid credRow withCreds
+unfolding samples several deletes
 subject-deleted = refl
 
 -- a haulier's rows; nobody's; nil; and of acl2, which takes no subject
@@ -32,7 +32,7 @@ pub subject-answers :
     ∷ answer several (0x70 ∷ 0xc0 ∷ 0x00 ∷ 0x05 ∷ replicate 16 0x22)
     ∷ []
     ≡ 0 ∷ 13 ∷ 10 ∷ 10 ∷ []
-unfolding definitions several deletes haulierRow owned5 uuid credRow withCreds
+unfolding samples several deletes
 subject-answers = refl
 
 -- ---- places (U4): of the same deletes, of one row by its number, of all rows, of all rows of an empty table, and of a row that is not there
@@ -49,5 +49,5 @@ pub places-told :
     ∷ toldTo noDefaults several (deletes (0x00 ∷ 0x09 ∷ [])) .places
     ∷ []
     ≡ at-places 0 4 ∷ at-places 2 2 ∷ at-places 3 1 ∷ at-places 0 4 ∷ nowhere ∷ nowhere ∷ []
-unfolding definitions several deletes haulierRow owned5 uuid credRow at-places withCreds
+unfolding samples several deletes at-places
 places-told = refl

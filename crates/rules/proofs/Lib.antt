@@ -1,5 +1,5 @@
 -- The laws of the definitions, and the theorems over them: Refusals, SoundKept, ReadBack, RowsStored, Restored, Gaps,
--- Wear, SubjectRows, LinkLaws, AnyBody, YardSet, Isolated; and the Examples, by what they show.
+-- Wear, SubjectRows, LinkLaws, AnyBody, YardSet, Isolated; and samples, and examples that definitions are tried by.
 pub mod Bools
 pub mod BitLaws
 pub mod RecordLaws
@@ -29,7 +29,5 @@ pub mod AnyBody
 pub mod YardSet
 pub mod Alike
 pub mod Isolated
-pub mod Examples
-pub mod ReadExamples
+pub mod Samples
 pub mod DeleteExamples
-pub mod GrantExamples

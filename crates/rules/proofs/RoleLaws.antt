@@ -1,8 +1,8 @@
 -- Laws of asserted roles: asserting one leaves a row that the table may hold, with the same body.
 -- A credential row has at most two roles in force, and they are different ones.
-use Rattle.rows.proofs.Prelude.{_≡_, refl, sym, ap, _∙_, Bool, true, false, not, _&&_, _||_, cond, and-true, List, [], _∷_, _++_, append-nil, ℕ, _≤_, arith}
-use Rattle.rows.proofs.Prelude.{length, take, drop, replicate, length-append, length-drop, length-take, drop-at, drop-drop, length-take-le, take-all, take-at}
-use Rattle.rows.proofs.Prelude.{eqb, eq-eqb, eqb-true, not-true}
+use Rattle.rows.proofs.Prelude.{_≡_, refl, sym, ap, _∙_, Bool, true, false, not, _&&_, _||_, cond, and-true, List, [], _∷_, _++_, map, append-nil, ℕ, _≤_}
+use Rattle.rows.proofs.Prelude.{arith, length, take, drop, replicate, length-append, length-drop, length-take, drop-at, drop-drop, length-take-le, take-all}
+use Rattle.rows.proofs.Prelude.{take-at, eqb, eq-eqb, eqb-true, not-true}
 use Rattle.rows.specs.Rows.{Row, joined, packed, allZero, same, some, without}
 use Rattle.rows.proofs.Kept.{length-packed, same-true, same-sym}
 use Rattle.rules.specs.Bits.{bit, bits}
@@ -214,3 +214,8 @@ unfolding credHeld
 unasserted-is b l =
     let long : length (unasserted b) ≡ 39 = rw (length-append, l) in
     rw (eq-eqb (length (unasserted b)) 39 long, body-is b l (replicate 16 0), behind-is b l (replicate 16 0) ∙ sound-none) (and-true (credStorable b))
+
+-- a role holds on its last second, and not behind it: role 7 of authority 0, to second 100
+pub last-second : map (λ clock. free clock (0 ∷ 1 ∷ 0 ∷ 7 ∷ 0 ∷ 0 ∷ 0 ∷ 100 ∷ [])) (99 ∷ 100 ∷ 101 ∷ []) ≡ false ∷ false ∷ true ∷ []
+unfolding free noRole bits bit
+last-second = refl

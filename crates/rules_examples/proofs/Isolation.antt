@@ -8,7 +8,7 @@ use Rattle.rules.specs.Defaults.{noDefaults}
 use Rattle.rules.specs.Outcome.{toldTo, tablesAfter}
 use Rattle.rules.specs.Run.{replies, final, Along, kept, keptOf}
 use Rattle.rules.specs.Isolation.{Harmless, Premise, isOthers, namesOwner, rowAlters, mayFit, mayAlter, compared}
-use Rattle.rules.proofs.Examples.{definitions, lent, uuid, credRow, withCreds, owned5, aceBody, aceRow, weight, none, connected, serving, haulier, yard}
+use Rattle.rules.proofs.Samples.{samples, lent, credRow, aceRow, weight, haulier, yard}
 use Rattle.rules.proofs.Bools.{and-left, and-right}
 use Rattle.rules.proofs.Isolated.{isolation}
 
@@ -33,7 +33,7 @@ yardRun =
 
 -- everybody's answers: the chosen get 8 for each write, and their read is served
 pub yard-answers : replies (λ t q. toldTo noDefaults t q .answer) (tablesAfter noDefaults) yard yardRun ≡ 8 ∷ 0 ∷ 8 ∷ 0 ∷ 8 ∷ 0 ∷ 0 ∷ []
-unfolding definitions owned5 serving aceBody aceRow weight none connected uuid credRow haulier yard yardRun withCreds
+unfolding samples yardRun
 yard-answers = refl
 
 -- the premise for these two senders, as a test
@@ -66,8 +66,7 @@ calm-harmless t h = let p = calm-parts t h in record { hasOwner = λ s c. not-tr
     granted p (partner n) c = rw (eqb-true n 7 c) (not-true _ (p .haulier-alters))
 
 yard-premise : Along (tablesAfter noDefaults) (Premise chosen7) yard (kept (isOthers chosen7) yardRun)
-unfolding definitions calm namesOwner rowAlters mayFit mayAlter someSecurity owned5 serving
-    aceBody aceRow weight none connected uuid credRow haulier yard yardRun chosen7 withCreds
+unfolding samples calm namesOwner rowAlters mayFit mayAlter someSecurity yardRun chosen7
 yard-premise = (λ _. calm-harmless _ refl, (λ _. calm-harmless _ refl, (λ _. calm-harmless _ refl, λ _. calm-harmless _ refl)))
 
 -- so the owner's answers, and the tables at the end, are those of the owner's records alone

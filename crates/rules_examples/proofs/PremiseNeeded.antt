@@ -10,7 +10,7 @@ use Rattle.rules.specs.Defaults.{noDefaults, fresh}
 use Rattle.rules.specs.Outcome.{toldTo, tablesAfter}
 use Rattle.rules.specs.Run.{replies, final, Along, kept}
 use Rattle.rules.specs.Isolation.{Harmless, isOthers, namesOwner, rowAlters, mayFit, mayAlter, compared}
-use Rattle.rules.proofs.Examples.{definitions, uuid, credRow, withCreds, owned5, serving, aceBody, aceRow, haulierRow, haulier}
+use Rattle.rules.proofs.Samples.{samples, credRow, withCreds, owned5, serving, aceRow, haulierRow, haulier}
 
 -- ---- the premise, where partner 7 alone is chosen
 
@@ -73,8 +73,7 @@ answers run t = replies (λ x q. toldTo noDefaults x q .answer) (tablesAfter noD
 
 -- `unfolding the-runs` opens all that these examples say
 the-runs : Unit {0}
-unfolding definitions namesOwner rowAlters mayFit mayAlter someSecurity compared only7 parts around
-    resetRun deleteRun answers haulierRow haulier owned5 serving aceBody aceRow uuid credRow withCreds
+unfolding samples namesOwner rowAlters mayFit mayAlter someSecurity compared only7 parts around resetRun deleteRun answers
 the-runs = tt
 
 -- ---- no owner: RFOTM, a credential row for each

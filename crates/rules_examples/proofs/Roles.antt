@@ -16,8 +16,8 @@ use Rattle.rules.specs.Outcome.{toldTo, tablesAfter}
 use Rattle.rules.specs.Run.{replies, final, Along, kept, keptOf}
 use Rattle.rules.specs.Storing.{inClear, AllStored}
 use Rattle.rules.specs.Isolation.{Premise, isOthers, namesOwner, rowAlters, mayFit, mayAlter, compared}
-use Rattle.rules.proofs.Examples.{definitions, uuid, credRow, withCreds, owned5, serving, aceBody, aceRow, weight, connected, haulierRow, haulier, yard}
-use Rattle.rules.proofs.GrantExamples.{foreman}
+use Rattle.rules.proofs.Samples.{samples, uuid, credRow, withCreds, serving, aceRow, haulierRow, yard}
+use Rattle.rules_examples.proofs.Grants.{foreman}
 use Rattle.rules_examples.proofs.Isolation.{chosen7, calm, calm-harmless}
 use Rattle.rules.proofs.Restored.{reply-judged-clear}
 use Rattle.rules.proofs.Isolated.{isolation}
@@ -51,8 +51,8 @@ answers qs = replies (λ t q. toldTo noDefaults t q .answer) (tablesAfter noDefa
 
 -- `unfolding the-day` opens all that these examples say
 the-day : Unit {0}
-unfolding definitions permits ownRecord setOf rowAlters mayFit mayAlter someSecurity today role asserts tare haulierWith
-    rolesAfter answers haulierRow foreman owned5 serving aceBody aceRow weight connected uuid credRow withCreds haulier yard chosen7
+unfolding samples permits ownRecord setOf rowAlters mayFit mayAlter someSecurity today role asserts tare haulierWith rolesAfter answers foreman
+    chosen7
 the-day = tt
 
 -- ---- before it is asserted, while it holds, on its last second and after

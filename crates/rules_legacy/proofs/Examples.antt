@@ -7,7 +7,7 @@ use Rattle.rules.specs.Defaults.{noDefaults}
 use Rattle.rules.specs.Permission.{gives}
 use Rattle.rules.specs.Checks.{refuseIf, numberOf}
 use Rattle.rules.specs.Isolation.{rowAlters}
-use Rattle.rules.proofs.Examples.{definitions, uuid, credRow, withCreds, owned5}
+use Rattle.rules.proofs.Samples.{definitions, uuid, credRow, withCreds, owned5}
 use Rattle.rules_lists.specs.Lists.{badSize, unfit, excessive, said, accepted, rowsTested, listTested}
 use Rattle.rules_lists.specs.Loading.{ownsDevice, storing, Loaded}
 use Rattle.rules_legacy.specs.OldList.{oldRows, isAnybody, oldFits, oldGives, oldUnion, opensSecurity, badRow, badFile}
@@ -17,9 +17,9 @@ use Rattle.rules_legacy.proofs.TakenOver.{rows-loaded}
 
 -- opens the definitions of the rules, of the test of a list, and of the conversion
 converting : Unit {0}
-unfolding definitions refuseIf rowAlters someSecurity badSize unfit excessive rowsTested listTested
-    oldRows isAnybody oldFits oldGives oldUnion opensSecurity badRow badFile entry uuidEntry connectionEntry
-    entriesOf allEntries numberedFrom rowsMade tooManyRows bufferTooShort conversionVerdict conversionReply
+unfolding definitions refuseIf rowAlters someSecurity badSize unfit excessive rowsTested listTested oldRows isAnybody oldFits oldGives oldUnion
+    opensSecurity badRow badFile entry uuidEntry connectionEntry entriesOf allEntries numberedFrom rowsMade tooManyRows bufferTooShort
+    conversionVerdict conversionReply
 converting = tt
 
 -- ---- old rows: each byte of the subject, the byte of permission and zero bits, and the first three bytes of the set

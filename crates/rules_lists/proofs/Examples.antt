@@ -11,13 +11,13 @@ use Rattle.rules.specs.Checks.{refuseIf}
 use Rattle.rules.specs.Outcome.{toldTo, tablesAfter}
 use Rattle.rules.specs.Run.{final}
 use Rattle.rules.specs.Isolation.{rowAlters}
-use Rattle.rules.proofs.Examples.{definitions, uuid, credRow, withCreds, owned5, aceBody, aceRow, weight, connected}
+use Rattle.rules.proofs.Samples.{samples, uuid, credRow, withCreds, owned5, aceBody, aceRow, weight, connected}
 use Rattle.rules_lists.specs.Lists.{badSize, unfit, excessive, said, accepted, rowsTested, listTested}
 use Rattle.rules_lists.specs.Loading.{ownsDevice, storing, Loaded}
 use Rattle.rules_lists.proofs.Loaded.{accepted-loaded}
 
 testing : Unit {0}
-unfolding definitions refuseIf badSize unfit excessive rowAlters someSecurity rowsTested listTested uuid aceBody aceRow weight connected
+unfolding samples refuseIf badSize unfit excessive rowAlters someSecurity rowsTested listTested
 testing = tt
 
 -- the set of resource 3 alone

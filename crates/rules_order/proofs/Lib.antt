@@ -1,5 +1,5 @@
 -- The laws of another order (ReorderLaws), one record (FromAccess, OneRecord), one input
--- (OwnersKept, OneInput), and the theorems of U14: AnyOrder, Calls, Lists, Examples.
+-- (OwnersKept, OneInput), and the theorems of U14: AnyOrder, Calls, Lists.
 pub mod ReorderLaws
 pub mod FromAccess
 pub mod OneRecord
@@ -8,4 +8,3 @@ pub mod OneInput
 pub mod AnyOrder
 pub mod Calls
 pub mod Lists
-pub mod Examples

@@ -12,4 +12,3 @@ pub mod Served
 pub mod Origin
 pub mod Direct
 pub mod Built
-pub mod Examples

@@ -2,7 +2,7 @@
 use Rattle.rows.proofs.Prelude.{_*_, _≤_, arith, length, length-drop, needs}
 use Rattle.text.proofs.Buffers.{Writing, writing-start, writing-step, writing-end, writing-length}
 use Rattle.rows.proofs.Laws.{a-row, take-rest}
-use Rattle.reading.proofs.RowBytes.{bodies, bodies-take, bodies-end}
+use Rattle.reading_length.proofs.RowBytes.{bodies, bodies-take, bodies-end}
 use Rattle.reading.proofs.put_bodies.Statement.{statement}
 use Rattle.reading.proofs.put_bodies.Tie as tie
 

@@ -1,6 +1,6 @@
 -- `put_rows`: the bodies of credential rows, the first bytes of the access rows, or the roles in force.
 use Rattle.rows.proofs.Prelude.{_≡_, arith, length, now, needs, ne-eqb}
-use Rattle.reading.proofs.RowBytes.{row-part, bodies-held}
+use Rattle.reading_length.proofs.RowBytes.{row-part, bodies-held}
 use Rattle.rules.specs.Reading.{rowBytes}
 use Rattle.reading.proofs.put_rows.Statement.{statement}
 use Rattle.reading.proofs.put_rows.Tie as tie

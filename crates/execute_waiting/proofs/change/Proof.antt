@@ -1,0 +1,91 @@
+-- `change`: the memory by whether the tables are cleared and credential rows moved.
+use Rattle.rows.proofs.Prelude.{_≡_, sym, ap, _∙_, length, now, needs}
+use Rattle.rules.specs.declared.Tables.{Tables}
+use Rattle.rules.specs.Record.{Request, received}
+use Rattle.rules.specs.Tables.{tablesOf}
+use Rattle.rules.specs.Defaults.{Defaults, defaults}
+use Rattle.rules.specs.Outcome.{Said, tablesAfter}
+use Rattle.rows.specs.Rows.{without}
+use Rattle.rules_waiting.specs.Slots.{Round, waiting, memoryOf}
+use Rattle.rules_waiting.specs.Round.{seats, gone, heldRound}
+use Rattle.execute_waiting.proofs.Laws.{cleared-memory, same-memory, moved-memory}
+use Rattle.execute_waiting.proofs.change.Statement.{statement}
+use Rattle.execute_waiting.proofs.change.Tie as tie
+
+-- back from the rows that changed to the round that was held, and to the start
+abbrev held-of : tie.After-execute → tie.After-round-held
+held-of c = c .before .before .before .before
+
+abbrev start : tie.After-execute → tie.Start
+start c = held-of c .before .before .before .before .before .before .before .before
+
+-- back from the test of RESET, and from the rows that are counted
+abbrev ran : tie.After-is-reset → tie.After-execute
+ran c = c .before .before .before
+
+abbrev tested : tie.After-struct-known2 → tie.After-is-reset
+tested c = c .before .before .before .before
+
+abbrev tables : tie.Start → Tables
+tables s = tablesOf (s .args .h) (now (s .args .creds)) (now (s .args .aces))
+
+abbrev request : tie.Start → Request
+request s = received (s .args .clock) (now (s .args .«record»)) (length (now (s .args .reply)))
+
+abbrev lists : tie.Start → Defaults
+lists s = defaults (now (s .args .default-creds)) (now (s .args .default-aces))
+
+-- the tables that the record leaves
+abbrev left : tie.After-execute → Tables
+left c = tablesOf (c .execute .result .head) (c .execute .last .1 .0) (c .execute .last .1 .1 .0)
+
+left-is : (c : tie.After-execute) → left c ≡ tablesAfter (lists (start c)) (tables (start c)) (request (start c))
+left-is c = ap (λ (s : Said). s .tables) (c .execute .ensures .says)
+
+returns : tie.Need-returns
+returns c =
+    let test = c .before .before in
+    let reset = test .before in
+    let call = ran reset in
+    let s = start call in (
+      call .execute .ensures,
+      c .clear .ensures
+          ∙ cleared-memory (tables s) (request s) (s .args .d) (s .pre .0 .1) (s .pre .0 .2) (s .pre .0 .0)
+          (lists s) _ (reset .is-reset .ensures) (left call) (left-is call) _ _ (test .if1 .taken),
+    )
+
+returns-2 : tie.Need-returns-2
+returns-2 c =
+    let reset = tested (c .before) in
+    let call = ran reset in
+    let s = start call in (
+      call .execute .ensures,
+      s .pre .1 .1
+          ∙ same-memory (tables s) (request s) (s .args .d) (s .pre .0 .1) (s .pre .0 .2) (s .pre .0 .0) (lists s) _
+          (reset .is-reset .ensures) (left call) (left-is call) _ _ (c .before .before .before .before .if1 .left) (c .if2 .taken),
+    )
+
+settle-requires : tie.Need-settle-requires
+settle-requires c κs = start (ran (tested (c .before .before .before))) .pre .1 .0
+
+returns-3 : tie.Need-returns-3
+unfolding seats
+returns-3 c =
+    let count = c .before .before .before in
+    let reset = tested (count .before) in
+    let call = ran reset in
+    let s = start call in (
+      call .execute .ensures,
+      c .settle .ensures
+          ∙ ap (λ (k : Round). memoryOf (heldRound (seats (left call)) k) (without (gone (seats (left call))) (waiting (now (s .args .memory)))))
+          (sym (held-of call .round-held .ensures))
+          ∙ moved-memory (tables s) (request s) (s .args .d) (s .pre .0 .1) (s .pre .0 .2) (s .pre .0 .0) (lists s) _
+          (reset .is-reset .ensures) (left call) (left-is call) _ _ (count .before .before .before .before .if1 .left) (count .if2 .left),
+    )
+
+pub change-spec : {M : Type 1} → statement M
+change-spec = tie.close (tie.spec
+    (λ c κs. search needs) (λ c κs. search needs) (λ c κs. search needs) (λ c κs. search needs) (λ c. search needs) returns
+    (λ c. search needs) returns-2
+    settle-requires
+    (λ c. search needs) returns-3)

@@ -1,0 +1,2 @@
+-- Laws for the proofs of this crate: an old row's bytes.
+mod OldRows

@@ -1,0 +1,30 @@
+-- `put_made`: two rows for "*", one for a UUID.
+use Rattle.rows.proofs.Prelude.{sym, _∙_, _≤_, arith, length, now, needs}
+use Rattle.text.specs.Buffer.{largest}
+use Rattle.list_row.proofs.OldRows.{two-puts, one-puts}
+use Rattle.list_row.proofs.put_made.Statement.{statement}
+use Rattle.list_row.proofs.put_made.Tie as tie
+
+bound : (c : tie.After-slice-known) → length (now (c .before .args .out)) ≤ largest
+bound c = omega arith
+
+returns : tie.Need-returns
+returns c =
+    let clear = c .before .before in
+    let crypt = clear .before .before .before .before in
+    let test = crypt .before .before in
+    let told = test .before in
+    let e = sym (told .is-anybody .ensures) ∙ test .if1 .taken in
+    two-puts _ _ (bound (told .before .before)) e (crypt .put-connection .ensures) (clear .put-connection2 .ensures)
+
+returns-2 : tie.Need-returns-2
+returns-2 c =
+    let put = c .before .before in
+    let part = put .before in
+    let test = part .before .before in
+    one-puts _ _ _ (sym (test .before .is-anybody .ensures) ∙ test .if1 .left) (part .part .ensures) (put .put-row .ensures)
+
+pub put-made-spec : {M : Type 1} → statement M
+put-made-spec = tie.close (tie.spec
+    (λ c κs. search needs) (λ c κs. search needs) (λ c. search needs) (λ c κs. search needs) (λ c. search needs) returns
+    (λ c κs. search needs) (λ c κs. search needs) (λ c. search needs) returns-2)
