@@ -1,6 +1,9 @@
 -- Laws of the memory's bytes, as the code reads them.
-use Rattle.rows.proofs.Prelude.{_≡_, refl, sym, ap, _∙_, Bool, true, false, _&&_, _||_, cond, and-false, List, [], _∷_, _++_, ℕ, zero, suc, _+_, _-_, _*_, _/_}
-use Rattle.rows.proofs.Prelude.{_%_, _≤_, _<_, min-eq-left, arith, length, take, drop, getD, replicate, eqb, eq-eqb, eqb-true, le-leb, lt-leb}
+use Rattle.rows.proofs.Prelude.{_≡_, refl, sym, ap, _∙_, Bool, false, _&&_, _||_, and-false, and-true, or-false, drop-cons, bool-cases, List, [], _∷_, _++_, ℕ}
+use Rattle.rows.proofs.Prelude.{zero, suc, _+_, _-_, _*_, _/_, _%_, _≤_, _<_, min-eq-left, arith, length, take, drop, getD, replicate, eqb, eq-eqb, eqb-true}
+use Rattle.rows.proofs.Prelude.{le-leb, lt-leb}
+use mathlib.Core.Bool.{and-assoc}
+use native.Mathlib.Numerals.{add-four}
 use Rattle.rows.specs.Rows.{same, allZero, every, distinctNumbers, rowsOf}
 use Rattle.rows.proofs.Laws.{take-rest}
 use Rattle.rules.specs.declared.Tables.{Tables}
@@ -11,7 +14,7 @@ use Rattle.rules.specs.Record.{credential}
 use Rattle.rules.specs.Checks.{senderChecks, verdict}
 use Rattle.rules.proofs.BitLaws.{word-is}
 use Rattle.rules.proofs.Answers.{passed, long-enough}
-use Rattle.rules_waiting.specs.Slots.{seatOf, padded, slotOf, recordOf, anew, after, roundBytes, roundOf, waiting}
+use Rattle.rules_waiting.specs.Slots.{seatOf, padded, slotOf, recordOf, roundBytes, roundOf, waiting}
 use Rattle.rules_waiting.specs.Terminal.{slotSound, memorySound}
 use Rattle.rules_waiting.proofs.SlotLaws.{short-record}
 
@@ -19,24 +22,11 @@ use Rattle.rules_waiting.proofs.SlotLaws.{short-record}
 pub round-is : (m : List ℕ) → 4 ≤ length m
     → (eqb (getD m 1 0) 1 || ((eqb (getD m 1 0) 0 && eqb (getD m 2 0) 0) && eqb (getD m 3 0) 0)) ≡ same (take 3 (drop 1 m)) (roundBytes (roundOf m))
 unfolding same roundOf
-round-is [] h = absurd (omega arith)
-round-is (a ∷ []) h = absurd (omega arith)
-round-is (a ∷ b ∷ []) h = absurd (omega arith)
-round-is (a ∷ b ∷ c ∷ []) h = absurd (omega arith)
-round-is (a ∷ b ∷ c ∷ d ∷ m) h = go (eqb b 0) refl
-  where
-    anew-is : (x y : Bool) → (false || ((true && x) && y)) ≡ (true && (x && (y && true)))
-    anew-is true true = refl
-    anew-is true false = refl
-    anew-is false y = refl
-
-    after-is : (o : Bool) → (o || ((false && eqb c 0) && eqb d 0)) ≡ (o && (true && (true && true)))
-    after-is true = refl
-    after-is false = refl
-
-    go : (k : Bool) → eqb b 0 ≡ k → (eqb b 1 || ((k && eqb c 0) && eqb d 0)) ≡ same (b ∷ c ∷ d ∷ []) (roundBytes (cond k anew (after (c ∷ d ∷ []))))
-    go true e = let z : b ≡ 0 = eqb-true b 0 e in rw z (anew-is (eqb c 0) (eqb d 0))
-    go false e = rw (eq-eqb c c refl, eq-eqb d d refl) (after-is (eqb b 1))
+round-is m h =
+    rw (drop-cons m 1 0 (omega arith), drop-cons m 2 0 (omega arith), drop-cons m 3 0 (omega arith))
+    (bool-cases (eqb (getD m 1 0) 0)
+    (λ e. rw (eqb-true (getD m 1 0) 0 e, and-true))
+    (λ e. rw (e, eq-eqb (getD m 2 0) (getD m 2 0) refl, eq-eqb (getD m 3 0) (getD m 3 0) refl, or-false, and-true)))
 
 -- ---- a slot
 
@@ -65,20 +55,14 @@ tested-slot (a ∷ b ∷ c ∷ d ∷ w) r l e h x y =
     let long : length w ≡ 256 = omega arith in
     let rest : same w (r ++ replicate (256 - length r) 0) ≡ allZero (drop (length r) w) =
     ap (λ (s : List ℕ). same w (s ++ replicate (256 - length r) 0)) e ∙ zeros-behind (length r) (256 - length r) w (omega arith) in
-    let end : drop (length r + 4) (a ∷ b ∷ c ∷ d ∷ w) ≡ drop (length r) w = ap (λ (n : ℕ). drop n (a ∷ b ∷ c ∷ d ∷ w)) (four (length r)) in
+    let end : drop (length r + 4) (a ∷ b ∷ c ∷ d ∷ w) ≡ drop (length r) w = ap (λ (n : ℕ). drop n (a ∷ b ∷ c ∷ d ∷ w)) (add-four (length r)) in
     ap (λ (z : List ℕ). ((eqb a (getD r 2 0) && eqb b (getD r 3 0)) && (eqb c (length r / 256) && eqb d (length r % 256))) && allZero z) end
     ∙ regroup (eqb a (getD r 2 0)) (eqb b (getD r 3 0)) (eqb c (length r / 256)) (eqb d (length r % 256)) (allZero (drop (length r) w))
     ∙ ap (λ (k : Bool). eqb a (getD r 2 0) && (eqb b (getD r 3 0) && (eqb c (length r / 256) && (eqb d (length r % 256) && k)))) (sym rest)
     ∙ ap (λ (s : List ℕ). same (a ∷ b ∷ c ∷ d ∷ w) (s ++ (length r / 256 ∷ length r % 256 ∷ (r ++ replicate (256 - length r) 0)))) (sym number)
   where
-    four : (n : ℕ) → n + 4 ≡ suc (suc (suc (suc n)))
-    four n = omega arith
-
     regroup : (p q u v z : Bool) → (((p && q) && (u && v)) && z) ≡ (p && (q && (u && (v && z))))
-    regroup true true true v z = refl
-    regroup true true false v z = refl
-    regroup true false u v z = refl
-    regroup false q u v z = refl
+    regroup p q u v z = simp and-assoc
 
 take-again : (k : ℕ) (s : List ℕ) → take k s ≡ take (length (take k s)) s
 take-again zero s = refl
@@ -103,11 +87,7 @@ module _ (t : Tables) (w r : List ℕ) (is : r ≡ recordOf w) (c : Check) (told
 
     pub kept-is : (b : Bool) → b ≡ same w (slotOf r) → b ≡ slotSound t w
     unfolding slotSound
-    kept-is b s = s ∙ rw (← is, ← told, e) (sym (all (same w (slotOf r))))
-      where
-        all : (b : Bool) → (b && true) ≡ b
-        all true = refl
-        all false = refl
+    kept-is b s = s ∙ rw (← is, ← told, e, and-true)
 
 -- ---- the memory
 

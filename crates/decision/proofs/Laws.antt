@@ -1,6 +1,5 @@
 -- What a verdict on the checks says of the decision.
-use mathlib.Core.Path.{_≡_, refl, sym, ap, _∙_}
-use Prim.Native.Nat.{ℕ}
+use Rattle.rows.proofs.Prelude.{_≡_, refl, sym, ap, _∙_, ℕ}
 use Rattle.rules.specs.declared.Tables.{Tables}
 use Rattle.rules.specs.declared.Check.{Check}
 use Rattle.rules.specs.declared.Check.the-variants.{Pass, Refuse}

@@ -36,19 +36,12 @@ module _ (passes : ℕ → Bool) where
     next more r e small =
         let left : 15 - n ≡ suc (15 - (n + 1)) = omega arith in
         let after : suc n ≡ n + 1 = omega arith in
-        let rest = setOf passes (from (n + 1) (15 - (n + 1))) in
         record {
           low = omega (arith, inv .low);
           high = omega arith;
           bit-is = ap (λ (b : ℕ). b / 2) (inv .bit-is) ∙ shr-shr (2 ^ 63) n 1;
           room = omega (arith, inv .room);
-          sum =
-              inv .sum
-              ∙ ap (λ (w : ℕ). set + setOf passes (from n w)) left
-              ∙ ap (λ (m : ℕ). set + (cond (passes n) (2 ^ 63 / 2 ^ n) 0 + setOf passes (from m (15 - (n + 1))))) after
-              ∙ ap (λ (b : ℕ). set + (cond (passes n) b 0 + rest)) (sym (inv .bit-is))
-              ∙ ap (λ (b : ℕ). set + (b + rest)) (sym e)
-              ∙ sym (add-assoc set r rest);
+          sum = inv .sum ∙ rw (left, after, e, inv .bit-is, add-assoc);
         }
 
     pub at-last : 15 ≤ n → set ≡ setOf passes links

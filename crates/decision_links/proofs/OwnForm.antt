@@ -12,7 +12,7 @@ use Rattle.rules.specs.Links.{ownRecord}
 use Rattle.rules.specs.Checks.{verdict, badLength, noVerb, zeroBitSet, mismatch, unknownResource, noRow, noCredential, formChecks}
 use Rattle.rules.proofs.CheckLaws.{skip-at}
 use Rattle.rules.proofs.Answers.{passed, long-enough}
-use Rattle.rules.proofs.LinkLaws.{Own, own}
+use Rattle.rules.proofs.LinkLaws.{own}
 use Rattle.sender.specs.Own.{Own as Of}
 
 none : Pass ≡ verdict []
@@ -23,33 +23,17 @@ short : (r : List ℕ) (n : ℕ) → badLength (ownRecord r n) ≡ false
 unfolding badLength ownRecord word
 short r n = refl
 
-module _ (t : Tables) (r : List ℕ) (n : ℕ) (o : Own r n) where
-  verb-kept : noVerb r ≡ false → noVerb (ownRecord r n) ≡ false
-  unfolding noVerb
-  verb-kept h = ap (ltb 4) (o .verb-same) ∙ h
-
-  zeros-kept : zeroBitSet (ownRecord r n) ≡ false
-  unfolding zeroBitSet
-  zeros-kept = ap (λ (z : ℕ). not (eqb z 0)) (o .zeros)
-
-  match-kept : mismatch r ≡ false → mismatch (ownRecord r n) ≡ false
-  unfolding mismatch
-  match-kept h = ap₂ (λ (c k : ℕ). (eqb c 0 && not (eqb k 0)) || (not (eqb c 0) && eqb k 0)) (o .connection-same) (o .credential-same) ∙ h
-
-  known-kept : known n ≡ true → unknownResource (ownRecord r n) ≡ false
-  unfolding unknownResource
-  known-kept k = ap (λ (m : ℕ). not (known m)) (o .resource-is) ∙ ap not k
-
-  row-kept : noCredential t r ≡ false → noCredential t (ownRecord r n) ≡ false
-  unfolding noCredential
-  row-kept h = ap (noRow t) (o .sender-same) ∙ h
-
 pub own-passes : (t : Tables) (r : List ℕ) (n : ℕ) → n < 64 → known n ≡ true → verdict (formChecks t r) ≡ Pass → verdict (formChecks t (ownRecord r n)) ≡ Pass
+unfolding noVerb zeroBitSet mismatch unknownResource noCredential
 own-passes t r n h k p =
     let by : (m : ℕ) → _ = passed (formChecks t r) p in
     let o = own r n (long-enough r (by 2)) h in
-    sym (skip-at 1 _ _ (by 1) (skip-at 2 _ _ (short r n) (skip-at 3 _ _ (verb-kept t r n o (by 3)) (skip-at 4 _ _ (zeros-kept t r n o)
-    (skip-at 5 _ _ (match-kept t r n o (by 5)) (skip-at 6 _ _ (known-kept t r n o k) (skip-at 7 _ _ (row-kept t r n o (by 7)) none)))))))
+    sym (skip-at 1 _ _ (by 1) (skip-at 2 _ _ (short r n)
+    (skip-at 3 _ _ (ap (ltb 4) (o .verb-same) ∙ by 3)
+    (skip-at 4 _ _ (ap (λ (z : ℕ). not (eqb z 0)) (o .zeros))
+    (skip-at 5 _ _ (ap₂ (λ (c k : ℕ). (eqb c 0 && not (eqb k 0)) || (not (eqb c 0) && eqb k 0)) (o .connection-same) (o .credential-same) ∙ by 5)
+    (skip-at 6 _ _ (ap (λ (m : ℕ). not (known m)) (o .resource-is) ∙ ap not k)
+    (skip-at 7 _ _ (ap (noRow t) (o .sender-same) ∙ by 7) none)))))))
 
 -- the sender's own row is that of the record that asks
 pub own-row : (t : Tables) (r : List ℕ) (n : ℕ) (w : Row) → n < 64 → verdict (formChecks t r) ≡ Pass → Of (rows Creds t) (sender r) w

@@ -1,18 +1,17 @@
 -- The rows of a build's default list: each is its body and what stands behind a body, and over a table of zeros they are the table.
 -- Over the table, so that both have one law.
-use Rattle.rows.proofs.Prelude.{_≡_, refl, sym, ap, _∙_, true, false, List, [], _∷_, _++_, map, append-nil, ℕ, suc, _-_, _*_, _/_, _≤_, _<_, mul-le-mul-right}
-use Rattle.rows.proofs.Prelude.{arith, length, take, drop, replicate, length-append, length-map, length-replicate, leb-true}
+use Rattle.rows.proofs.Prelude.{_≡_, refl, sym, ap, _∙_, true, false, List, [], _∷_, _++_, map, append-nil, ℕ, _-_, _*_, _/_, _≤_, _<_, mul-le-mul-right, arith}
+use Rattle.rows.proofs.Prelude.{length, take, drop, replicate, length-append, length-map, length-replicate, leb-true, and-left}
 use native.Mathlib.Nat.{div-add-mod', sub-zero}
 use Rattle.text.specs.Buffer.{written}
 use Rattle.text.proofs.Buffers.{written-start, written-length}
 use Rattle.rows.specs.Rows.{Row, rowsOf, joined, packed}
-use Rattle.rows.proofs.Laws.{length-rowsOf, drop-replicate, take-rest}
+use Rattle.rows.proofs.Laws.{length-rowsOf, drop-replicate, take-rest, rowsOf-suc}
 use Rattle.rows.proofs.Kept.{AllLong, long-rowsOf, length-joined, rowsOf-packed}
 use Rattle.rules.specs.declared.Table.{Table}
 use Rattle.rules.specs.declared.Table.the-variants.{Creds, Aces}
 use Rattle.rules.specs.Tables.{stride, longest, capacity, rowFrom}
 use Rattle.rules.specs.Defaults.{listed, goodList, defaultRows}
-use Rattle.rules.proofs.Bools.{and-left}
 use Rattle.rules.proofs.BodyLaws.{two-fit}
 
 -- the whole rows of a list lie within it
@@ -50,17 +49,10 @@ from-long Aces b l = l
 abbrev pub rowsFrom : Table → ℕ → ℕ → List ℕ → List ℕ
 rowsFrom k s n b = joined (map (rowFrom k) (rowsOf s n b))
 
-one-more : (k : Table) (s n : ℕ) (b : List ℕ) → rowsFrom k s (suc n) b ≡ rowFrom k (take s b) ++ rowsFrom k s n (drop s b)
-unfolding rowsOf joined
-one-more k s n b = refl
-
 -- the first, and those behind it
 pub from-take : (k : Table) (s n : ℕ) (b : List ℕ) → 0 < n → rowsFrom k s n b ≡ rowFrom k (take s b) ++ rowsFrom k s (n - 1) (take (length b - s) (drop s b))
-from-take k s n b h =
-    let e : n ≡ suc (n - 1) = omega arith in
-    ap (λ (m : ℕ). rowsFrom k s m b) e
-    ∙ one-more k s (n - 1) b
-    ∙ ap (λ (l : List ℕ). rowFrom k (take s b) ++ rowsFrom k s (n - 1) l) (sym (take-rest s b))
+unfolding joined
+from-take k s n b h = rw (rowsOf-suc s n b h, take-rest)
 
 pub from-end : (k : Table) (s n : ℕ) (b : List ℕ) → n ≤ 0 → rowsFrom k s n b ≡ []
 unfolding rowsOf joined

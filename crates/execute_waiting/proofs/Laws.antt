@@ -38,15 +38,9 @@ module _ (t : Tables) (q : Request) (g : Decision) (is : g ≡ decided t q) (pas
     module _ (e : over ≡ false) where
       pub same-memory : u .ncreds ≡ t .ncreds → memoryOf k ws ≡ memoryAfter d t q k ws
       unfolding memoryAfter asMany
-      same-memory n =
-          sym (rw (clears-is d ∙ sym told ∙ e, ap (λ (v : Tables). eqb (t .ncreds) (v .ncreds)) (sym after) ∙ eq-eqb (t .ncreds) (u .ncreds) (sym n)))
+      same-memory n = sym (rw (clears-is d ∙ sym told ∙ e, ← after, eq-eqb (t .ncreds) (u .ncreds) (sym n)))
 
       pub moved-memory : (u .ncreds ≡ t .ncreds → ⊥)
           → memoryOf (heldRound (seats u) (heldRound (seats t) k)) (without (gone (seats u)) ws) ≡ memoryAfter d t q k ws
       unfolding memoryAfter asMany
-      moved-memory n =
-          ap (λ (v : Tables). memoryOf (heldRound (seats v) (heldRound (seats t) k)) (without (gone (seats v)) ws)) after
-          ∙ sym (rw (
-            clears-is d ∙ sym told ∙ e,
-            ap (λ (v : Tables). eqb (t .ncreds) (v .ncreds)) (sym after) ∙ ne-eqb (t .ncreds) (u .ncreds) (λ f. n (sym f)),
-          ))
+      moved-memory n = sym (rw (clears-is d ∙ sym told ∙ e, ← after, ne-eqb (t .ncreds) (u .ncreds) (λ f. n (sym f))))

@@ -1,5 +1,5 @@
 -- Laws of a take, as the code does it: nothing taken, or the record that is due, handed out and judged, and its seat left.
-use Rattle.rows.proofs.Prelude.{_≡_, sym, ap, ap₂, _∙_, true, false, List, ℕ, _-_, _≤_, length, take, replicate, eqb}
+use Rattle.rows.proofs.Prelude.{_≡_, sym, ap, _∙_, true, false, List, ℕ, _≤_, length, take, replicate, eqb}
 use Rattle.rows.specs.Rows.{Row, hasKey, every, without, distinctNumbers}
 use Rattle.rows.proofs.Kept.{every-without, distinct-without}
 use Rattle.rules.specs.declared.Tables.{Tables}
@@ -14,7 +14,7 @@ use Rattle.rules.specs.Reading.{filled}
 use Rattle.rules.specs.Checks.{verdict, numberOf}
 use Rattle.rules.specs.Outcome.{Said, outcome, toldTo, judgementOf, refusal}
 use Rattle.rules_waiting.specs.Slots.{Seat, after, padded, roundOf, waiting, memoryOf}
-use Rattle.rules_waiting.specs.Terminal.{Terminal, terminal, slotSound, soundTerminal, memoryAfter, takeChecks, turn, due, takeOf, taken, handedOut, takenOf}
+use Rattle.rules_waiting.specs.Terminal.{Terminal, terminal, slotSound, soundTerminal, memoryAfter, takeChecks, turn, due, taken, takenOf}
 use Rattle.rules_waiting.specs.Calls.{Takes}
 use Rattle.rules_waiting.proofs.SlotLaws.{memory-sound, waiting-back, round-back, slots-long}
 use Rattle.rules_waiting.proofs.Held.{few-slots}
@@ -88,20 +88,7 @@ module _ (d : Defaults) (t : Tables) (m : List ℕ) (clock room : ℕ) (c : Chec
     unfolding taken
     one-taken s m′ b b′ f g h =
         let v : Pass ≡ verdict (takeChecks (terminal t m)) = sym e ∙ told in
-        let r = received clock (due (terminal t m)) room in
-        record {
-          hands = ap₂ (λ (k : Said) (z : Due). record { judgement = k; size = z .size; bytes = z .bytes })
-              (f ∙ ap (λ (i : Request). judgementOf (outcome d t i)) handed-is) is
-              ∙ ap (λ (k : Check). handedOut (takeOf d (terminal t m) r k)) v;
-          leaves = record {
-            keeps = h
-                ∙ ap (λ (i : Request). memoryAfter d t i (after (turn (terminal t m))) (without (hasKey 0 (turn (terminal t m))) (waiting m))) handed-is
-                ∙ ap (λ (k : Check). takeOf d (terminal t m) r k .terminal .memory) v;
-            fills = g
-                ∙ ap (λ (i : Request). filled b (toldTo d t i .contents)) handed-is
-                ∙ ap (λ (k : Check). filled b (takeOf d (terminal t m) r k .told .contents)) v;
-          };
-        }
+        record { hands = rw (f, handed-is, is, ← v); leaves = record { keeps = rw (h, handed-is, ← v); fills = rw (g, handed-is, ← v) } }
 
 pub nothing-taken : (d : Defaults) (f : Head) (cs es m : List ℕ) (clock room : ℕ) (c : Check)
     → c ≡ verdict (takeChecks (terminal (tablesOf f cs es) m)) → (n : ℕ) → c ≡ Refuse n
@@ -109,15 +96,5 @@ pub nothing-taken : (d : Defaults) (f : Head) (cs es m : List ℕ) (clock room :
     → Takes d (terminal (tablesOf f cs es) m) clock room (takenOf (record { judgement = j; size = 0; bytes = z }) cs es) b m b
 unfolding taken padded filled
 nothing-taken d f cs es m clock room c told n e j i z l b =
-    let x = terminal (tablesOf f cs es) m in
-    let v : Refuse n ≡ verdict (takeChecks x) = sym e ∙ told in
-    let q = received clock (due x) room in
-    record {
-      hands = ap₂ (λ (k : Judgement) (y : List ℕ). takenOf (record { judgement = k; size = 0; bytes = y }) cs es)
-          (i ∙ ap (λ (k : Check). refusal f (numberOf k)) e) l
-          ∙ ap (λ (k : Check). handedOut (takeOf d x q k)) v;
-      leaves = record {
-        keeps = ap (λ (k : Check). takeOf d x q k .terminal .memory) v;
-        fills = ap (λ (k : Check). filled b (takeOf d x q k .told .contents)) v;
-      };
-    }
+    let v : Refuse n ≡ verdict (takeChecks (terminal (tablesOf f cs es) m)) = sym e ∙ told in
+    record { hands = rw (i, e, l, ← v); leaves = record { keeps = rw (← v); fills = rw (← v) } }

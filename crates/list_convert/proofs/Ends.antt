@@ -10,20 +10,20 @@ use Rattle.rules_legacy.specs.Conversion.{rowsMade, tooManyRows, bufferTooShort
 use Rattle.rules_legacy.proofs.Stored.{rows-size}
 
 -- the file f, the buffer o before and o′ after, and what is told
-pub record Ends (f o o′ : List ℕ) (answer n : ℕ) : Type 0 where
-  pub says : answer ≡ numberOf (conversionVerdict f (length o))
-  pub size : n ≡ length (conversionReply f (length o))
-  pub buffer : o′ ≡ filled o (conversionReply f (length o))
+abbrev pub Ends : List ℕ → List ℕ → List ℕ → ℕ → ℕ → Type 0
+Ends f o o′ answer n =
+    (answer ≡ numberOf (conversionVerdict f (length o)))
+    × ((n ≡ length (conversionReply f (length o))) × (o′ ≡ filled o (conversionReply f (length o))))
 
 module _ (f o : List ℕ) where
   pub bad-file : badFile f ≡ true → Ends f o o 23 0
   unfolding conversionReply conversionVerdict verdict filled
-  bad-file e = record { says = rw e; size = rw e; buffer = rw e }
+  bad-file e = (rw e, (rw e, rw e))
 
   module _ (good : badFile f ≡ false) (made : ℕ) (counted : made ≡ length (rowsMade f)) where
     pub too-many : 32 < made → Ends f o o 24 0
     unfolding conversionReply conversionVerdict verdict filled tooManyRows
-    too-many h = let l = lt-ltb 32 (length (rowsMade f)) (omega arith) in record { says = rw (good, l); size = rw (good, l); buffer = rw (good, l) }
+    too-many h = let l = lt-ltb 32 (length (rowsMade f)) (omega arith) in (rw (good, l), (rw (good, l), rw (good, l)))
 
     module _ (few : made ≤ 32) where
       pub too-short : length o < made * 36 → Ends f o o 25 0
@@ -31,7 +31,7 @@ module _ (f o : List ℕ) where
       too-short h =
           let l = le-ltb 32 (length (rowsMade f)) (omega arith) in
           let s = lt-ltb (length o) (length (joined (rowsMade f))) (omega (arith, rows-size f)) in
-          record { says = rw (good, l, s); size = rw (good, l, s); buffer = rw (good, l, s) }
+          (rw (good, l, s), (rw (good, l, s), rw (good, l, s)))
 
       pub all-put : {o′ : List ℕ} (r : ℕ) → made * 36 ≤ length o → Puts o 0 (joined (rowsMade f)) o′ r → Ends f o o′ 0 r
       unfolding conversionReply conversionVerdict verdict filled tooManyRows bufferTooShort
@@ -40,4 +40,4 @@ module _ (f o : List ℕ) where
           let fits : length (joined (rowsMade f)) ≤ length o = omega (arith, rows-size f) in
           let s = le-ltb (length o) (length (joined (rowsMade f))) fits in
           let n : r ≡ length (joined (rowsMade f)) = omega (arith, p .next, rows-size f) in
-          record { says = rw (good, l, s); size = rw (good, l, s) n; buffer = rw (good, l, s) (p .buffer ∙ written-start o (joined (rowsMade f)) fits) }
+          (rw (good, l, s), (rw (good, l, s) n, rw (good, l, s) (p .buffer ∙ written-start o (joined (rowsMade f)) fits)))

@@ -1,9 +1,8 @@
 -- Loops over the rows of a file: one row more or none, what it becomes, and the bytes of that.
 use Rattle.rows.proofs.Prelude.{_≡_, sym, ap, _∙_, Bool, true, false, List, [], _++_, ℕ, zero, suc, _+_, _-_, _≤_, _<_, arith, length, take, drop}
-use Rattle.rows.proofs.Prelude.{length-append}
+use Rattle.rows.proofs.Prelude.{length-append, cond-cases}
 use Rattle.rows.specs.Rows.{Row, rowsOf, some, joined}
 use Rattle.rows.proofs.Laws.{take-rest, rowsOf-suc, joined-append}
-use Rattle.rules.proofs.Bools.{cond-cases}
 use Rattle.rules_legacy.specs.OldList.{isAnybody}
 use Rattle.rules_legacy.specs.Conversion.{entriesOf, allEntries, numberedFrom}
 use Rattle.rules_legacy.proofs.Numbered.{numbered-append}

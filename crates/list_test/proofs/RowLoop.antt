@@ -1,16 +1,15 @@
 -- The loop over a list's rows: its invariant, a bad row, a turn, the end.
 -- The first i rows have no fault; what is said of the list is said of the rest behind them, and so is where a number first repeats.
-use Rattle.rows.proofs.Prelude.{_≡_, refl, sym, _∙_, Bool, true, false, not, _||_, cond, List, [], _∷_, ℕ, suc, _+_, _*_, _≤_, _<_, add-one, arith, length}
-use Rattle.rows.proofs.Prelude.{take, drop, drop-of-length-le, eqb, eq-eqb, ne-eqb}
+use Rattle.rows.proofs.Prelude.{_≡_, refl, sym, _∙_, Bool, not, _||_, cond, List, [], _∷_, ℕ, suc, _+_, _*_, _≤_, _<_, add-one, arith, length, take, drop}
+use Rattle.rows.proofs.Prelude.{drop-of-length-le, eqb, eq-eqb, ne-eqb, bool-cases, or-right}
 use Rattle.rows.specs.Rows.{Row, rowsOf, some, numberedAs, beforeRepeat}
 use Rattle.rows.proofs.Laws.{length-rowsOf, rowsOf-end, from-row}
 use Rattle.rules.specs.declared.Check.the-variants.{Pass, Refuse}
 use Rattle.rules.specs.declared.Table.the-variants.{Aces}
 use Rattle.rules.specs.Tables.{storable}
 use Rattle.rules.specs.Checks.{verdict}
-use Rattle.rules.proofs.Bools.{or-right}
 use Rattle.rules.proofs.Answers.{passed}
-use Rattle.rules_lists.specs.Lists.{unfit, excessive, rowChecks, said, accepted, namedOr, rowsTested}
+use Rattle.rules_lists.specs.Lists.{unfit, excessive, said, accepted, namedOr, rowsTested}
 
 -- the checks of a row as code makes them
 abbrev pub codeChecks : Row → Bool → List (ℕ × Bool)
@@ -43,20 +42,15 @@ module _ (b : List ℕ) (count repeat : ℕ) where
     apart-here = inv .apart ∙ rw (from-row 36 count i b more, rowsOf-end 36 i b)
 
     repeats-here : some (numberedAs row) (rowsOf 36 i b) ≡ eqb i repeat
-    repeats-here = go (some (numberedAs row) (rowsOf 36 i b)) apart-here
-      where
-        go : (t : Bool) → repeat ≡ i + cond t 0 (suc (beforeRepeat (rowsOf 36 (suc i) b) (drop (suc i) rows))) → t ≡ eqb i repeat
-        go true e = sym (eq-eqb i repeat (omega arith))
-        go false e = sym (ne-eqb i repeat (λ q. absurd (omega arith)))
-
-    checks-here : rowChecks (rowsOf 36 i b) row ≡ codeChecks row (eqb i repeat)
-    unfolding unfit
-    checks-here = rw repeats-here
+    repeats-here =
+        bool-cases (some (numberedAs row) (rowsOf 36 i b))
+        (λ e. e ∙ sym (eq-eqb i repeat (omega (arith, rw e at apart-here))))
+        (λ e. e ∙ sym (ne-eqb i repeat (λ q. omega (arith, rw e at apart-here))))
 
     -- what row i decides
     decides : rowsTested [] rows ≡ namedOr (verdict (codeChecks row (eqb i repeat))) (suc i) (rowsTested (rowsOf 36 (suc i) b) (drop (suc i) rows))
-    unfolding rowsTested
-    decides = inv .tested ∙ rw (from-row 36 count i b more, checks-here, length-rowsOf, rowsOf-end 36 i b)
+    unfolding rowsTested unfit
+    decides = inv .tested ∙ rw (from-row 36 count i b more, repeats-here, length-rowsOf, rowsOf-end 36 i b)
 
     pub row-bad : (n : ℕ) → verdict (codeChecks row (eqb i repeat)) ≡ Refuse n → said n (i + 1) ≡ rowsTested [] rows
     row-bad n e = sym (decides ∙ rw (e, add-one))

@@ -1,11 +1,11 @@
 -- The text of the rows that are left, and what the entry point ends with.
-use Rattle.rows.proofs.Prelude.{_≡_, refl, sym, ap, _∙_, Bool, true, false, _&&_, cond, List, [], _∷_, _++_, map, append-assoc, append-nil, ℕ, suc, _+_, _-_}
-use Rattle.rows.proofs.Prelude.{_≤_, _<_, min, arith, length, take, drop, le-ltb, lt-ltb}
+use Rattle.rows.proofs.Prelude.{_≡_, ap, _∙_, Bool, true, false, _&&_, cond, List, [], _++_, map, append-assoc, append-nil, ℕ, _+_, _-_, _≤_, _<_, min, arith}
+use Rattle.rows.proofs.Prelude.{length, take, drop, le-ltb, lt-ltb, bool-cases}
 use Rattle.text.specs.Text.{ascii}
 use Rattle.text.specs.Buffer.{largest, Puts}
 use Rattle.text.proofs.Buffers.{puts-then, written-start}
 use Rattle.rows.specs.Rows.{Row, rowsOf, without, joined}
-use Rattle.rows.proofs.Laws.{take-rest}
+use Rattle.rows.proofs.Laws.{take-rest, rowsOf-suc}
 use Rattle.rules.specs.declared.Tables.{Tables}
 use Rattle.rules.specs.Tables.{rowsIn}
 use Rattle.rules_waiting.specs.Terminal.{Terminal, soundTerminal}
@@ -22,26 +22,10 @@ entries first n b = separated first (map rowText (rowsWritten (rowsOf 36 n b)))
 abbrev pub entry : Bool → Row → List ℕ
 entry first w = cond (seasonal w) [] (comma first ++ rowText w)
 
-one-more : (first : Bool) (n : ℕ) (b : List ℕ) → entries first (suc n) b ≡ entry first (take 36 b) ++ entries (seasonal (take 36 b) && first) n (drop 36 b)
-unfolding rowsOf without
-one-more first n b = go (seasonal (take 36 b))
-  where
-    rest : List Row
-    rest = rowsWritten (rowsOf 36 n (drop 36 b))
-
-    go : (x : Bool)
-        → separated first (map rowText (cond x rest (take 36 b ∷ rest)))
-        ≡ cond x [] (comma first ++ rowText (take 36 b)) ++ separated (x && first) (map rowText rest)
-    go true = refl
-    go false = refl
-
 pub entries-take : (first : Bool) (n : ℕ) (b : List ℕ) → 0 < n
     → entries first n b ≡ entry first (take 36 b) ++ entries (seasonal (take 36 b) && first) (n - 1) (take (length b - 36) (drop 36 b))
-entries-take first n b h =
-    let e : n ≡ suc (n - 1) = omega arith in
-    ap (λ (k : ℕ). entries first k b) e
-    ∙ one-more first (n - 1) b
-    ∙ ap (λ (l : List ℕ). entry first (take 36 b) ++ entries (seasonal (take 36 b) && first) (n - 1) l) (sym (take-rest 36 b))
+unfolding without
+entries-take first n b h = rw (rowsOf-suc 36 n b h, take-rest) (bool-cases (seasonal (take 36 b)) (λ e. rw e) (λ e. rw e))
 
 pub entries-end : (first : Bool) (n : ℕ) (b : List ℕ) → n ≤ 0 → entries first n b ≡ []
 unfolding rowsOf without
@@ -58,15 +42,14 @@ list-puts t n h e p q r =
 
 -- ---- the three ends
 
-pub record Ends (x : Terminal) (o o′ : List ℕ) (answer n : ℕ) : Type 0 where
-  pub says : answer ≡ numberOf (officeVerdict x (length o))
-  pub size : n ≡ length (officeReply x (length o))
-  pub buffer : o′ ≡ filled o (officeReply x (length o))
+abbrev pub Ends : Terminal → List ℕ → List ℕ → ℕ → ℕ → Type 0
+Ends x o o′ answer n =
+    (answer ≡ numberOf (officeVerdict x (length o))) × ((n ≡ length (officeReply x (length o))) × (o′ ≡ filled o (officeReply x (length o))))
 
 module _ (x : Terminal) (o : List ℕ) where
   pub not-sound : soundTerminal x ≡ false → Ends x o o 17 0
   unfolding officeReply officeVerdict verdict filled
-  not-sound e = record { says = rw e; size = rw e; buffer = rw e }
+  not-sound e = (rw e, (rw e, rw e))
 
   -- the length that was measured is the text's
   measured : (n : ℕ) → n ≡ min (0 + length (officeText (x .tables))) largest → n ≡ length (officeText (x .tables))
@@ -76,7 +59,7 @@ module _ (x : Terminal) (o : List ℕ) where
   unfolding officeReply officeVerdict verdict filled
   too-short n e m h =
       let l = lt-ltb (length o) (length (officeText (x .tables))) (omega (arith, measured n m)) in
-      record { says = rw (e, l); size = rw (e, l); buffer = rw (e, l) }
+      (rw (e, l), (rw (e, l), rw (e, l)))
 
   pub all-written : {o′ : List ℕ} (n r : ℕ) → soundTerminal x ≡ true → n ≡ min (0 + length (officeText (x .tables))) largest → n ≤ length o
       → Puts o 0 (officeText (x .tables)) o′ r → Ends x o o′ 0 r
@@ -84,4 +67,4 @@ module _ (x : Terminal) (o : List ℕ) where
   all-written {o′} n r e m h p =
       let f : length (officeText (x .tables)) ≤ length o = omega (arith, measured n m) in
       let l = le-ltb (length o) (length (officeText (x .tables))) f in
-      record { says = rw (e, l); size = rw (e, l) (measured r (p .next)); buffer = rw (e, l) (p .buffer ∙ written-start o (officeText (x .tables)) f) }
+      (rw (e, l), (rw (e, l) (measured r (p .next)), rw (e, l) (p .buffer ∙ written-start o (officeText (x .tables)) f)))

@@ -1,7 +1,6 @@
 -- A resource's name by its number, which choices a row names, and the texts that are left from a choice on.
-use Rattle.rows.proofs.Prelude.{_≡_, refl, ap, ap₂, sym, _∙_, Bool, true, false, not, _&&_, cond, List, [], _∷_, _++_}
-use Rattle.rows.proofs.Prelude.{map, ℕ, zero, suc, _+_, _≤_, _<_, arith, length, drop, getD, append-nil}
-use Rattle.rows.proofs.Prelude.{drop-cons}
+use Rattle.rows.proofs.Prelude.{_≡_, refl, ap, ap₂, sym, _∙_, Bool, false, not, _&&_, cond, List, [], _∷_, _++_, map, ℕ, zero, suc, _+_, _≤_, _<_, arith}
+use Rattle.rows.proofs.Prelude.{length, drop, getD, append-nil, drop-cons, bool-cases}
 use Prim.Native.String.{String}
 use Rattle.text.specs.Text.{ascii}
 use Rattle.text.specs.Buffer.{Puts}
@@ -45,21 +44,14 @@ href-number k h = ap braced (getD-map [] (λ (n : ℕ). href (lookup n names "")
 abbrev pub items : Row → Bool → ℕ → List ℕ
 items w first k = separated first (map braced (picked (drop k (chosen w)) (drop k choices)))
 
--- the first, if it is named, and then the others
-one : (first b : Bool) (bs : List Bool) (x : List ℕ) (xs : List (List ℕ))
-    → separated first (map braced (picked (b ∷ bs) (x ∷ xs))) ≡ cond b (comma first ++ braced x) [] ++ separated (not b && first) (map braced (picked bs xs))
-one first true bs x xs = refl
-one first false bs x xs = refl
-
 module _ (w : Row) (first : Bool) (k : ℕ) where
-  items-next : {b : Bool}
-      → k < count + 3
-      → b ≡ getD (chosen w) k false
+  -- choice k, if it is named, and then the others
+  items-next : {b : Bool} → k < count + 3 → b ≡ getD (chosen w) k false
       → items w first k ≡ cond b (comma first ++ braced (getD choices k [])) [] ++ items w (not b && first) (suc k)
   unfolding chosen choices
   items-next {b} h e =
       ap₂ (λ (bs : List Bool) (xs : List (List ℕ)). separated first (map braced (picked bs xs))) (drop-cons (chosen w) k false h) (drop-cons choices k [] h)
-      ∙ rw (← e) (one first b (drop (suc k) (chosen w)) (getD choices k []) (drop (suc k) choices))
+      ∙ rw (← e) (bool-cases b (λ t. rw t) (λ t. rw t))
 
   -- choice k is put, if it is named: x is its text
   pub items-put : {o whole out x out′ : List ℕ} {at p p′ : ℕ} {b : Bool}

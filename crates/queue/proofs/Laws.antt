@@ -1,21 +1,20 @@
 -- Laws of the memory as it is changed: a slot made, the slots between, the head and the round.
-use Rattle.rows.proofs.Prelude.{_≡_, refl, sym, ap, ap₂, _∙_, Bool, true, false, not, _||_, cond, List, [], _∷_, _++_, map, append-assoc, append-nil, ℕ, zero}
-use Rattle.rows.proofs.Prelude.{suc, _+_, _-_, _*_, _/_, _%_, _≤_, _<_, min, min-eq-left, zero-mul, arith, length, take, drop, getD, set, replicate}
-use Rattle.rows.proofs.Prelude.{drop-of-length-le, length-append, length-drop, length-set, drop-at, length-take-le, take-take, eq-eqb, ne-eqb}
-use native.Mathlib.Nat.{zero-add, suc-add}
+use Rattle.rows.proofs.Prelude.{_≡_, refl, sym, ap, ap₂, _∙_, Bool, true, false, not, _||_, List, [], _∷_, _++_, map, append-assoc, append-nil, ℕ, _+_, _-_}
+use Rattle.rows.proofs.Prelude.{_*_, _/_, _%_, _≤_, _<_, min, min-eq-left, zero-mul, arith, length, take, drop, getD, set, replicate, drop-cons, take-all}
+use Rattle.rows.proofs.Prelude.{getD-drop, drop-of-length-le, length-append, length-drop, drop-at, length-take-le, take-take, cond-cases, bool-cases}
+use Rattle.rows.proofs.Prelude.{contradiction}
+use lib.ListN.{replicate-append-replicate}
 use Rattle.rows.specs.declared.Found.{Found}
 use Rattle.rows.specs.Rows.{Row, rowsOf, packed, joined, allZero, same, hasKey, some, numberedAs, stored, without, withRow}
 use Rattle.rows.specs.Contracts.{placeOf, IsTable}
 use Rattle.rows.proofs.Laws.{length-rowsOf, drop-replicate, take-rest, lent-rest, some-place, isAt, zeros-replicate, packed-is, joined-rowsOf}
 use Rattle.rows.proofs.Kept.{long-rowsOf, rowsOf-joined, same-true, same-refl, same-sym, length-without, length-stored}
 use Rattle.rules.specs.Bits.{word}
-use Rattle.rules.specs.Record.{credential}
 use Rattle.rules.specs.declared.Table.the-variants.{Creds}
 use Rattle.rules.specs.Tables.{stride, capacity, rowsIn}
 use Rattle.rules.proofs.BitLaws.{word-is}
-use Rattle.rules.proofs.Bools.{cond-cases, bool-cases, contradiction}
-use Rattle.rules_waiting.specs.Slots.{Seat, Round, anew, after, seatOf, padded, slotOf, roundBytes, roundOf, waiting, memoryOf}
-use Rattle.rules_waiting.specs.Round.{nobody, seatsIn, held, gone, heldRound}
+use Rattle.rules_waiting.specs.Slots.{Seat, Round, after, seatOf, padded, slotOf, roundBytes, roundOf, waiting, memoryOf}
+use Rattle.rules_waiting.specs.Round.{nobody, seatsIn, held, gone}
 use Rattle.rules_waiting.specs.Terminal.{withRecord}
 use Rattle.queue.specs.Queue.{IsQueue}
 
@@ -26,30 +25,22 @@ pub slot-is : (r last : List ℕ) → getD r 2 0 < 256 → getD r 3 0 < 256 → 
     → getD r 2 0 ∷ getD r 3 0 ∷ length r / 256 ∷ length r % 256 ∷ (last ++ []) ≡ slotOf r
 unfolding slotOf seatOf padded word withRow
 slot-is r last a b e =
-    let s : word (credential r) ≡ getD r 2 0 ∷ getD r 3 0 ∷ [] = word-is r 2 a b in
     ap (λ (l : List ℕ). getD r 2 0 ∷ getD r 3 0 ∷ length r / 256 ∷ length r % 256 ∷ l) (append-nil last ∙ e ∙ rw (zero-mul, drop-replicate (length r) 256 0))
-    ∙ ap (λ (l : List ℕ). l ++ (word (length r) ++ (r ++ replicate (256 - length r) 0))) (sym s)
+    ∙ ap (λ (l : List ℕ). l ++ (word (length r) ++ (r ++ replicate (256 - length r) 0))) (sym (word-is r 2 a b))
 
 -- ---- the head
 
+pub two-of : (b : List ℕ) → 2 ≤ length b → getD b 0 0 ∷ getD b 1 0 ∷ [] ≡ take 2 b
+two-of b h = rw (drop-cons b 0 0 (omega arith), drop-cons b 1 0 (omega arith))
+
+three-of : (b : List ℕ) → 3 ≤ length b → getD b 0 0 ∷ getD b 1 0 ∷ getD b 2 0 ∷ [] ≡ take 3 b
+three-of b h = rw (drop-cons b 0 0 (omega arith), drop-cons b 1 0 (omega arith), drop-cons b 2 0 (omega arith))
+
 pub head-set : (m : List ℕ) (n : ℕ) (r : List ℕ) → 4 ≤ length m → length r ≡ 3
     → set (set (set (set m 0 n) 1 (getD r 0 0)) 2 (getD r 1 0)) 3 (getD r 2 0) ≡ n ∷ (r ++ drop 4 m)
-head-set [] n r h t = absurd (omega arith)
-head-set (w ∷ []) n r h t = absurd (omega arith)
-head-set (w ∷ x ∷ []) n r h t = absurd (omega arith)
-head-set (w ∷ x ∷ y ∷ []) n r h t = absurd (omega arith)
-head-set (w ∷ x ∷ y ∷ z ∷ m) n [] h t = absurd (omega arith)
-head-set (w ∷ x ∷ y ∷ z ∷ m) n (a ∷ []) h t = absurd (omega arith)
-head-set (w ∷ x ∷ y ∷ z ∷ m) n (a ∷ b ∷ []) h t = absurd (omega arith)
-head-set (w ∷ x ∷ y ∷ z ∷ m) n (a ∷ b ∷ c ∷ []) h t = refl
-head-set (w ∷ x ∷ y ∷ z ∷ m) n (a ∷ b ∷ c ∷ d ∷ r) h t = absurd (omega arith)
-
-module _ (m : List ℕ) (n a : ℕ) (h : 4 ≤ length m) where
-  pub second-in : 1 < length (set m 0 n)
-  second-in = omega (arith, length-set m 0 n)
-
-  pub third-in : 2 < length (set (set m 0 n) 1 a)
-  third-in = omega (arith, length-set (set m 0 n) 1 a, length-set m 0 n)
+head-set m n r h t =
+    rw (drop-cons m 0 0 (omega arith), drop-cons m 1 0 (omega arith), drop-cons m 2 0 (omega arith), drop-cons m 3 0 (omega arith))
+    (ap (λ (l : List ℕ). n ∷ (l ++ drop 4 m)) (three-of r (omega arith) ∙ take-all 3 r (omega arith)))
 
 -- ---- the slots
 
@@ -97,12 +88,8 @@ module _ (m : List ℕ) (q : IsQueue m) where
       ap (λ (l : List ℕ). set l 0 left) (lent-rest 4 m last ∙ ap (λ (l : List ℕ). l ++ last) head-is)
       ∙ ap₂ (λ (j : ℕ) (l : List ℕ). j ∷ (roundBytes (roundOf m) ++ l)) n (b ∙ ap (λ (j : ℕ). packed j ws) slots-long)
     where
-      four : (m : List ℕ) → 4 ≤ length m → take 4 m ≡ getD m 0 0 ∷ take 3 (drop 1 m)
-      four [] l = absurd (omega arith)
-      four (a ∷ m) l = refl
-
       head-is : take 4 m ≡ getD m 0 0 ∷ roundBytes (roundOf m)
-      head-is = four m (omega (arith, q .long)) ∙ ap (λ (b : List ℕ). getD m 0 0 ∷ b) (q .round)
+      head-is = ap (take 4) (drop-cons m 0 0 (omega (arith, q .long))) ∙ ap (λ (b : List ℕ). getD m 0 0 ∷ b) (q .round)
 
 -- ---- a record is kept
 
@@ -112,9 +99,10 @@ module _ (m r s : List ℕ) (q : IsQueue m) (free : getD m 0 0 < 25) (made : s �
 
   pub rows-few : length rows ≤ 25
   rows-few =
+      let few = length-rowsOf 260 (getD m 0 0) (slotsOf m) in
       rw (length-stored s (rowsOf 260 (getD m 0 0) (slotsOf m)))
       (cond-cases (λ (n : ℕ). n ≤ 25) (some (numberedAs s) (rowsOf 260 (getD m 0 0) (slotsOf m)))
-      (λ _. omega (arith, length-rowsOf 260 (getD m 0 0) (slotsOf m))) (λ _. omega (arith, length-rowsOf 260 (getD m 0 0) (slotsOf m))))
+      (λ _. omega arith) (λ _. omega arith))
 
   pub room : length rows * 260 ≤ length (slotsOf m)
   room = omega (arith, rows-few, slots-long m q)
@@ -124,10 +112,6 @@ module _ (m r s : List ℕ) (q : IsQueue m) (free : getD m 0 0 < 25) (made : s �
   kept-is left last n b = counted-anew m q rows left last n b ∙ ap₂ (λ (w : Row) (ws : List Row). memoryOf (roundOf m) (stored w ws)) made (slots-rows m q)
 
 -- ---- rows taken out of the part that is used
-
-more-zeros : (a b : ℕ) → replicate {A = ℕ} a 0 ++ replicate b 0 ≡ replicate (a + b) 0
-more-zeros zero b = rw zero-add
-more-zeros (suc a) b = rw suc-add (ap (λ (l : List ℕ). 0 ∷ l) (more-zeros a b))
 
 module _ (s n : ℕ) (b : List ℕ) (t : IsTable s n b) where
   pub used-long : length (take (n * s) b) ≡ n * s
@@ -151,17 +135,16 @@ module _ (s n : ℕ) (b : List ℕ) (t : IsTable s n b) where
       → last ++ drop (n * s) b ≡ packed (length b) ws
   unfolding packed
   used-packed ws last e l =
-      let zeros = zeros-replicate (drop (n * s) b) (t .zeros) in
       let free = length (take (n * s) b) - length (joined ws) in
       packed-is (length b) (free + length (drop (n * s) b)) (last ++ drop (n * s) b) ws
-      (ap₂ (λ (x y : List ℕ). x ++ y) e zeros
+      (ap₂ (λ (x y : List ℕ). x ++ y) e (zeros-replicate (drop (n * s) b) (t .zeros))
       ∙ append-assoc (joined ws) (replicate free 0) (replicate (length (drop (n * s) b)) 0)
-      ∙ ap (λ (x : List ℕ). joined ws ++ x) (more-zeros free (length (drop (n * s) b))))
+      ∙ ap (λ (x : List ℕ). joined ws ++ x) (replicate-append-replicate free (length (drop (n * s) b)) 0))
       (length-append last (drop (n * s) b) ∙ omega (arith, l, used-long, length-drop (n * s) b, t .fits))
 
 -- ---- seats
 
-zero-seat : (p : Seat) → length p ≡ 2 → (b : Bool) → b ≡ allZero (drop 0 p) → b ≡ same p nobody
+pub zero-seat : (p : Seat) → length p ≡ 2 → (b : Bool) → b ≡ allZero (drop 0 p) → b ≡ same p nobody
 unfolding allZero word
 zero-seat p two true e = sym (ap (λ (q : Seat). same q nobody) (zeros-replicate p (sym e) ∙ ap (λ (n : ℕ). replicate n 0) two) ∙ same-refl nobody)
 zero-seat p two false e =
@@ -169,10 +152,14 @@ zero-seat p two false e =
     (λ h. contradiction (ap allZero (same-true p nobody h)) (sym e))
     (λ h. sym h)
 
+pub key-same : (p : Seat) (w : Row) → length p ≡ 2 → hasKey 0 p w ≡ same p (take 2 w)
+unfolding hasKey
+key-same p w l = ap (λ (k : ℕ). same (take k w) p) l ∙ same-sym (take 2 w) p
+
 some-key : (p : Seat) (ws : List Row) → length p ≡ 2 → some (hasKey 0 p) ws ≡ some (same p) (map (take 2) ws)
-unfolding some hasKey
+unfolding some
 some-key p [] l = refl
-some-key p (w ∷ ws) l = ap₂ (λ (a b : Bool). a || b) (ap (λ (k : ℕ). same (take k w) p) l ∙ same-sym (take 2 w) p) (some-key p ws l)
+some-key p (w ∷ ws) l = ap₂ (λ (a b : Bool). a || b) (key-same p w l) (some-key p ws l)
 
 module _ (count : ℕ) (creds : List ℕ) (p : Seat) (two : length p ≡ 2) (b : Bool) (z : b ≡ allZero (drop 0 p)) where
   pub seat-zero : b ≡ true → true ≡ held (seatsIn count creds) p
@@ -195,56 +182,15 @@ seat-gone ps i b p is h e = rw (take-take 2 260 (drop (i * 260) b) (omega arith)
 -- ---- the round
 
 module _ (m : List ℕ) (q : IsQueue m) where
-  three-bytes : getD m 1 0 ∷ getD m 2 0 ∷ getD m 3 0 ∷ [] ≡ roundBytes (roundOf m)
-  three-bytes = three m (omega (arith, q .long)) ∙ q .round
-    where
-      three : (m : List ℕ) → 4 ≤ length m → getD m 1 0 ∷ getD m 2 0 ∷ getD m 3 0 ∷ [] ≡ take 3 (drop 1 m)
-      three [] l = absurd (omega arith)
-      three (a ∷ []) l = absurd (omega arith)
-      three (a ∷ b ∷ []) l = absurd (omega arith)
-      three (a ∷ b ∷ c ∷ []) l = absurd (omega arith)
-      three (a ∷ b ∷ c ∷ d ∷ m) l = refl
+  pub three-bytes : getD m 1 0 ∷ getD m 2 0 ∷ getD m 3 0 ∷ [] ≡ roundBytes (roundOf m)
+  three-bytes = let long = q .long in simp getD-drop at (three-of (drop 1 m) (omega (arith, length-drop 1 m))) ∙ q .round
 
-  module _ (ps : List Seat) where
-    pub round-anew : getD m 1 0 ≡ 0 → heldRound ps (roundOf m) ≡ roundOf m
-    unfolding roundOf
-    round-anew e = rw (eq-eqb (getD m 1 0) 0 e)
-
-    module _ (taken : getD m 1 0 ≡ 0 → ⊥) where
-      abbrev seat : Seat
-      seat = take 2 (drop 2 m)
-
-      pub seat-two : length seat ≡ 2
-      seat-two = length-take-le 2 (drop 2 m) (omega (arith, length-drop 2 m, q .long))
-
-      pub round-seat : (b : Bool) → b ≡ held ps seat → heldRound ps (roundOf m) ≡ cond b (roundOf m) anew
-      unfolding roundOf
-      round-seat b e = rw (ne-eqb (getD m 1 0) 0 taken, e)
-
-    -- the bytes afterwards: whether it was held, and is held now
-    module _ (was : Bool) where
-      abbrev next : List ℕ
-      next = roundBytes (heldRound ps (cond was (roundOf m) anew))
-
-      pub not-before : was ≡ false → 0 ∷ 0 ∷ 0 ∷ [] ≡ next
-      not-before e = rw e
-
-      module _ (is : Bool) (told : heldRound ps (roundOf m) ≡ cond is (roundOf m) anew) (e : was ≡ true) where
-        pub not-now : is ≡ false → 0 ∷ 0 ∷ 0 ∷ [] ≡ next
-        not-now f = rw (e, told, f)
-
-        pub stays : is ≡ true → getD m 1 0 ∷ getD m 2 0 ∷ getD m 3 0 ∷ [] ≡ next
-        stays f = rw (e, told, f) three-bytes
+  pub seat-two : length (take 2 (drop 2 m)) ≡ 2
+  seat-two = length-take-le 2 (drop 2 m) (omega (arith, length-drop 2 m, q .long))
 
 -- a seat's bytes, after 1
 pub round-bytes : (p : Seat) → length p ≡ 2 → 1 ∷ getD p 0 0 ∷ getD p 1 0 ∷ [] ≡ roundBytes (after p)
-round-bytes p two = ap (λ (l : List ℕ). 1 ∷ l) (both p two)
-  where
-    both : (p : Seat) → length p ≡ 2 → getD p 0 0 ∷ getD p 1 0 ∷ [] ≡ p
-    both [] l = absurd (omega arith)
-    both (x ∷ []) l = absurd (omega arith)
-    both (x ∷ y ∷ []) l = refl
-    both (x ∷ y ∷ z ∷ p) l = absurd (omega arith)
+round-bytes p two = ap (λ (l : List ℕ). 1 ∷ l) (two-of p (omega arith) ∙ take-all 2 p (omega arith))
 
 -- slots without some are few
 pub few-left : (m : List ℕ) (q : IsQueue m) (p : Row → Bool) (n : ℕ) → n ≡ length (without p (rowsOf 260 (getD m 0 0) (slotsOf m))) → n ≤ 25

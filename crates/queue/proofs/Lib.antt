@@ -1,3 +1,3 @@
 -- Laws of the memory as it is changed, and which memory is a queue.
-mod Laws
+pub mod Laws
 pub mod Queues

@@ -49,10 +49,4 @@ pub answered : (f : Head) (cs es m r : List ℕ) (c v : Check) → c ≡ verdict
     → HandsIn (terminal (tablesOf f cs es) m) r (saidOf j cs es) m′
 unfolding handedIn
 answered f cs es m r c v told e j m′ i g s =
-    let x = terminal (tablesOf f cs es) m in
-    record {
-      says = ap (λ (k : Judgement). saidOf k cs es) (i ∙ ap (λ (k : Check). refusal f (numberOf k)) e)
-          ∙ s
-          ∙ ap (λ (k : Check). said (handInOf x r k)) (sym e ∙ told);
-      keeps = g ∙ ap (λ (k : Check). handInOf x r k .terminal .memory) (sym e ∙ told);
-    }
+    record { says = rw (i, ← told, e) s; keeps = rw (← told, e) g }

@@ -1,47 +1,45 @@
 -- Laws of the record whose turn it is, as the code finds it.
-use Rattle.rows.proofs.Prelude.{_≡_, refl, sym, ap, ap₂, _∙_, Bool, true, false, _||_, cond, true≢false, List, [], _∷_, map, ℕ, _-_, _*_, _≤_, _<_, min}
-use Rattle.rows.proofs.Prelude.{min-eq-left, arith, length, take, drop, getD, length-drop, eqb, eqb-true, leb-true}
+use Rattle.rows.proofs.Prelude.{_≡_, refl, sym, ap, _∙_, true, false, true≢false, List, [], _∷_, map, ℕ, _-_, _*_, _<_, min, min-eq-left, arith, length, take}
+use Rattle.rows.proofs.Prelude.{drop, getD, eqb}
 use Rattle.rows.specs.declared.Found.{Found}
 use Rattle.rows.specs.declared.Found.the-variants.{At, Nothing}
-use Rattle.rows.specs.Rows.{Row, rowsOf, hasKey, some, every, firstRow}
+use Rattle.rows.specs.Rows.{Row, rowsOf, hasKey, some, firstRow}
 use Rattle.rows.specs.Contracts.{placeOf}
-use Rattle.rows.proofs.Laws.{some-place, isAt, take-rest, place-row}
+use Rattle.rows.proofs.Laws.{some-place, isAt, place-row}
 use Rattle.rows.proofs.Kept.{same-true}
 use Rattle.rules.specs.declared.Tables.{Tables}
 use Rattle.rules.specs.declared.Table.the-variants.{Creds}
 use Rattle.rules.specs.Bits.{word}
 use Rattle.rules.specs.Tables.{stride, rowsIn}
-use Rattle.rules.proofs.Bools.{cond-cases, contradiction, and-left, and-right, or-not-left}
 use Rattle.rules_waiting.specs.Slots.{Seat, seatOf, padded, slotOf, recordOf, roundOf, waiting}
 use Rattle.rules_waiting.specs.Round.{nobody, seats, held, occupied, inTurn, firstInTurn}
 use Rattle.rules_waiting.specs.Terminal.{Terminal, terminal, slotSound, soundTerminal, turn, due}
-use Rattle.rules_waiting.proofs.SeatLaws.{first-passes, first-least, turn-in}
-use Rattle.rules_waiting.proofs.SlotLaws.{SoundMemory, memory-parts, slot-parts, slot-length}
+use Rattle.rules.proofs.OwnRow.{first-passes, first-every}
+use Rattle.rules_waiting.proofs.SeatLaws.{first-least, turn-in}
+use Rattle.rules_waiting.proofs.SlotLaws.{slot-parts, slot-length}
 use Rattle.rules_waiting.proofs.Sound.{terminal-parts, turn-is}
-use Rattle.queue_turn.specs.Turns.{orElse, slotIn, dueOf}
+use Rattle.queue.proofs.Laws.{slots-rows, two-of}
+use Rattle.queue.proofs.Queues.{sound-queue}
+use Rattle.queue_turn.proofs.TurnLaws.{found-cases}
+use Rattle.queue_turn.specs.Turns.{slotIn, dueOf}
 
 -- ---- the slot of the first seat that is occupied
 
 slot-found : (ws : List Row) (ps : List Seat) (i : ℕ) → slotIn ws ps ≡ At i → placeOf (hasKey 0 (firstRow (occupied ws) ps)) ws ≡ At i
 unfolding slotIn firstRow occupied
 slot-found ws [] i e = absurd (true≢false (sym (ap isAt e)))
-slot-found ws (p ∷ ps) i e = go (placeOf (hasKey 0 p) ws) refl e (slot-found ws ps i)
-  where
-    go : (f : Found) → placeOf (hasKey 0 p) ws ≡ f → orElse f (slotIn ws ps) ≡ At i
-        → (slotIn ws ps ≡ At i → placeOf (hasKey 0 (firstRow (occupied ws) ps)) ws ≡ At i)
-        → placeOf (hasKey 0 (cond (some (hasKey 0 p) ws) p (firstRow (occupied ws) ps))) ws ≡ At i
-    go (At j) f e rest = rw (some-place 0 (hasKey 0 p) ws ∙ ap isAt f) (f ∙ e)
-    go Nothing f e rest = rw (some-place 0 (hasKey 0 p) ws ∙ ap isAt f) (rest e)
+slot-found ws (p ∷ ps) i e =
+    found-cases (placeOf (hasKey 0 p) ws)
+    (λ j f. rw (some-place 0 (hasKey 0 p) ws ∙ ap isAt f) (f ∙ rw f at e))
+    (λ f. rw (some-place 0 (hasKey 0 p) ws ∙ ap isAt f) (slot-found ws ps i (rw f at e)))
 
 slot-none : (ws : List Row) (ps : List Seat) → slotIn ws ps ≡ Nothing → some (occupied ws) ps ≡ false
 unfolding slotIn some occupied
 slot-none ws [] e = refl
-slot-none ws (p ∷ ps) e = go (placeOf (hasKey 0 p) ws) refl e (slot-none ws ps)
-  where
-    go : (f : Found) → placeOf (hasKey 0 p) ws ≡ f → orElse f (slotIn ws ps) ≡ Nothing → (slotIn ws ps ≡ Nothing → some (occupied ws) ps ≡ false)
-        → (some (hasKey 0 p) ws || some (occupied ws) ps) ≡ false
-    go (At j) f e rest = absurd (true≢false (ap isAt e))
-    go Nothing f e rest = rw (some-place 0 (hasKey 0 p) ws ∙ ap isAt f) (rest e)
+slot-none ws (p ∷ ps) e =
+    found-cases (placeOf (hasKey 0 p) ws)
+    (λ j f. absurd (true≢false (ap isAt (rw f at e))))
+    (λ f. rw (some-place 0 (hasKey 0 p) ws ∙ ap isAt f) (slot-none ws ps (rw f at e)))
 
 turn-some : (x : Terminal) → soundTerminal x ≡ true → eqb (length (waiting (x .memory))) 0 ≡ false
     → some (occupied (waiting (x .memory))) (inTurn (roundOf (x .memory)) (seats (x .tables))) ≡ true
@@ -54,30 +52,13 @@ turn-some x h w =
 -- ---- in a sound terminal
 
 module _ (t : Tables) (m : List ℕ) (h : soundTerminal (terminal t m) ≡ true) where
-  memory-of : SoundMemory t m
-  memory-of = memory-parts t m (terminal-parts (terminal t m) h .memory)
-
-  pub six : length m ≡ 6504
-  six = eqb-true _ _ (memory-of .long)
-
-  pub few : getD m 0 0 ≤ 25
-  few = leb-true _ _ (memory-of .few)
-
-  pub slots-room : getD m 0 0 * 260 ≤ length (take (length m - 4) (drop 4 m))
-  slots-room = omega (arith, few, ap length (take-rest 4 m), length-drop 4 m, six)
-
-  waiting-are : rowsOf 260 (getD m 0 0) (take (length m - 4) (drop 4 m)) ≡ waiting m
-  unfolding waiting
-  waiting-are = rw (take-rest 4 m, min-eq-left few)
-
   module _ (n : ℕ) (counted : n ≡ min (t .ncreds) 24) (at : Found)
       (is : at ≡ slotIn (rowsOf 260 (getD m 0 0) (take (length m - 4) (drop 4 m)))
       (inTurn (roundOf m) (nobody ∷ map (take 2) (rowsOf (stride Creds) n (t .creds)))))
     where
       at-is : at ≡ slotIn (waiting m) (inTurn (roundOf m) (seats t))
       unfolding seats rowsIn
-      at-is =
-          is ∙ ap₂ (λ (ws : List Row) (k : ℕ). slotIn ws (inTurn (roundOf m) (nobody ∷ map (take 2) (rowsOf (stride Creds) k (t .creds))))) waiting-are counted
+      at-is = is ∙ rw (slots-rows m (sound-queue t m h), counted)
 
       pub due-found : (i : ℕ) → at ≡ At i → placeOf (hasKey 0 (turn (terminal t m))) (waiting m) ≡ At i
       unfolding turn firstInTurn
@@ -88,14 +69,6 @@ module _ (t : Tables) (m : List ℕ) (h : soundTerminal (terminal t m) ≡ true)
 
 -- ---- the record that is due
 
-first-every : (q p : Row → Bool) (ws : List Row) → every q ws ≡ true → some p ws ≡ true → q (firstRow p ws) ≡ true
-unfolding every some firstRow
-first-every q p [] h o = contradiction o refl
-first-every q p (w ∷ ws) h o =
-    cond-cases (λ (v : Row). q v ≡ true) (p w)
-    (λ _. and-left (q w) _ h)
-    (λ e. first-every q p ws (and-right (q w) _ h) (or-not-left (p w) _ o e))
-
 module _ (t : Tables) (m : List ℕ) (h : soundTerminal (terminal t m) ≡ true) (w : eqb (length (waiting m)) 0 ≡ false)
     (i : ℕ) (at : placeOf (hasKey 0 (turn (terminal t m))) (waiting m) ≡ At i) where
   abbrev slot : Row
@@ -104,12 +77,12 @@ module _ (t : Tables) (m : List ℕ) (h : soundTerminal (terminal t m) ≡ true)
   found-row : (i < getD m 0 0) × (firstRow (hasKey 0 (turn (terminal t m))) (waiting m) ≡ slot)
   unfolding waiting
   found-row =
-      let n : min (getD m 0 0) 25 ≡ getD m 0 0 = min-eq-left (few t m h) in
+      let n : min (getD m 0 0) 25 ≡ getD m 0 0 = min-eq-left (sound-queue t m h .few) in
       let f = place-row 260 (min (getD m 0 0) 25) i (hasKey 0 (turn (terminal t m))) (drop 4 m) at in
       (rw n at (f .0), f .1)
 
   pub due-small : i < 25
-  due-small = omega (arith, found-row .0, few t m h)
+  due-small = omega (arith, found-row .0, sound-queue t m h .few)
 
   waits : some (hasKey 0 (turn (terminal t m))) (waiting m) ≡ true
   unfolding occupied
@@ -118,7 +91,7 @@ module _ (t : Tables) (m : List ℕ) (h : soundTerminal (terminal t m) ≡ true)
   slot-is-sound : slotSound t slot ≡ true
   slot-is-sound =
       ap (slotSound t) (sym (found-row .1))
-      ∙ first-every (slotSound t) (hasKey 0 (turn (terminal t m))) (waiting m) (terminal-parts (terminal t m) h .keeps) waits
+      ∙ first-every (hasKey 0 (turn (terminal t m))) (slotSound t) (waiting m) waits (terminal-parts (terminal t m) h .keeps)
 
   pub slot-whole-long : length slot ≡ 260
   slot-whole-long = slot-length t slot slot-is-sound
@@ -137,15 +110,10 @@ module _ (t : Tables) (m : List ℕ) (h : soundTerminal (terminal t m) ≡ true)
       let k = ap (hasKey 0 (turn (terminal t m))) (sym (found-row .1)) ∙ first-passes (hasKey 0 (turn (terminal t m))) (waiting m) waits in
       ap (λ (j : ℕ). take j slot) (sym (turn-is (terminal t m) h w .two)) ∙ same-true _ _ k
 
-  two-bytes : (b : List ℕ) → 2 ≤ length b → getD b 0 0 ∷ getD b 1 0 ∷ [] ≡ take 2 b
-  two-bytes [] l = absurd (omega arith)
-  two-bytes (x ∷ []) l = absurd (omega arith)
-  two-bytes (x ∷ y ∷ b) l = refl
-
   pub due-record-is : (v bytes r : List ℕ)
       → v ≡ slot → bytes ≡ drop 4 v → r ≡ recordOf v → record { bytes = bytes; size = length r; seat = getD v 0 0 ∷ getD v 1 0 ∷ [] } ≡ dueOf (terminal t m)
   due-record-is v bytes r e b f =
       let x : bytes ≡ padded (due (terminal t m)) = b ∙ ap (drop 4) e ∙ bytes-are in
       let y : r ≡ due (terminal t m) = f ∙ ap recordOf e ∙ sym due-is in
-      let z : getD v 0 0 ∷ getD v 1 0 ∷ [] ≡ turn (terminal t m) = two-bytes v (omega (arith, ap length e, slot-whole-long)) ∙ ap (take 2) e ∙ seat-is in
+      let z : getD v 0 0 ∷ getD v 1 0 ∷ [] ≡ turn (terminal t m) = two-of v (omega (arith, ap length e, slot-whole-long)) ∙ ap (take 2) e ∙ seat-is in
       rw (x, y, z)

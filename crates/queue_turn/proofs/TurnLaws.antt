@@ -1,21 +1,24 @@
 -- Laws of the slot whose turn it is, as the code finds it.
-use Rattle.rows.proofs.Prelude.{_≡_, refl, sym, ap, _∙_, Bool, true, false, _||_, cond, true≢false, List, [], _∷_, _++_, map, append-nil, ℕ, zero, suc, _+_}
-use Rattle.rows.proofs.Prelude.{_-_, _*_, _≤_, _<_, arith, length, take, drop, getD, replicate, drop-of-length-le, length-drop, length-map, length-take-le}
-use Rattle.rows.proofs.Prelude.{take-all, take-take, eq-eqb, ne-eqb}
+use Rattle.rows.proofs.Prelude.{_≡_, refl, sym, ap, _∙_, Bool, true, false, cond, List, [], _∷_, _++_, map, append-nil, ℕ, zero, suc, _+_, _-_, _*_, _≤_, _<_}
+use Rattle.rows.proofs.Prelude.{arith, length, take, drop, getD, drop-of-length-le, length-drop, length-map, length-take-le, take-all, take-take, eq-eqb}
+use Rattle.rows.proofs.Prelude.{ne-eqb, cond-cases, bool-cases}
 use Rattle.rows.specs.declared.Found.{Found}
 use Rattle.rows.specs.declared.Found.the-variants.{At, Nothing}
 use Rattle.rows.specs.Rows.{Row, rowsOf, allZero, same, hasKey, some, rowsBefore}
 use Rattle.rows.specs.Contracts.{placeFrom, placeOf}
-use Rattle.rows.proofs.Laws.{take-rest, a-row, next-room, rowsOf-suc, length-rowsOf, rowsOf-take, rowsOf-drop, isAt, zeros-replicate}
-use Rattle.rows.proofs.Kept.{same-true, same-refl, same-sym}
+use Rattle.rows.proofs.Laws.{take-rest, a-row, next-room, rowsOf-suc, length-rowsOf, rowsOf-take, rowsOf-drop}
 use Rattle.rules.specs.declared.Table.the-variants.{Creds}
 use Rattle.rules.specs.Bits.{word}
 use Rattle.rules.specs.Tables.{stride}
-use Rattle.rules.proofs.Bools.{cond-cases, bool-cases, contradiction}
 use Rattle.rules_waiting.specs.Slots.{Seat, Round, anew, after, roundOf}
 use Rattle.rules_waiting.specs.Round.{nobody, held, start, inTurn}
 use Rattle.rules_waiting.proofs.SeatLaws.{index-bound}
+use Rattle.queue.proofs.Laws.{key-same, zero-seat}
 use Rattle.queue_turn.specs.Turns.{orElse, slotIn, before}
+
+pub found-cases {ℓ} : {A : Type ℓ} (f : Found) → ((i : ℕ) → f ≡ At i → A) → (f ≡ Nothing → A) → A
+found-cases (At i) is none = is i refl
+found-cases Nothing is none = none refl
 
 -- ---- the loop over credential rows
 
@@ -52,25 +55,19 @@ module _ (creds slots : List ℕ) (count kept : ℕ) where
 
 -- ---- where the last seat stands
 
-key-same : (p : Seat) (w : Row) → length p ≡ 2 → hasKey 0 p w ≡ same p (take 2 w)
-unfolding hasKey
-key-same p w l = ap (λ (k : ℕ). same (take k w) p) l ∙ same-sym (take 2 w) p
-
 index-place : (k : ℕ) (p : Seat) (ws : List Row) → length p ≡ 2
     → placeFrom k (hasKey 0 p) ws ≡ cond (some (same p) (map (take 2) ws)) (At (k + rowsBefore (same p) (map (take 2) ws))) Nothing
 unfolding placeFrom some rowsBefore
 index-place k p [] l = refl
-index-place k p (w ∷ ws) l = rw (key-same p w l) (go (same p (take 2 w)) (index-place (k + 1) p ws l))
-  where
-    later : (b : Bool) (i : ℕ) → cond b (At (k + 1 + i)) Nothing ≡ cond b (At (k + suc i)) Nothing
-    later true i = ap At (omega arith)
-    later false i = refl
+index-place k p (w ∷ ws) l =
+    rw (key-same p w l)
+    (bool-cases (same p (take 2 w)) (λ e. rw e (ap At (omega arith)))
+    (λ e. rw e (index-place (k + 1) p ws l ∙ ap (λ (j : ℕ). cond (some (same p) (map (take 2) ws)) (At j) Nothing) (omega arith))))
 
-    go : (b : Bool) → placeFrom (k + 1) (hasKey 0 p) ws ≡ cond (some (same p) (map (take 2) ws)) (At (k + 1 + rowsBefore (same p) (map (take 2) ws))) Nothing
-        → cond b (At k) (placeFrom (k + 1) (hasKey 0 p) ws)
-        ≡ cond (b || some (same p) (map (take 2) ws)) (At (k + cond b 0 (suc (rowsBefore (same p) (map (take 2) ws))))) Nothing
-    go true e = ap At (omega arith)
-    go false e = e ∙ later (some (same p) (map (take 2) ws)) (rowsBefore (same p) (map (take 2) ws))
+-- the rows up to a place that was found, or all n
+abbrev pub behind : ℕ → Found → ℕ
+behind n (At i) = i + 1
+behind n Nothing = n
 
 module _ (count : ℕ) (creds m : List ℕ) where
   abbrev numbers : List Seat
@@ -102,57 +99,23 @@ module _ (count : ℕ) (creds m : List ℕ) where
     unfolding roundOf
     round-after = rw (ne-eqb (getD m 1 0) 0 some-round)
 
-    zero-seat : (b : Bool) → b ≡ allZero (drop 0 seat) → b ≡ same seat nobody
-    unfolding allZero word
-    zero-seat true e = sym (ap (λ (p : Seat). same p nobody) (zeros-replicate seat (sym e) ∙ ap (λ (n : ℕ). replicate n 0) seat-two) ∙ same-refl nobody)
-    zero-seat false e =
-        bool-cases (same seat nobody)
-        (λ h. contradiction (ap allZero (same-true seat nobody h)) (sym e))
-        (λ h. sym h)
-
     pub before-zero : (b : Bool) → b ≡ allZero (drop 0 seat) → b ≡ true → 0 ≡ before (roundOf m) numbers
     unfolding before
-    before-zero b e t = sym (ap (λ (k : Round). before k numbers) round-after ∙ rw (sym (zero-seat b e) ∙ t))
+    before-zero b e t = sym (ap (λ (k : Round). before k numbers) round-after ∙ rw (sym (zero-seat seat seat-two b e) ∙ t))
 
-    module _ (b : Bool) (z : b ≡ allZero (drop 0 seat)) (f : b ≡ false) where
-      before-else : before (roundOf m) numbers ≡ cond (some (same seat) numbers) (suc (rowsBefore (same seat) numbers)) (length numbers)
-      unfolding before held
-      before-else = ap (λ (k : Round). before k numbers) round-after ∙ rw (sym (zero-seat b z) ∙ f)
-
-      pub before-missing : Nothing ≡ placeOf (hasKey 0 seat) (rowsOf (stride Creds) count creds) → count ≡ before (roundOf m) numbers
-      before-missing e = go (some (same seat) numbers) (e ∙ index-place 0 seat (rowsOf (stride Creds) count creds) seat-two) ∙ sym before-else
-        where
-          go : (b : Bool) → Nothing ≡ cond b (At (0 + rowsBefore (same seat) numbers)) Nothing
-              → count ≡ cond b (suc (rowsBefore (same seat) numbers)) (length numbers)
-          go true f = absurd (true≢false (sym (ap isAt f)))
-          go false f = sym length-numbers
-
-      pub before-at : (i : ℕ) → At i ≡ placeOf (hasKey 0 seat) (rowsOf (stride Creds) count creds) → i + 1 ≡ before (roundOf m) numbers
-      before-at i e = go (some (same seat) numbers) (e ∙ index-place 0 seat (rowsOf (stride Creds) count creds) seat-two) ∙ sym before-else
-        where
-          placed : Found → ℕ
-          placed (At j) = j
-          placed Nothing = 0
-
-          go : (b : Bool) → At i ≡ cond b (At (0 + rowsBefore (same seat) numbers)) Nothing
-              → i + 1 ≡ cond b (suc (rowsBefore (same seat) numbers)) (length numbers)
-          go true f = omega (arith, ap placed f)
-          go false f = absurd (true≢false (ap isAt f))
-
-      pub place-fits : (i : ℕ) → At i ≡ placeOf (hasKey 0 seat) (rowsOf (stride Creds) count creds) → i < count
-      place-fits i e = omega (arith, before-at i e, before-bound (roundOf m))
+    pub before-else : (b : Bool) → b ≡ allZero (drop 0 seat) → b ≡ false
+        → behind count (placeOf (hasKey 0 seat) (rowsOf (stride Creds) count creds)) ≡ before (roundOf m) numbers
+    unfolding before held
+    before-else b z f =
+        rw (index-place 0 seat (rowsOf (stride Creds) count creds) seat-two, round-after, sym (zero-seat seat seat-two b z) ∙ f)
+        (bool-cases (some (same seat) numbers) (λ e. rw e (omega arith)) (λ e. rw e (sym length-numbers)))
 
 -- ---- the seats in turn
 
 slot-append : (ws : List Row) (xs ys : List Seat) → slotIn ws (xs ++ ys) ≡ orElse (slotIn ws xs) (slotIn ws ys)
 unfolding slotIn
 slot-append ws [] ys = refl
-slot-append ws (x ∷ xs) ys = go (placeOf (hasKey 0 x) ws) (slot-append ws xs ys)
-  where
-    go : (f : Found) → slotIn ws (xs ++ ys) ≡ orElse (slotIn ws xs) (slotIn ws ys)
-        → orElse f (slotIn ws (xs ++ ys)) ≡ orElse (orElse f (slotIn ws xs)) (slotIn ws ys)
-    go (At i) e = refl
-    go Nothing e = e
+slot-append ws (x ∷ xs) ys = found-cases (placeOf (hasKey 0 x) ws) (λ i e. rw e) (λ e. rw e (slot-append ws xs ys))
 
 anew-turned : (ns : List Seat) → nobody ∷ (ns ++ []) ≡ drop (length ns) ns ++ nobody ∷ take (length ns) ns
 anew-turned ns =
@@ -163,16 +126,9 @@ anew-turned ns =
 turned : (k : Round) (ns : List Seat) → inTurn k (nobody ∷ ns) ≡ drop (before k ns) ns ++ nobody ∷ take (before k ns) ns
 unfolding inTurn start before held some rowsBefore
 turned anew ns = anew-turned ns
-turned (after p) ns = go (same p nobody) (some (same p) ns)
-  where
-    go : (a b : Bool)
-        → drop (cond (a || b) (suc (cond a 0 (suc (rowsBefore (same p) ns)))) 0) (nobody ∷ ns)
-        ++ take (cond (a || b) (suc (cond a 0 (suc (rowsBefore (same p) ns)))) 0) (nobody ∷ ns)
-        ≡ drop (cond a 0 (cond b (suc (rowsBefore (same p) ns)) (length ns))) ns
-        ++ nobody ∷ take (cond a 0 (cond b (suc (rowsBefore (same p) ns)) (length ns))) ns
-    go true b = refl
-    go false true = refl
-    go false false = anew-turned ns
+turned (after p) ns =
+    bool-cases (same p nobody) (λ e. rw e)
+    (λ e. bool-cases (some (same p) ns) (λ f. rw (e, f)) (λ f. rw (e, f) (anew-turned ns)))
 
 map-drop : (k : ℕ) (ws : List Row) → drop k (map (take 2) ws) ≡ map (take 2) (drop k ws)
 map-drop zero ws = refl
@@ -183,9 +139,6 @@ map-take : (k : ℕ) (ws : List Row) → take k (map (take 2) ws) ≡ map (take 
 map-take zero ws = refl
 map-take (suc k) [] = refl
 map-take (suc k) (w ∷ ws) = ap (λ (l : List Seat). take 2 w ∷ l) (map-take k ws)
-
-pub before-fits : (count : ℕ) (creds m : List ℕ) (k : ℕ) → k ≡ before (roundOf m) (map (take 2) (rowsOf (stride Creds) count creds)) → k ≤ count
-before-fits count creds m k e = omega (arith, before-bound count creds m (roundOf m))
 
 -- the three steps of the code
 module _ (ws : List Row) (last : Round) (count : ℕ) (creds : List ℕ) (k : ℕ)

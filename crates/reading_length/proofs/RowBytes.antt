@@ -10,13 +10,10 @@ use Rattle.rules.proofs.ReadBack.{bodies-long}
 
 -- ---- access rows
 
-row-bytes : (n : ℕ) (b : List ℕ) → joined (rowsIn Aces n b) ≡ take (min n 32 * 36) b
-unfolding rowsIn
-row-bytes n b = joined-rowsOf 36 (min n 32) b
-
 -- a part that code took
 pub row-part : (n m : ℕ) (b p : List ℕ) → m ≡ min n 32 → p ≡ take (m * 36) b → p ≡ joined (rowsIn Aces n b)
-row-part n m b p e f = f ∙ ap (λ (i : ℕ). take (i * 36) b) e ∙ sym (row-bytes n b)
+unfolding rowsIn
+row-part n m b p e f = rw (f, e) (sym (joined-rowsOf 36 (min n 32) b))
 
 -- ---- the bodies of so many credential rows
 

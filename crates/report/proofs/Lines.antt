@@ -117,9 +117,8 @@ pub run-whole : (s : List ℕ) {o o₁ o₂ : List ℕ} {p q r : ℕ} → length
 unfolding runText
 run-whole s {o} {o₁} {o₂} {p} {q} {r} h f g e =
     let w = puts-then h f (g .0) in
-    let two = length-append header (lines s) in
     let same = puts-length w in (
       omega (arith, w .next),
       w .buffer,
-      λ k l. omega (arith, w .next, two, header-length, g .1 k),
+      λ k l. omega (arith, w .next, length-append header (lines s), header-length, g .1 k),
     )

@@ -1,15 +1,13 @@
 -- The bytes of the roles in force, and of those after one is asserted, from each place on.
 -- The row afterwards is its body and these, and zeros behind them.
-use Rattle.rows.proofs.Prelude.{_≡_, sym, ap, _∙_, true, false, not, _&&_, List, [], _∷_, _++_, append-assoc, append-nil, ℕ, _+_, _-_, _≤_, arith, length}
-use Rattle.rows.proofs.Prelude.{replicate, length-append, not-false, not-true}
+use Rattle.rows.proofs.Prelude.{_≡_, ap, _∙_, true, false, not, _&&_, List, [], _∷_, _++_, append-assoc, append-nil, ℕ, _+_, _-_, _≤_, arith, length, replicate}
+use Rattle.rows.proofs.Prelude.{length-append, not-false, not-true, and-left, and-right, and-false-right, bool-cases}
 use Rattle.text.specs.Buffer.{Puts}
 use Rattle.text.proofs.Buffers.{written-start, puts-then}
 use Rattle.rows.specs.Rows.{Row, joined, packed, without}
 use Rattle.rows.proofs.Laws.{drop-replicate}
 use Rattle.rules.specs.Roles.{noRole, free, sameRole, bodyOf, firstRole, secondRole, rolesInForce, credHeld, withRole, bothTaken, asserted}
-use Rattle.rules.proofs.Bools.{and-left, and-right, and-false-right, bool-cases}
 use Rattle.rules.proofs.RoleLaws.{held-parts, body-long, asserted-short}
-use Rattle.rules.proofs.RolePlaces.{from-free, from-taken, renewed, passed-over}
 
 module _ (clock : ℕ) (p : Row) where
   pub one-in-force : free clock p ≡ false → joined (without (free clock) (p ∷ [])) ≡ p
@@ -45,25 +43,22 @@ module _ (clock : ℕ) (w p q : Row) (first : p ≡ firstRole w) (second : q ≡
   both = rw (first, second)
 
   pub joined-both : joined (rolesInForce clock w) ≡ joined (without (free clock) (p ∷ [])) ++ joined (without (free clock) (q ∷ []))
-  unfolding joined
-  joined-both =
-      ap joined both
-      ∙ bool-cases (free clock p)
-      (λ e. ap joined (from-free clock p p (q ∷ []) e) ∙ ap (λ (l : List ℕ). l ++ joined (without (free clock) (q ∷ []))) (sym (one-free clock p e)))
-      (λ e. ap joined (from-taken clock p p (q ∷ []) e) ∙ ap (λ (l : List ℕ). l ++ joined (without (free clock) (q ∷ []))) (sym (one-in-force clock p e)))
+  unfolding joined without
+  joined-both = rw both (bool-cases (free clock p) (λ e. rw e) (λ e. rw (e, append-nil p)))
 
   pub with-free : (new : Row) → free clock p ≡ true → joined (withRole new (rolesInForce clock w)) ≡ joined (withRole new (without (free clock) (q ∷ [])))
-  with-free new e = ap (λ (ps : List Row). joined (withRole new ps)) (both ∙ from-free clock new p (q ∷ []) e)
+  unfolding without
+  with-free new e = rw (both, e)
 
   pub with-same : (new : Row) → free clock p ≡ false → sameRole new p ≡ true
       → joined (withRole new (rolesInForce clock w)) ≡ new ++ joined (without (free clock) (q ∷ []))
-  unfolding joined
-  with-same new e f = ap (λ (ps : List Row). joined (withRole new ps)) both ∙ ap joined (renewed clock new p (q ∷ []) e f)
+  unfolding joined without withRole
+  with-same new e f = rw (both, e, f)
 
   pub with-other : (new : Row) → free clock p ≡ false → sameRole new p ≡ false
       → joined (withRole new (rolesInForce clock w)) ≡ p ++ joined (withRole new (without (free clock) (q ∷ [])))
-  unfolding joined
-  with-other new e f = ap (λ (ps : List Row). joined (withRole new ps)) both ∙ ap joined (passed-over clock new p (q ∷ []) e f)
+  unfolding joined without withRole
+  with-other new e f = rw (both, e, f)
 
 -- ---- the row
 

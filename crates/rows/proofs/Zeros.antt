@@ -1,8 +1,8 @@
 -- Bytes that are all 0: a union of bytes is 0 where each is, and the bytes of a list are where those of its parts are.
 -- Assumes nothing.
-use Rattle.rows.proofs.Prelude.{_≡_, refl, sym, ap, _∙_, Bool, true, false, _&&_, List, [], _∷_, _++_, ℕ, zero, suc, _+_, _≤_, _<_, add-one, arith}
-use Rattle.rows.proofs.Prelude.{length, take, drop, getD, drop-of-length-le, take-append-drop, drop-cons, drop-drop, eqb, bitOr, ne-eqb}
-use mathlib.Core.Bool.{and-assoc}
+use Rattle.rows.proofs.Prelude.{_≡_, refl, sym, ap, _∙_, Bool, true, _&&_, List, [], _∷_, _++_, ℕ, zero, suc, _+_, _≤_, _<_, add-one, arith, length}
+use Rattle.rows.proofs.Prelude.{take, drop, getD, drop-of-length-le, take-append-drop, drop-cons, drop-drop, eqb, bitOr, ne-eqb}
+use mathlib.Core.Bool.{and-assoc, and-comm}
 use lib.Bits.{or-add-and, and-le-r}
 use lib.Dec.{eqb·suc-zero}
 use Rattle.rows.specs.Rows.{allZero}
@@ -18,10 +18,7 @@ pub zero-more : (any byte : ℕ) (rest : Bool) → (eqb any 0 && (eqb byte 0 && 
 zero-more any byte rest = rw zero-both (sym (and-assoc (eqb any 0) (eqb byte 0) rest))
 
 swap-middle : (a b c d : Bool) → ((a && b) && (c && d)) ≡ ((a && c) && (b && d))
-swap-middle true true c d = refl
-swap-middle true false true d = refl
-swap-middle true false false d = refl
-swap-middle false b c d = refl
+swap-middle a b c d = rw (and-assoc a b (c && d), ← and-assoc b c d, and-comm b c, and-assoc c b d, ← and-assoc a c (b && d))
 
 -- two bytes, each before others
 pub zero-beside : (x y : ℕ) (s t : Bool) → ((eqb x 0 && s) && (eqb y 0 && t)) ≡ (eqb (bitOr x y) 0 && (s && t))
@@ -42,7 +39,7 @@ zeros-past b i h = rw (drop-of-length-le b h)
 zeros-append : (a b : List ℕ) → allZero (a ++ b) ≡ (allZero a && allZero b)
 unfolding allZero
 zeros-append [] b = refl
-zeros-append (x ∷ a) b = ap (λ (t : Bool). eqb x 0 && t) (zeros-append a b) ∙ sym (and-assoc (eqb x 0) (allZero a) (allZero b))
+zeros-append (x ∷ a) b = rw (zeros-append a b, and-assoc)
 
 -- n bytes, and those after them
 pub zeros-part : (n i : ℕ) (b : List ℕ) → allZero (drop i b) ≡ (allZero (take n (drop i b)) && allZero (drop (i + n) b))

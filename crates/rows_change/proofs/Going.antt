@@ -33,24 +33,13 @@ module _ (passes : List ℕ → Bool) (s count : ℕ) (b₀ : List ℕ) where
             rows = g .rows ∙ rw (add-one, from-row s n i b more, f, take-suc (rowsOf s n b) i [] h, row-is s n i b more, append-assoc);
           }
 
-      -- the rows without row i
-      left : List (List ℕ)
-      left = take i (rowsOf s n b) ++ drop (suc i) (rowsOf s n b)
-
-      left-long : AllLong s left
-      unfolding left
-      left-long = long-without s i (rowsOf s n b) (long-rowsOf s n b (g .table .fits))
-
-      left-count : length left ≡ n - 1
-      unfolding left
-      left-count = simp (length-append, length-take, length-drop, length-rowsOf) (omega arith)
-
-      front-long : length (take i (rowsOf s n b)) ≡ i
-      front-long = length-take-le i (rowsOf s n b) (rw length-rowsOf (omega arith))
-
       pub gone : (x : List ℕ) → x ≡ withoutRow s i b → length x ≡ length b → passes (take s (drop (i * s) b)) ≡ true → Going passes s count b₀ x (n - 1) i
-      unfolding without left
+      unfolding without
       gone x e l p =
+          let front : length (take i (rowsOf s n b)) ≡ i = length-take-le i (rowsOf s n b) (rw length-rowsOf (omega arith)) in
+          let left = take i (rowsOf s n b) ++ drop (suc i) (rowsOf s n b) in
+          let left-long : AllLong s left = long-without s i (rowsOf s n b) (long-rowsOf s n b (g .table .fits)) in
+          let left-count : length left ≡ n - 1 = simp (length-append, length-take, length-drop, length-rowsOf) (omega arith) in
           let is : x ≡ packed (length b) left = take-out s n b (g .table) i x more e l in
           let fits : length left * s ≤ length b = rw left-count (le-trans (mul-le-mul-right s (omega arith)) (g .table .fits)) in
           let t : IsTable s (length left) (packed (length b) left) = packed-table s (length b) left (g .table .numbered) left-long fits in
@@ -66,8 +55,8 @@ module _ (passes : List ℕ → Bool) (s count : ℕ) (b₀ : List ℕ) where
                   rows-are,
                   from-row s n i b more,
                   p,
-                  take-at (take i (rowsOf s n b)) (drop (suc i) (rowsOf s n b)) i front-long,
-                  drop-at (take i (rowsOf s n b)) (drop (suc i) (rowsOf s n b)) i front-long,
+                  take-at (take i (rowsOf s n b)) (drop (suc i) (rowsOf s n b)) i front,
+                  drop-at (take i (rowsOf s n b)) (drop (suc i) (rowsOf s n b)) i front,
                 );
           }
 

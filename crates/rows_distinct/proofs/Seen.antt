@@ -1,8 +1,8 @@
 -- Laws of marks by the low byte of a row's number: a row whose mark is not set has a number that no marked row has.
 -- Assumes nothing.
-use Rattle.rows.proofs.Prelude.{_≡_, refl, sym, ap, _∙_, Bool, true, false, _&&_, _||_, cond, false≢true, true≢false, List, [], _∷_, ℕ, zero, suc, _+_, _*_}
-use Rattle.rows.proofs.Prelude.{_≤_, _<_, add-one, arith, length, take, drop, getD, set, drop-of-length-le, length-set, getD-drop, getD-take}
-use native.Mathlib.Nat.{le-of-suc-le-suc, not-suc-le-zero}
+use Rattle.rows.proofs.Prelude.{_≡_, refl, sym, ap, _∙_, Bool, true, false, cond, List, [], _∷_, ℕ, zero, suc, _+_, _*_, _≤_, _<_, add-one, arith, length, take}
+use Rattle.rows.proofs.Prelude.{drop, getD, set, drop-of-length-le, length-set, getD-drop, getD-take, bool-cases, contradiction, and-left, and-right}
+use lib.Seq.{getD-set-same}
 use Rattle.rows.specs.Rows.{Row, rowsOf, some, every, same, numberedAs, beforeRepeat}
 use Rattle.rows.proofs.Laws.{every-append, length-rowsOf, rowsOf-end, from-row, row-within}
 use Rattle.rows.proofs.Kept.{same-true}
@@ -12,11 +12,6 @@ unfoldable pub marked : List Bool → Row → Bool
 marked seen row = getD seen (getD row 1 0) false
 
 -- ---- a mark that is set
-
-put : (l : List Bool) (k : ℕ) → k < length l → getD (set l k true) k false ≡ true
-put [] k h = absurd (not-suc-le-zero h)
-put (x ∷ l) zero h = refl
-put (x ∷ l) (suc k) h = put l k (le-of-suc-le-suc h)
 
 stays : (l : List Bool) (k j : ℕ) → getD l j false ≡ true → getD (set l k true) j false ≡ true
 stays [] k j h = h
@@ -28,13 +23,9 @@ stays (x ∷ l) (suc k) (suc j) h = stays l k j h
 every-stays : (l : List Bool) (k : ℕ) (rows : List Row) → every (marked l) rows ≡ true → every (marked (set l k true)) rows ≡ true
 unfolding every marked
 every-stays l k [] h = refl
-every-stays l k (row ∷ rows) h = go (getD l (getD row 1 0) false) refl h (every-stays l k rows)
-  where
-    go : (t : Bool) → getD l (getD row 1 0) false ≡ t → (t && every (marked l) rows) ≡ true
-        → (every (marked l) rows ≡ true → every (marked (set l k true)) rows ≡ true)
-        → (getD (set l k true) (getD row 1 0) false && every (marked (set l k true)) rows) ≡ true
-    go true e h ih = rw (stays l k (getD row 1 0) e) (ih h)
-    go false e h ih = absurd (false≢true h)
+every-stays l k (row ∷ rows) h =
+    let m = and-left (marked l row) (every (marked l) rows) h in
+    rw (stays l k (getD row 1 0) m) (every-stays l k rows (and-right (marked l row) (every (marked l) rows) h))
 
 -- ---- a row whose mark is not set
 
@@ -45,14 +36,10 @@ low-same row other h =
 unseen : (l : List Bool) (new : Row) → marked l new ≡ false → (rows : List Row) → every (marked l) rows ≡ true → some (numberedAs new) rows ≡ false
 unfolding every some marked numberedAs
 unseen l new n [] h = refl
-unseen l new n (row ∷ rows) h = go (same (take 2 row) (take 2 new)) refl (getD l (getD row 1 0) false) refl h (unseen l new n rows)
-  where
-    go : (s : Bool) → same (take 2 row) (take 2 new) ≡ s → (t : Bool) → getD l (getD row 1 0) false ≡ t → (t && every (marked l) rows) ≡ true
-        → (every (marked l) rows ≡ true → some (numberedAs new) rows ≡ false) → (s || some (numberedAs new) rows) ≡ false
-    go true e true f h ih = absurd (true≢false (sym f ∙ ap (λ (k : ℕ). getD l k false) (low-same row new e) ∙ n))
-    go true e false f h ih = absurd (false≢true h)
-    go false e true f h ih = ih h
-    go false e false f h ih = absurd (false≢true h)
+unseen l new n (row ∷ rows) h =
+    bool-cases (numberedAs new row)
+    (λ e. contradiction (and-left (marked l row) (every (marked l) rows) h) (rw (low-same row new e) n))
+    (λ e. rw (e, unseen l new n rows (and-right (marked l row) (every (marked l) rows) h)))
 
 -- ---- the loop over the rows: of the first i none repeats an earlier number, and their low bytes are marked
 
@@ -111,5 +98,5 @@ module _ (s count : ℕ) (b : List ℕ) where
           seen =
               rw (add-one i, rowsOf-end s i b)
               (every-append (marked (set l k true)) (rowsOf s i b) (row ∷ [])
-              ∙ rw (every-stays l k (rowsOf s i b) (inv .seen), low, put l k (omega arith)));
+              ∙ rw (every-stays l k (rowsOf s i b) (inv .seen), low, getD-set-same l k true false (omega arith)));
         }

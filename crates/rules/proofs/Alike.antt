@@ -1,43 +1,42 @@
 -- Two sound tables that differ in the asserted roles of the chosen partners alone give a
 -- record of the others the same answer, permission, reply, places and links.
 -- Afterwards they still differ in these roles alone.
-use Rattle.rows.proofs.Prelude.{_≡_, refl, sym, ap, ap₂, _∙_, Bool, true, false, not, _&&_, _||_, cond, List, [], _∷_, _++_, map, ℕ, _+_, _/_, _^_, _≤_, _<_}
-use Rattle.rows.proofs.Prelude.{arith, length, take, length-append, length-map, length-replicate, length-take, eqb, leb, ones}
-use Rattle.rows.specs.Rows.{Row, packed, same, hasKey, numberedAs, firstRow, rowsBefore, some, without, stored}
-use Rattle.rows.proofs.Laws.{length-rowsOf, kept}
-use Rattle.rows.proofs.Kept.{AllLong, every-long}
+use Rattle.rows.proofs.Prelude.{_≡_, refl, sym, ap, ap₂, _∙_, Bool, true, false, not, _&&_, cond, List, [], _∷_, _++_, map, ℕ, _≤_, _<_, arith, length, take}
+use Rattle.rows.proofs.Prelude.{length-append, length-map, length-replicate, length-take, eqb, leb, ones, cond-cases, bool-cases, contradiction}
+use Rattle.rows.specs.Rows.{Row, packed, hasKey, numberedAs, firstRow, rowsBefore, some, without, stored}
+use Rattle.rows.proofs.Laws.{kept}
+use Rattle.rows.proofs.Kept.{AllLong}
 use Rattle.rules.specs.declared.Tables.{Tables}
 use Rattle.rules.specs.declared.Table.the-variants.{Creds, Aces}
-use Rattle.rules.specs.declared.Check.{Check}
-use Rattle.rules.specs.declared.Check.the-variants.{Pass, Refuse}
 use Rattle.rules.specs.declared.Action.{Action}
 use Rattle.rules.specs.declared.Action.the-variants.{Serve, Read, SetRowOwner, SetOwner, SetState, Store, Remove, Assert, Malformed}
 use Rattle.rules.specs.Record.{Request, received, Sender, unauthenticated, partner, sender, connection, credential, resource, body}
 use Rattle.rules.specs.Bits.{word}
 use Rattle.rules.specs.Directory.{links, someSecurity}
-use Rattle.rules.specs.Bodies.{isNil, newOwner, rowNumber, credSubject}
-use Rattle.rules.specs.Roles.{bodyOf, withoutRoles, asserted}
-use Rattle.rules.specs.Tables.{storable, rowOf, rows, withRows, rowOwner, sound, withState, withOwner, withRowOwner}
-use Rattle.rules.specs.Permission.{numbered, credentialIn, ownRow, connectionOf, isRow, subjectIs}
-use Rattle.rules.specs.Permission.{names, isOwner, byOwner, byNoOwner, effectiveOf, permission}
-use Rattle.rules.specs.States.{stateAllows, moveAllowed}
+use Rattle.rules.specs.Bodies.{newOwner, rowNumber, credSubject}
+use Rattle.rules.specs.Roles.{bodyOf, withoutRoles}
+use Rattle.rules.specs.Tables.{rowOf, rows, withRows, rowOwner, sound, withState, withOwner, withRowOwner}
+use Rattle.rules.specs.Permission.{numbered, credentialIn, ownRow, connectionOf, isRow, subjectIs, names, isOwner, byOwner, byNoOwner, effectiveOf}
+use Rattle.rules.specs.Permission.{permission}
+use Rattle.rules.specs.States.{moveAllowed}
 use Rattle.rules.specs.Places.{gapOf, placesOf}
 use Rattle.rules.specs.Reading.{ownBody, rowBytes, contents, reads, replyOf, tooShort}
 use Rattle.rules.specs.Action.{action}
-use Rattle.rules.specs.Checks.{noRow, noCredential, badTarget, missing, full, checks, verdict}
+use Rattle.rules.specs.Checks.{noRow, noCredential, missing, full, checks, verdict}
 use Rattle.rules.specs.Links.{ownRecord, permits, setOf, asksLinks, linkSet, linksOf}
-use Rattle.rules.specs.Defaults.{Defaults, fresh}
-use Rattle.rules.specs.Outcome.{Outcome, entered, effect, outcomeOf, outcomeAt, outcome, toldTo, tablesAfter}
+use Rattle.rules.specs.Defaults.{Defaults}
+use Rattle.rules.specs.Outcome.{entered, effect, outcomeAt, outcome, toldTo, tablesAfter}
 use Rattle.rules.specs.Isolation.{namesOwner, mayFit, mayAlter, Harmless, hidden, hiddenIn, compared}
-use Rattle.rules.proofs.Bools.{cond-cases, bool-cases, contradiction}
 use Rattle.rules.proofs.BitLaws.{bits-small}
-use Rattle.rules.proofs.Answers.{long-enough, table-parts, rows-are}
-use Rattle.rules.proofs.BodyLaws.{Valid, action-valid, sized}
+use Rattle.rules.proofs.CheckLaws.{check-cases}
+use Rattle.rules.proofs.Answers.{long-enough, rows-are, rows-count}
+use Rattle.rules.proofs.BodyLaws.{Valid, action-valid}
 use Rattle.rules.proofs.TableLaws.{table-is, few-rows, rows-long, rows-with}
 use Rattle.rules.proofs.SoundKept.{SoundRows, Passed, passed-all, stored-sound, removed-sound, asserted-sound}
 use Rattle.rules.proofs.LinkLaws.{own-sender}
-use Rattle.rules.proofs.RowMaps.{without-roles-body, part-same, key-same, numbered-same, as-same}
-use Rattle.rules.proofs.RowMaps.{some-map, before-map, without-map, first-map, stored-map, bodies-map}
+use Rattle.rules.proofs.RowMaps.{without-roles-body, part-same, key-same, numbered-same, as-same, some-map, before-map, without-map, first-map}
+use Rattle.rules.proofs.RowMaps.{stored-map, bodies-map}
+use Rattle.rules.proofs.ReadBack.{long-rows}
 use Rattle.rules.proofs.OwnRow.{first-passes, numbered-two, number-is}
 
 -- ---- a sender's number has 16 bits
@@ -55,11 +54,7 @@ sender-small r =
 first-none : (p : Row → Bool) (ws : List Row) → some p ws ≡ false → firstRow p ws ≡ []
 unfolding some firstRow
 first-none p [] h = refl
-first-none p (w ∷ ws) h = go (p w) h (first-none p ws)
-  where
-    go : (b : Bool) → (b || some p ws) ≡ false → (some p ws ≡ false → firstRow p ws ≡ []) → cond b w (firstRow p ws) ≡ []
-    go true h ih = contradiction refl h
-    go false h ih = ih h
+first-none p (w ∷ ws) h = bool-cases (p w) (λ e. contradiction refl (rw e at h)) (λ e. rw e (first-none p ws (rw e at h)))
 
 -- ---- a set of resources
 
@@ -70,22 +65,9 @@ AllBelow (n ∷ ns) = (n < 64) × AllBelow ns
 set-alike : (p o : ℕ → Bool) → ((n : ℕ) → n < 64 → p n ≡ o n) → (ns : List ℕ) → AllBelow ns → setOf p ns ≡ setOf o ns
 unfolding setOf
 set-alike p o h [] a = refl
-set-alike p o h (n ∷ ns) a = ap₂ (λ (b : Bool) (m : ℕ). cond b (2 ^ 63 / 2 ^ n) 0 + m) (h n (a .0)) (set-alike p o h ns (a .1))
-
-links-below : AllBelow links
-links-below = (omega arith, (omega arith, (omega arith, (omega arith, (omega arith, (omega arith, (omega arith, tt)))))))
-
--- ---- a credential row with this subject, if it is one, names an owner
-
-abbrev ownsAs : Tables → Bool → List ℕ → Bool
-ownsAs t isOne subject =
-    someSecurity (λ n. isOne && ((not (isNil (t .devowner)) && same (t .devowner) subject) || (not (isNil (rowOwner t n)) && same (rowOwner t n) subject)))
+set-alike p o h (n ∷ ns) a = rw (h n (a .0), set-alike p o h ns (a .1))
 
 -- ---- a row whose asserted roles are hidden
-
-without-roles-length : (w : Row) → length (withoutRoles w) ≡ length w
-unfolding withoutRoles
-without-roles-length w = rw (length-append, length-take, length-replicate) (omega arith)
 
 module _ (chosen : Sender → Bool) where
   pub hidden-body : (w : Row) → bodyOf (hidden chosen w) ≡ bodyOf w
@@ -97,30 +79,25 @@ module _ (chosen : Sender → Bool) where
   hidden-none = cond-cases (λ (v : Row). v ≡ []) (chosen (partner (rowNumber []))) (λ _. refl) (λ _. refl)
 
   hidden-length : (w : Row) → length (hidden chosen w) ≡ length w
-  unfolding hidden
-  hidden-length w = cond-cases (λ (v : Row). length v ≡ length w) (chosen (partner (rowNumber w))) (λ _. without-roles-length w) (λ _. refl)
+  unfolding hidden withoutRoles
+  hidden-length w =
+      cond-cases (λ (v : Row). length v ≡ length w) (chosen (partner (rowNumber w)))
+      (λ _. rw (length-append, length-take, length-replicate) (omega arith)) (λ _. refl)
 
   all-hidden-long : (ws : List Row) → AllLong 39 ws → AllLong 39 (map (hidden chosen) ws)
   all-hidden-long [] a = tt
   all-hidden-long (w ∷ ws) a = (hidden-length w ∙ a .0, all-hidden-long ws (a .1))
 
-  hidden-subject : (w : Row) → credSubject (hidden chosen w) ≡ credSubject w
-  hidden-subject w = part-same (hidden chosen) hidden-body 2 16 (omega arith) w
-
-  pub hidden-chosen : (w : Row) (n : ℕ) → n < 65536 → take 2 w ≡ word n → chosen (partner n) ≡ true → hidden chosen w ≡ withoutRoles w
+  pub hidden-at : (w : Row) (n : ℕ) {b : Bool} → n < 65536 → take 2 w ≡ word n → chosen (partner n) ≡ b → hidden chosen w ≡ cond b (withoutRoles w) w
   unfolding hidden
-  hidden-chosen w n l e c = rw (ap (λ (k : ℕ). chosen (partner k)) (number-is w n l e) ∙ c)
+  hidden-at w n l e c = rw (ap (λ (k : ℕ). chosen (partner k)) (number-is w n l e) ∙ c)
 
   -- of the others nothing is hidden
-  pub hidden-other : (w : Row) (n : ℕ) → n < 65536 → take 2 w ≡ word n → chosen (partner n) ≡ false → hidden chosen w ≡ w
-  unfolding hidden
-  hidden-other w n l e c = rw (ap (λ (k : ℕ). chosen (partner k)) (number-is w n l e) ∙ c)
-
   credential-other : (x : Sender) → Small x → chosen x ≡ false → (ws : List Row) → hidden chosen (credentialIn ws x) ≡ credentialIn ws x
   credential-other unauthenticated l c ws = hidden-none
   credential-other (partner n) l c ws =
       bool-cases (some (numbered n) ws)
-      (λ e. hidden-other _ n l (numbered-two n _ (first-passes (numbered n) ws e)) c)
+      (λ e. hidden-at _ n l (numbered-two n _ (first-passes (numbered n) ws e)) c)
       (λ e. rw (first-none (numbered n) ws e) hidden-none)
 
   -- a sender's row among rows with hidden ones
@@ -128,162 +105,102 @@ module _ (chosen : Sender → Bool) where
   credential-maps unauthenticated ws = sym hidden-none
   credential-maps (partner n) ws = first-map (hidden chosen) hidden-body (numbered n) (numbered-same (hidden chosen) hidden-body n) hidden-none ws
 
-  credential-hidden : (x : Sender) → Small x → chosen x ≡ false → (ws : List Row) → credentialIn (map (hidden chosen) ws) x ≡ credentialIn ws x
-  credential-hidden x l c ws = credential-maps x ws ∙ credential-other x l c ws
-
   -- ---- the rows of tables with hidden ones
 
-  long-rows : (t : Tables) → sound t ≡ true → AllLong 39 (rows Creds t)
-  long-rows t h = every-long 39 (storable Creds) (sized Creds) (rows Creds t) (table-parts Creds t h .stores)
-
   rows-hidden : (t : Tables) → sound t ≡ true → rows Creds (hiddenIn chosen t) ≡ map (hidden chosen) (rows Creds t)
-  rows-hidden t h = rows-long Creds t (map (hidden chosen) (rows Creds t)) (rw length-map (few-rows Creds t h)) (all-hidden-long (rows Creds t) (long-rows t h))
+  rows-hidden t h =
+      rows-long Creds t _ (rw length-map (few-rows Creds t h)) (all-hidden-long (rows Creds t) (long-rows Creds t h))
 
   -- of tables with these rows
   pub hidden-with : (t : Tables) (ws : List Row) → SoundRows Creds ws → hiddenIn chosen (withRows Creds t ws) ≡ withRows Creds t (map (hidden chosen) ws)
   hidden-with t ws x = ap (λ (vs : List Row). withRows Creds t (map (hidden chosen) vs)) (rows-with Creds t ws (x .few) (x .stores))
 
-  pub compared-sound : (t : Tables) → sound t ≡ true → compared chosen t ≡ hiddenIn chosen t
+  pub compared-at : (t : Tables) {b : Bool} → sound t ≡ b → compared chosen t ≡ cond b (hiddenIn chosen t) t
   unfolding compared
-  compared-sound t h = rw h
-
-  pub compared-unsound : (t : Tables) → sound t ≡ false → compared chosen t ≡ t
-  unfolding compared
-  compared-unsound t h = rw h
+  compared-at t h = rw h
 
   -- ---- two tables
   module _ (s t : Tables) (e : hiddenIn chosen s ≡ hiddenIn chosen t) (hs : sound s ≡ true) (ht : sound t ≡ true) where
-    creds-alike : map (hidden chosen) (rows Creds s) ≡ map (hidden chosen) (rows Creds t)
-    creds-alike = sym (rows-hidden s hs) ∙ ap (rows Creds) e ∙ rows-hidden t ht
-
-    own-alike : (x : Sender) → Small x → chosen x ≡ false → ownRow s x ≡ ownRow t x
-    own-alike x l c =
-        sym (credential-hidden x l c (rows Creds s)) ∙ ap (λ (ws : List Row). credentialIn ws x) creds-alike ∙ credential-hidden x l c (rows Creds t)
-
-    bodies-alike : map bodyOf (rows Creds s) ≡ map bodyOf (rows Creds t)
-    bodies-alike =
-        sym (bodies-map (hidden chosen) hidden-body (rows Creds s)) ∙ ap (map bodyOf) creds-alike ∙ bodies-map (hidden chosen) hidden-body (rows Creds t)
+    -- what the hidden part does not change is the same in both
+    told-alike : {A : Type 0} (f g : List Row → A) → ((ws : List Row) → f (map (hidden chosen) ws) ≡ g ws) → g (rows Creds s) ≡ g (rows Creds t)
+    told-alike f g sees =
+        sym (sees (rows Creds s)) ∙ ap f (sym (rows-hidden s hs) ∙ ap (rows Creds) e ∙ rows-hidden t ht) ∙ sees (rows Creds t)
 
     length-alike : length (rows Creds s) ≡ length (rows Creds t)
-    length-alike = sym (length-map (rows Creds s) (hidden chosen)) ∙ ap length creds-alike ∙ length-map (rows Creds t) (hidden chosen)
-
-    count-alike : s .ncreds ≡ t .ncreds
-    count-alike = sym (counted s hs) ∙ length-alike ∙ counted t ht
-      where
-        counted : (u : Tables) → sound u ≡ true → length (rows Creds u) ≡ u .ncreds
-        counted u h = ap length (rows-are Creds u h) ∙ length-rowsOf 39 (u .ncreds) (u .creds)
+    length-alike = told-alike length _ (λ ws. length-map ws (hidden chosen))
 
     -- a test that sees the body alone
     module _ (p : Row → Bool) (sees : (w : Row) → p (hidden chosen w) ≡ p w) where
       some-alike : some p (rows Creds s) ≡ some p (rows Creds t)
-      some-alike =
-          sym (some-map (hidden chosen) hidden-body p sees (rows Creds s))
-          ∙ ap (some p) creds-alike
-          ∙ some-map (hidden chosen) hidden-body p sees (rows Creds t)
+      some-alike = told-alike (some p) _ (some-map (hidden chosen) hidden-body p sees)
 
       gap-alike : gapOf p (rows Creds s) ≡ gapOf p (rows Creds t)
       unfolding gapOf
-      gap-alike =
-          let before : rowsBefore p (rows Creds s) ≡ rowsBefore p (rows Creds t) =
-          sym (before-map (hidden chosen) hidden-body p sees (rows Creds s))
-          ∙ ap (rowsBefore p) creds-alike
-          ∙ before-map (hidden chosen) hidden-body p sees (rows Creds t) in
-          rw (some-alike, before, length-alike)
+      gap-alike = rw (some-alike, told-alike (rowsBefore p) _ (before-map (hidden chosen) hidden-body p sees), length-alike)
 
-    -- ---- what an action asks of the tables
+    -- ---- what an action asks of the rows
     record ActionAlike (b : List ℕ) (a : Action) : Type 0 where
-      allows : stateAllows (s .state) a ≡ stateAllows (t .state) a
-      target : badTarget s a ≡ badTarget t a
       missed : missing s b a ≡ missing t b a
       filled : full s b a ≡ full t b a
       gap : placesOf s b a ≡ placesOf t b a
 
-    key-sees : (at : ℕ) (b : List ℕ) → at + length b ≤ 23 → (w : Row) → hasKey at b (hidden chosen w) ≡ hasKey at b w
-    key-sees at b l w = key-same (hidden chosen) hidden-body at b l w
-
-    allows-alike : (a : Action) → stateAllows (s .state) a ≡ stateAllows (t .state) a
-    allows-alike a = ap (λ (u : Tables). stateAllows (u .state) a) e
-
     action-alike : (c : ℕ) (b : List ℕ) (a : Action) → Valid c b a → ActionAlike b a
-    unfolding moveAllowed
-    action-alike c b Serve v = record { allows = allows-alike Serve; target = refl; missed = refl; filled = refl; gap = refl }
-    action-alike c b Read v = record { allows = refl; target = refl; missed = refl; filled = refl; gap = refl }
-    action-alike c b (SetRowOwner n) v = record { allows = allows-alike (SetRowOwner n); target = refl; missed = refl; filled = refl; gap = refl }
-    action-alike c b (SetOwner o) v = record { allows = allows-alike (SetOwner o); target = refl; missed = refl; filled = refl; gap = refl }
-    action-alike c b (SetState n) v =
-        record { allows = allows-alike (SetState n); target = ap (λ (u : Tables). badTarget u (SetState n)) e; missed = refl; filled = refl; gap = refl }
+    action-alike c b Serve v = record { missed = refl; filled = refl; gap = refl }
+    action-alike c b Read v = record { missed = refl; filled = refl; gap = refl }
+    action-alike c b (SetRowOwner n) v = record { missed = refl; filled = refl; gap = refl }
+    action-alike c b (SetOwner o) v = record { missed = refl; filled = refl; gap = refl }
+    action-alike c b (SetState n) v = record { missed = refl; filled = refl; gap = refl }
     action-alike c b (Store Creds) v =
-        record {
-          allows = allows-alike (Store Creds);
-          target = refl;
-          missed = refl;
-          filled = ap₂ (λ (n : ℕ) (h : Bool). leb 24 n && not h) count-alike
-              (some-alike (numberedAs (rowOf Creds b)) (as-same (hidden chosen) hidden-body (rowOf Creds b)));
-          gap = refl;
-        }
-    action-alike c b (Store Aces) v =
-        record { allows = allows-alike (Store Aces); target = refl; missed = refl; filled = ap (λ (u : Tables). full u b (Store Aces)) e; gap = refl }
+        let held = some-alike (numberedAs (rowOf Creds b)) (as-same (hidden chosen) hidden-body (rowOf Creds b)) in
+        let counted = sym (rows-count Creds s hs) ∙ length-alike ∙ rows-count Creds t ht in
+        record { missed = refl; filled = rw (held, counted); gap = refl }
+    action-alike c b (Store Aces) v = record { missed = refl; filled = ap (λ (u : Tables). full u b (Store Aces)) e; gap = refl }
     action-alike c b (Remove Creds at) v =
-        record {
-          allows = allows-alike (Remove Creds at);
-          target = refl;
-          missed = ap (λ (h : Bool). not (eqb (length b) 0) && not h) (some-alike (hasKey at b) (key-sees at b v));
-          filled = refl;
-          gap = gap-alike (hasKey at b) (key-sees at b v);
-        }
-    action-alike c b (Remove Aces at) v =
-        record {
-          allows = allows-alike (Remove Aces at);
-          target = refl;
-          missed = ap (λ (u : Tables). missing u b (Remove Aces at)) e;
-          filled = refl;
-          gap = ap (λ (u : Tables). placesOf u b (Remove Aces at)) e;
-        }
-    action-alike c b (Assert k) v = record { allows = allows-alike (Assert k); target = refl; missed = refl; filled = refl; gap = refl }
-    action-alike c b Malformed v = record { allows = refl; target = refl; missed = refl; filled = refl; gap = refl }
+        let sees = key-same (hidden chosen) hidden-body at b v in
+        record { missed = rw (some-alike (hasKey at b) sees); filled = refl; gap = gap-alike (hasKey at b) sees }
+    action-alike c b (Remove Aces at) v = record {
+      missed = ap (λ (u : Tables). missing u b (Remove Aces at)) e;
+      filled = refl;
+      gap = ap (λ (u : Tables). placesOf u b (Remove Aces at)) e;
+    }
+    action-alike c b (Assert k) v = record { missed = refl; filled = refl; gap = refl }
+    action-alike c b Malformed v = record { missed = refl; filled = refl; gap = refl }
+
+    row-known : (x : Sender) → noRow s x ≡ noRow t x
+    row-known unauthenticated = refl
+    row-known (partner n) = ap not (some-alike (numbered n) (numbered-same (hidden chosen) hidden-body n))
 
     -- ---- a record of the others
     module _ (r : List ℕ) (c : chosen (sender r) ≡ false) where
       own : ownRow s (sender r) ≡ ownRow t (sender r)
-      own = own-alike (sender r) (sender-small r) c
-
-      known : noCredential s r ≡ noCredential t r
-      unfolding noCredential
-      known = go (sender r)
-        where
-          go : (x : Sender) → noRow s x ≡ noRow t x
-          go unauthenticated = refl
-          go (partner n) = ap not (some-alike (numbered n) (numbered-same (hidden chosen) hidden-body n))
+      own =
+          told-alike (λ ws. credentialIn ws (sender r)) _
+          (λ ws. credential-maps (sender r) ws ∙ credential-other (sender r) (sender-small r) c ws)
 
       pub permission-alike : (clock : ℕ) → permission clock s r ≡ permission clock t r
       unfolding permission effectiveOf byOwner isOwner byNoOwner rowOwner
       permission-alike clock =
-          ap (λ (w : Row). effectiveOf clock s w (connectionOf (sender r)) (resource r)) own
-          ∙ ap (λ (u : Tables). effectiveOf clock u (ownRow t (sender r)) (connectionOf (sender r)) (resource r)) e
-
-      aces-alike : rows Aces s ≡ rows Aces t
-      aces-alike = ap (rows Aces) e
-
-      pub contents-alike : (clock n : ℕ) → contents clock s (sender r) n ≡ contents clock t (sender r) n
-      unfolding contents ownBody rowBytes rowOwner
-      contents-alike clock n =
-          ap (λ (u : Tables). ownBody u n ++ rowOwner u n ++ rowBytes clock s (sender r) n) e
-          ∙ ap (λ (l : List ℕ). ownBody t n ++ rowOwner t n ++ l) (rw (bodies-alike, aces-alike, own))
+          rw own (ap (λ (u : Tables). effectiveOf clock u (ownRow t (sender r)) (connectionOf (sender r)) (resource r)) e)
 
     -- ---- a request of the others
     module _ (q : Request) (c : chosen (sender (q .bytes)) ≡ false) where
+      asked : ActionAlike (body (q .bytes)) (action (q .bytes))
+      asked = action-alike (connection (q .bytes)) _ _ (action-valid (q .bytes))
+
       pub reply-alike : replyOf (q .clock) s (q .bytes) ≡ replyOf (q .clock) t (q .bytes)
-      unfolding replyOf
-      reply-alike = ap (λ (l : List ℕ). cond (reads (q .bytes)) l []) (contents-alike (q .bytes) c (q .clock) (resource (q .bytes)))
+      unfolding replyOf contents ownBody rowBytes rowOwner
+      reply-alike =
+          let r = q .bytes in
+          let bodies = told-alike (map bodyOf) (map bodyOf) (bodies-map (hidden chosen) hidden-body) in
+          ap (λ (u : Tables). cond (reads r) (ownBody u (resource r) ++ rowOwner u (resource r) ++ rowBytes (q .clock) s (sender r) (resource r)) []) e
+          ∙ rw (bodies, ap (rows Aces) e, own r c)
 
       pub checks-alike : (p : ℕ) → checks s p q ≡ checks t p q
-      unfolding tooShort
+      unfolding tooShort noCredential moveAllowed
       checks-alike p =
-          let a = action-alike (connection (q .bytes)) (body (q .bytes)) (action (q .bytes)) (action-valid (q .bytes)) in
-          rw (hs, ht, known (q .bytes) c, a .allows, a .target, a .missed, a .filled, own (q .bytes) c, reply-alike)
-
-      pub places-alike : placesOf s (body (q .bytes)) (action (q .bytes)) ≡ placesOf t (body (q .bytes)) (action (q .bytes))
-      places-alike = action-alike (connection (q .bytes)) (body (q .bytes)) (action (q .bytes)) (action-valid (q .bytes)) .gap
+          let state = ap (λ (u : Tables). u .state) e in
+          let owned = ap (λ (u : Tables). u .owned) e in
+          rw (hs, ht, row-known (sender (q .bytes)), asked .missed, asked .filled, own (q .bytes) c, reply-alike, state, owned)
 
     -- ---- the links
     permits-alike : (clock : ℕ) (r : List ℕ) → chosen (sender r) ≡ false → permits clock s r ≡ permits clock t r
@@ -295,30 +212,21 @@ module _ (chosen : Sender → Bool) where
     links-alike clock r l c =
         ap (λ (m : ℕ). let n = cond (asksLinks r) m 0 in record { set = n; size = ones n })
         (set-alike (λ n. permits clock s (ownRecord r n)) (λ n. permits clock t (ownRecord r n))
-        (λ n h. permits-alike clock (ownRecord r n) (ap chosen (own-sender r n h l) ∙ c)) links links-below)
+        (λ n h. permits-alike clock (ownRecord r n) (ap chosen (own-sender r n h l) ∙ c)) links (omega arith))
 
     -- ---- the tables afterwards
-    stored-alike : (v w : Row) → v ≡ w → SoundRows Creds (stored v (rows Creds s)) → SoundRows Creds (stored w (rows Creds t))
-        → hiddenIn chosen (withRows Creds s (stored v (rows Creds s))) ≡ hiddenIn chosen (withRows Creds t (stored w (rows Creds t)))
-    stored-alike v w i x y =
-        hidden-with s (stored v (rows Creds s)) x
-        ∙ ap (λ (u : Tables). withRows Creds u (map (hidden chosen) (stored v (rows Creds s)))) e
-        ∙ ap (withRows Creds t)
-        (stored-map (hidden chosen) hidden-body v (rows Creds s)
-        ∙ ap₂ (λ (z : Row) (ws : List Row). stored (hidden chosen z) ws) i creds-alike
-        ∙ sym (stored-map (hidden chosen) hidden-body w (rows Creds t)))
-        ∙ sym (hidden-with t (stored w (rows Creds t)) y)
+    rows-alike : (f g : List Row → List Row) → ((ws : List Row) → map (hidden chosen) (g ws) ≡ f (map (hidden chosen) ws))
+        → SoundRows Creds (g (rows Creds s)) → SoundRows Creds (g (rows Creds t))
+        → hiddenIn chosen (withRows Creds s (g (rows Creds s))) ≡ hiddenIn chosen (withRows Creds t (g (rows Creds t)))
+    rows-alike f g maps x y =
+        hidden-with s (g (rows Creds s)) x
+        ∙ ap (λ (u : Tables). withRows Creds u (map (hidden chosen) (g (rows Creds s)))) e
+        ∙ ap (withRows Creds t) (told-alike f (λ ws. map (hidden chosen) (g ws)) (λ ws. sym (maps ws)))
+        ∙ sym (hidden-with t (g (rows Creds t)) y)
 
-    removed-alike : (p : Row → Bool) → ((w : Row) → p (hidden chosen w) ≡ p w)
-        → hiddenIn chosen (withRows Creds s (without p (rows Creds s))) ≡ hiddenIn chosen (withRows Creds t (without p (rows Creds t)))
-    removed-alike p sees =
-        hidden-with s (without p (rows Creds s)) (removed-sound Creds s p hs)
-        ∙ ap (λ (u : Tables). withRows Creds u (map (hidden chosen) (without p (rows Creds s)))) e
-        ∙ ap (withRows Creds t)
-        (without-map (hidden chosen) hidden-body p sees (rows Creds s)
-        ∙ ap (without p) creds-alike
-        ∙ sym (without-map (hidden chosen) hidden-body p sees (rows Creds t)))
-        ∙ sym (hidden-with t (without p (rows Creds t)) (removed-sound Creds t p ht))
+    stored-alike : (w : Row) → SoundRows Creds (stored w (rows Creds s)) → SoundRows Creds (stored w (rows Creds t))
+        → hiddenIn chosen (withRows Creds s (stored w (rows Creds s))) ≡ hiddenIn chosen (withRows Creds t (stored w (rows Creds t)))
+    stored-alike w x y = rows-alike (stored (hidden chosen w)) (stored w) (stored-map (hidden chosen) hidden-body w) x y
 
     effect-alike : (d : Defaults) (q : Request) (a : Action) → chosen (sender (q .bytes)) ≡ false → Passed s q a → Passed t q a
         → hiddenIn chosen (effect d (q .clock) s (q .bytes) a) ≡ hiddenIn chosen (effect d (q .clock) t (q .bytes) a)
@@ -327,75 +235,55 @@ module _ (chosen : Sender → Bool) where
     effect-alike d q Read c x y = e
     effect-alike d q (SetRowOwner n) c x y = ap (λ (u : Tables). withRowOwner u n (body (q .bytes))) e
     effect-alike d q (SetOwner o) c x y = ap (λ (u : Tables). withOwner u o (newOwner (body (q .bytes)))) e
-    effect-alike d q (SetState n) c x y = go (eqb n 0)
-      where
-        go : (b : Bool) → hiddenIn chosen (cond b (fresh d) (withState s n)) ≡ hiddenIn chosen (cond b (fresh d) (withState t n))
-        go true = refl
-        go false = ap (λ (u : Tables). withState u n) e
-    effect-alike d q (Store Creds) c x y =
-        stored-alike (rowOf Creds (body (q .bytes))) (rowOf Creds (body (q .bytes))) refl (stored-sound Creds s q hs x) (stored-sound Creds t q ht y)
+    effect-alike d q (SetState n) c x y = bool-cases (eqb n 0) (λ z. rw z) (λ z. rw z (ap (λ (u : Tables). withState u n) e))
+    effect-alike d q (Store Creds) c x y = stored-alike (rowOf Creds (body (q .bytes))) (stored-sound Creds s q hs x) (stored-sound Creds t q ht y)
     effect-alike d q (Store Aces) c x y = ap (λ (u : Tables). withRows Aces u (stored (rowOf Aces (body (q .bytes))) (rows Aces u))) e
-    effect-alike d q (Remove Creds at) c x y = removed-alike (hasKey at (body (q .bytes))) (key-sees at (body (q .bytes)) (x .valid))
+    effect-alike d q (Remove Creds at) c x y =
+        let p = hasKey at (body (q .bytes)) in
+        let maps = without-map (hidden chosen) hidden-body p (key-same (hidden chosen) hidden-body at (body (q .bytes)) (x .valid)) in
+        rows-alike (without p) (without p) maps (removed-sound Creds s p hs) (removed-sound Creds t p ht)
     effect-alike d q (Remove Aces at) c x y = ap (λ (u : Tables). withRows Aces u (without (hasKey at (body (q .bytes))) (rows Aces u))) e
     effect-alike d q (Assert k) c x y =
-        stored-alike _ _ (ap (asserted (q .clock) (body (q .bytes))) (own (q .bytes) c)) (asserted-sound k s q hs x) (asserted-sound k t q ht y)
+        let w = own (q .bytes) c in
+        rw w (stored-alike _ (rw w at (asserted-sound k s q hs x)) (asserted-sound k t q ht y))
     effect-alike d q Malformed c x y = e
 
     -- ---- the outcome
     module _ (d : Defaults) (q : Request) (c : chosen (sender (q .bytes)) ≡ false) where
-      -- where one verdict is given
-      verdict-alike : (p : ℕ) (v : Check) → verdict (checks t p q) ≡ v
-          → (outcomeOf d s p q v .told ≡ outcomeOf d t p q v .told)
-          × (hiddenIn chosen (outcomeOf d s p q v .tables) ≡ hiddenIn chosen (outcomeOf d t p q v .tables))
-      verdict-alike p Pass v =
-          let x = passed-all s p q (ap verdict (checks-alike q c p) ∙ v) in
-          let y = passed-all t p q v in (
-            rw (reply-alike q c, places-alike q c, links-alike (q .clock) (q .bytes) (long-enough (q .bytes) (y .long)) c),
-            effect-alike d q (action (q .bytes)) c x y,
-          )
-      verdict-alike p (Refuse n) v = (refl, e)
-
-      outcome-is : outcome d s q ≡ outcomeOf d s (permission (q .clock) t (q .bytes)) q (verdict (checks t (permission (q .clock) t (q .bytes)) q))
-      unfolding outcome outcomeAt
-      outcome-is =
-          let p = permission (q .clock) t (q .bytes) in
-          ap (λ (n : ℕ). outcomeOf d s n q (verdict (checks s n q))) (permission-alike (q .bytes) c (q .clock))
-          ∙ ap (λ (es : List (ℕ × Bool)). outcomeOf d s p q (verdict es)) (checks-alike q c p)
-
       -- the same for the sender, and afterwards the same but for what is hidden
       pub outcome-alike : (toldTo d s q ≡ toldTo d t q) × (hiddenIn chosen (tablesAfter d s q) ≡ hiddenIn chosen (tablesAfter d t q))
       unfolding outcome outcomeAt
       outcome-alike =
           let p = permission (q .clock) t (q .bytes) in
-          let both = verdict-alike p (verdict (checks t p q)) refl in
-          (ap (λ (o : Outcome). o .told) outcome-is ∙ both .0, ap (λ (o : Outcome). hiddenIn chosen (o .tables)) outcome-is ∙ both .1)
+          rw (toldTo, tablesAfter, permission-alike (q .bytes) c (q .clock), checks-alike q c p)
+          (check-cases (verdict (checks t p q))
+          (λ v.
+          let y = passed-all t p q v in
+          rw (toldTo, tablesAfter, v) (
+            rw (reply-alike q c, asked q c .gap, links-alike (q .clock) (q .bytes) (long-enough (q .bytes) (y .long)) c),
+            effect-alike d q (action (q .bytes)) c (passed-all s p q (ap verdict (checks-alike q c p) ∙ v)) y,
+          ))
+          (λ n v. rw (toldTo, tablesAfter, v) (refl, e)))
 
     -- ---- the premise: a chosen partner's row has the same body in both
 
-    own-hidden : (x : Sender) → hidden chosen (ownRow s x) ≡ hidden chosen (ownRow t x)
-    own-hidden x = sym (credential-maps x (rows Creds s)) ∙ ap (λ (ws : List Row). credentialIn ws x) creds-alike ∙ credential-maps x (rows Creds t)
-
     row-alike : (x : Sender) → isRow (ownRow s x) ≡ isRow (ownRow t x)
-    row-alike x = ap (λ (n : ℕ). not (eqb n 0)) (sym (hidden-length (ownRow s x)) ∙ ap length (own-hidden x) ∙ hidden-length (ownRow t x))
+    row-alike x =
+        told-alike (λ ws. isRow (credentialIn ws x)) _
+        (λ ws. ap isRow (credential-maps x ws) ∙ ap (λ (n : ℕ). not (eqb n 0)) (hidden-length (credentialIn ws x)))
 
     subject-alike : (x : Sender) → credSubject (ownRow s x) ≡ credSubject (ownRow t x)
-    subject-alike x = sym (hidden-subject (ownRow s x)) ∙ ap credSubject (own-hidden x) ∙ hidden-subject (ownRow t x)
-
-    names-alike : (x : Sender) → namesOwner s x ≡ namesOwner t x
-    unfolding namesOwner isOwner names rowOwner
-    names-alike x =
-        ap₂ (ownsAs s) (row-alike x) (subject-alike x)
-        ∙ ap (λ (u : Tables). ownsAs u (isRow (ownRow t x)) (credSubject (ownRow t x))) e
-
-    alters-alike : (x : Sender) → mayAlter s x ≡ mayAlter t x
-    unfolding mayAlter mayFit subjectIs
-    alters-alike x = rw (row-alike x, subject-alike x, ap (rows Aces) e)
+    subject-alike x =
+        told-alike (λ ws. credSubject (credentialIn ws x)) _
+        (λ ws. ap credSubject (credential-maps x ws) ∙ part-same (hidden chosen) hidden-body 2 16 (omega arith) (credentialIn ws x))
 
     pub harmless-alike : Harmless chosen t → Harmless chosen s
+    unfolding namesOwner isOwner names rowOwner mayAlter mayFit subjectIs
     harmless-alike safe = record {
       hasOwner = λ x c. ap (λ (u : Tables). eqb (u .owned) 0) e ∙ safe .hasOwner x c;
-      notOwner = λ x c. names-alike x ∙ safe .notOwner x c;
-      notGranted = λ x c. alters-alike x ∙ safe .notGranted x c;
+      notOwner = λ x c.
+          rw (isOwner, names, row-alike x, subject-alike x) (ap (λ (u : Tables). someSecurity (isOwner u (ownRow t x))) e ∙ safe .notOwner x c);
+      notGranted = λ x c. rw (row-alike x, subject-alike x, ap (rows Aces) e) (safe .notGranted x c);
     }
 
 -- ---- nothing else is left out: where nobody is chosen, the compared tables are the tables
@@ -406,16 +294,12 @@ nobody x = false
 none-hidden : (ws : List Row) → map (hidden nobody) ws ≡ ws
 unfolding hidden nobody
 none-hidden [] = refl
-none-hidden (w ∷ ws) = ap (λ (l : List Row). w ∷ l) (none-hidden ws)
-
-rows-kept : (t : Tables) → sound t ≡ true → length (t .creds) ≡ 936 → withRows Creds t (rows Creds t) ≡ t
-rows-kept t h l =
-    let counted : length (rows Creds t) ≡ t .ncreds = ap length (rows-are Creds t h) ∙ length-rowsOf 39 (t .ncreds) (t .creds) in
-    let stands : packed 936 (rows Creds t) ≡ t .creds = ap₂ packed (sym l) (rows-are Creds t h) ∙ sym (kept 39 (t .ncreds) (t .creds) (table-is Creds t h l)) in
-    rw (counted, stands)
+none-hidden (w ∷ ws) = rw (none-hidden ws)
 
 pub compared-whole : (t : Tables) → length (t .creds) ≡ 936 → compared nobody t ≡ t
 compared-whole t l =
     bool-cases (sound t)
-    (λ h. compared-sound nobody t h ∙ ap (withRows Creds t) (none-hidden (rows Creds t)) ∙ rows-kept t h l)
-    (λ h. compared-unsound nobody t h)
+    (λ h.
+    let stands : packed 936 (rows Creds t) ≡ t .creds = ap₂ packed (sym l) (rows-are Creds t h) ∙ sym (kept 39 (t .ncreds) (t .creds) (table-is Creds t h l)) in
+    compared-at nobody t h ∙ rw (none-hidden (rows Creds t), rows-count Creds t h, stands))
+    (λ h. compared-at nobody t h)

@@ -1,7 +1,8 @@
 -- What a verdict says of each check, and what soundness says of each part.
 -- A permitted record passed every check: cited by number, so an added check moves nothing.
 use Rattle.rows.proofs.Prelude.{_≡_, refl, ap, Bool, true, false, cond, List, [], _∷_, ℕ, _*_, _≤_, min-eq-left, arith, length, drop, eqb, ltb, le-ltb}
-use Rattle.rows.proofs.Prelude.{leb-true, ltb-false}
+use Rattle.rows.proofs.Prelude.{leb-true, ltb-false, cond-cases, and-left, and-right, or-left}
+use Rattle.rows.proofs.Laws.{length-rowsOf}
 use Rattle.rows.specs.Rows.{rowsOf, every, allZero, distinctNumbers}
 use Rattle.rules.specs.declared.Tables.{Tables}
 use Rattle.rules.specs.declared.Table.{Table}
@@ -11,7 +12,6 @@ use Rattle.rules.specs.Record.{Request}
 use Rattle.rules.specs.Reading.{reads, replyOf, tooShort}
 use Rattle.rules.specs.Tables.{stride, capacity, storable, count, bytes, rows, rowsIn, rowsSound, headSound, sound}
 use Rattle.rules.specs.Checks.{verdict, badLength}
-use Rattle.rules.proofs.Bools.{and-left, and-right, or-left}
 use Rattle.rules.proofs.CheckLaws.{apart}
 
 -- the check with this number applies
@@ -24,11 +24,7 @@ pub passed : (es : List (ℕ × Bool)) → verdict es ≡ Pass → (n : ℕ) →
 unfolding verdict
 passed [] p n = refl
 passed ((m, true) ∷ es) p n = absurd (apart p refl)
-passed ((m, false) ∷ es) p n = go (eqb m n) (passed es p n)
-  where
-    go : (b : Bool) → appliesIn n es ≡ false → cond b false (appliesIn n es) ≡ false
-    go true h = refl
-    go false h = h
+passed ((m, false) ∷ es) p n = cond-cases (λ (b : Bool). b ≡ false) (eqb m n) (λ _. refl) (λ _. passed es p n)
 
 pub long-enough : (r : List ℕ) → badLength r ≡ false → 4 ≤ length r
 unfolding badLength
@@ -70,3 +66,6 @@ rows-counted k n b h = ap (λ (m : ℕ). rowsOf (stride k) m b) (min-eq-left h)
 
 pub rows-are : (k : Table) (t : Tables) → sound t ≡ true → rows k t ≡ rowsOf (stride k) (count k t) (bytes k t)
 rows-are k t h = rows-counted k (count k t) (bytes k t) (table-parts k t h .few)
+
+pub rows-count : (k : Table) (t : Tables) → sound t ≡ true → length (rows k t) ≡ count k t
+rows-count k t h = rw (rows-are k t h, length-rowsOf)

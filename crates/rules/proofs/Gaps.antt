@@ -1,9 +1,9 @@
 -- Theorems, U4: after a DELETE each reported place holds another row number than before, 0 when unused, and no other place does.
 -- No byte before the first place is another, nor one behind the last, so that the old bytes with the places overwritten are the new ones.
 -- Over the rows that go; of a record in Wear.antt. The bytes' lengths are those that the struct's types give.
-use Rattle.rows.proofs.Prelude.{_≡_, refl, sym, ap, ap₂, _∙_, Bool, true, false, not, cond, List, [], _∷_, _++_, ℕ, _+_, _-_, _*_, _≤_, _<_, le-trans}
-use Rattle.rows.proofs.Prelude.{mul-le-mul-right, suc-mul, arith, length, take, drop, getD, take-append-drop, drop-drop, getD-take, take-take, eqb, eq-eqb}
-use Rattle.rows.proofs.Prelude.{not-true}
+use Rattle.rows.proofs.Prelude.{_≡_, refl, sym, ap, _∙_, Bool, true, false, not, List, [], _∷_, ℕ, _+_, _-_, _*_, _≤_, _<_, mul-le-mul-right, suc-mul, arith}
+use Rattle.rows.proofs.Prelude.{length, take, drop, take-append-drop, drop-drop, take-take, eqb, eq-eqb, not-true, bool-cases, contradiction, and-left}
+use Rattle.rows.proofs.Prelude.{and-right}
 use native.Mathlib.Nat.{add-mul}
 use Rattle.rows.specs.Rows.{Row, packed, every, some, without, numberAt, rowsBefore}
 use Rattle.rows.proofs.Laws.{kept}
@@ -13,34 +13,28 @@ use Rattle.rules.specs.declared.Tables.{Tables}
 use Rattle.rules.specs.declared.Places.{Places}
 use Rattle.rules.specs.declared.Table.{Table}
 use Rattle.rules.specs.declared.Table.the-variants.{Creds, Aces}
+use Rattle.rules.specs.Bits.{word}
 use Rattle.rules.specs.Bodies.{rowNumber, credStorable, aceStorable}
 use Rattle.rules.specs.Roles.{bodyOf}
 use Rattle.rules.specs.Tables.{stride, capacity, storable, count, bytes, rows, withRows, sound}
-use Rattle.rules.specs.Places.{nowhere, gapOf, overwritten}
-use Rattle.rules.proofs.Bools.{contradiction, and-left, and-right}
-use Rattle.rules.proofs.BitLaws.{bits-word}
+use Rattle.rules.specs.Places.{gapOf, overwritten}
 use Rattle.rules.proofs.Answers.{table-parts, rows-are}
 use Rattle.rules.proofs.BodyLaws.{sized, two-long}
 use Rattle.rules.proofs.TableLaws.{table-is, few-rows}
 use Rattle.rules.proofs.RoleLaws.{held-parts}
+use Rattle.rules.proofs.OwnRow.{number-is}
 
 -- ---- a row that a body could store has a number
 
-pub number-zero : (w : Row) → take 2 w ≡ 0 ∷ 0 ∷ [] → rowNumber w ≡ 0
-number-zero w e =
-    let a : getD w 0 0 ≡ 0 = sym (getD-take 2 w 0 0 (omega arith)) ∙ ap (λ (l : List ℕ). getD l 0 0) e in
-    let b : getD w 1 0 ≡ 0 = sym (getD-take 2 w 1 0 (omega arith)) ∙ ap (λ (l : List ℕ). getD l 1 0) e in
-    bits-word w 0 (omega arith) (omega arith) ∙ omega arith
-
 pub has-number : (k : Table) (w : Row) → storable k w ≡ true → take 2 w ≡ 0 ∷ 0 ∷ [] → ⊥
-unfolding credStorable aceStorable
+unfolding credStorable aceStorable word
 has-number Creds w h e =
     let s = held-parts w h .body in
     let n : not (eqb (rowNumber (bodyOf w)) 0) ≡ true = search (and-left, and-right) in
-    contradiction (eq-eqb (rowNumber (bodyOf w)) 0 (number-zero (bodyOf w) (take-take 2 23 w (omega arith) ∙ e))) (not-true _ n)
+    contradiction (eq-eqb (rowNumber (bodyOf w)) 0 (number-is (bodyOf w) 0 (omega arith) (take-take 2 23 w (omega arith) ∙ e))) (not-true _ n)
 has-number Aces w h e =
     let n : not (eqb (rowNumber w) 0) ≡ true = search (and-left, and-right) in
-    contradiction (eq-eqb (rowNumber w) 0 (number-zero w e)) (not-true _ n)
+    contradiction (eq-eqb (rowNumber w) 0 (number-is w 0 (omega arith) e)) (not-true _ n)
 
 numbered : (k : Table) (ws : List Row) → every (storable k) ws ≡ true → gap.Numbered ws
 unfolding every
@@ -59,7 +53,7 @@ with-count Creds t ws = refl
 with-count Aces t ws = refl
 
 place-room : (k : Table) (i : ℕ) → i < capacity k → i * stride k + stride k ≤ capacity k * stride k
-place-room k i h = le-trans (omega (arith, suc-mul i (stride k))) (mul-le-mul-right (stride k) h)
+place-room k i h = omega (arith, suc-mul i (stride k), mul-le-mul-right (stride k) h)
 
 -- where no other byte changes, the old bytes with the places overwritten are the new ones
 overwritten-is : (s : ℕ) (p : Places) (old new : List ℕ)
@@ -68,10 +62,7 @@ overwritten-is : (s : ℕ) (p : Places) (old new : List ℕ)
     → overwritten s p old new ≡ new
 unfolding overwritten
 overwritten-is s p old new front rest =
-    ap₂ (λ (x y : List ℕ). x ++ (take (p .many * s) (drop (p .first * s) new) ++ y)) (sym front)
-    (sym rest ∙ ap (λ (n : ℕ). drop n new) (add-mul (p .first) (p .many) s) ∙ sym (drop-drop (p .many * s) (p .first * s) new))
-    ∙ ap (λ (x : List ℕ). take (p .first * s) new ++ x) (take-append-drop (p .many * s) (drop (p .first * s) new))
-    ∙ take-append-drop (p .first * s) new
+    rw (← front, ← rest, add-mul, ← drop-drop (p .many * s) (p .first * s) new, take-append-drop, take-append-drop)
 
 module _ (k : Table) (t : Tables) (goes : Row → Bool) (h : sound t ≡ true) (l : length (bytes k t) ≡ capacity k * stride k) where
   -- the tables without these rows
@@ -85,97 +76,84 @@ module _ (k : Table) (t : Tables) (goes : Row → Bool) (h : sound t ≡ true) (
   long′ = every-long (stride k) (storable k) (sized k) (without goes (rows k t)) (every-without (storable k) goes (rows k t) (table-parts k t h .stores))
 
   stands : bytes k t ≡ packed (capacity k * stride k) (rows k t)
-  stands =
-      kept (stride k) (count k t) (bytes k t) (table-is k t h l)
-      ∙ ap₂ (λ (n : ℕ) (ws : List Row). packed n ws) l (sym (rows-are k t h))
+  stands = rw (l, ← rows-are k t h) at (kept (stride k) (count k t) (bytes k t) (table-is k t h l))
 
-  abbrev found : Places
-  found = record { first = rowsBefore goes (rows k t); many = length (rows k t) - rowsBefore goes (rows k t) }
+  -- and after it
+  stand : bytes k after ≡ packed (capacity k * stride k) (without goes (rows k t))
+  stand = with-bytes k t (without goes (rows k t))
+
+  -- what is read of both
+  as-packed : (f : List ℕ → List ℕ) → f (packed (capacity k * stride k) (without goes (rows k t))) ≡ f (packed (capacity k * stride k) (rows k t))
+      → f (bytes k after) ≡ f (bytes k t)
+  as-packed f e = ap f stand ∙ e ∙ ap f (sym stands)
 
   -- each reported place holds another row number than before
   pub places-changed : (i : ℕ) → gapOf goes (rows k t) .first ≤ i → i < gapOf goes (rows k t) .first + gapOf goes (rows k t) .many
       → numberAt (stride k) i (bytes k after) ≡ numberAt (stride k) i (bytes k t) → ⊥
   unfolding gapOf
-  places-changed i f m e = go (some goes (rows k t)) refl f m
-    where
-      go : (b : Bool) → some goes (rows k t) ≡ b → cond b found nowhere .first ≤ i → i < cond b found nowhere .first + cond b found nowhere .many → ⊥
-      go true s f m =
-          let n : i < length (rows k t) = omega (arith, gap.before-all goes (rows k t)) in
-          gap.gap-changed goes (stride k) (capacity k * stride k) (rows k t) (two-long k) long
-          long′ i (table-parts k t h .apart) (numbered k (rows k t) (table-parts k t h .stores))
-          (place-room k i (omega (arith, few-rows k t h))) f n
-          (ap (numberAt (stride k) i) (sym (with-bytes k t (without goes (rows k t)))) ∙ e ∙ ap (numberAt (stride k) i) stands)
-      go false s f m = omega arith
+  places-changed i f m e =
+      bool-cases (some goes (rows k t))
+      (λ s.
+      let first = rw s at f in
+      let n : i < length (rows k t) = omega (arith, rw s at m, gap.before-all goes (rows k t)) in
+      gap.gap-changed goes (stride k) (capacity k * stride k) (rows k t) (two-long k) long
+      long′ i (table-parts k t h .apart) (numbered k (rows k t) (table-parts k t h .stores))
+      (place-room k i (omega (arith, few-rows k t h))) first n (ap (numberAt (stride k) i) (sym stand) ∙ e ∙ ap (numberAt (stride k) i) stands))
+      (λ s. omega (arith, rw s at m))
 
   -- where no row goes, the bytes are the same
   none-same : some goes (rows k t) ≡ false → bytes k after ≡ bytes k t
-  none-same e = with-bytes k t (without goes (rows k t)) ∙ ap (packed (capacity k * stride k)) (gap.none-goes goes (rows k t) e) ∙ sym stands
+  none-same e = stand ∙ ap (packed (capacity k * stride k)) (gap.none-goes goes (rows k t) e) ∙ sym stands
 
   -- no other place does: before the first
   pub places-before : (i : ℕ) → i < gapOf goes (rows k t) .first → numberAt (stride k) i (bytes k after) ≡ numberAt (stride k) i (bytes k t)
   unfolding gapOf
-  places-before i = go (some goes (rows k t))
-    where
-      go : (b : Bool) → i < cond b found nowhere .first → numberAt (stride k) i (bytes k after) ≡ numberAt (stride k) i (bytes k t)
-      go true m =
-          ap (numberAt (stride k) i) (with-bytes k t (without goes (rows k t)))
-          ∙ gap.gap-before goes (stride k) (capacity k * stride k) (rows k t) (two-long k) long long′ i (gap.before-all goes (rows k t)) m
-          ∙ ap (numberAt (stride k) i) (sym stands)
-      go false m = absurd (omega arith)
+  places-before i m =
+      bool-cases (some goes (rows k t))
+      (λ s. as-packed (numberAt (stride k) i)
+      (gap.gap-before goes (stride k) (capacity k * stride k) (rows k t) (two-long k) long long′ i (gap.before-all goes (rows k t)) (rw s at m)))
+      (λ s. absurd (omega (arith, rw s at m)))
 
   -- nor after the last
   pub places-after : (i : ℕ) → gapOf goes (rows k t) .first + gapOf goes (rows k t) .many ≤ i → i < capacity k
       → numberAt (stride k) i (bytes k after) ≡ numberAt (stride k) i (bytes k t)
   unfolding gapOf
-  places-after i m c = go (some goes (rows k t)) refl m
-    where
-      go : (b : Bool) → some goes (rows k t) ≡ b → cond b found nowhere .first + cond b found nowhere .many ≤ i
-          → numberAt (stride k) i (bytes k after) ≡ numberAt (stride k) i (bytes k t)
-      go true s m =
-          ap (numberAt (stride k) i) (with-bytes k t (without goes (rows k t)))
-          ∙ gap.gap-after goes (stride k) (capacity k * stride k) (rows k t) (two-long k) long long′ i
-          (length-without goes (rows k t)) (omega (arith, gap.before-all goes (rows k t))) (place-room k i c)
-          ∙ ap (numberAt (stride k) i) (sym stands)
-      go false s m = ap (numberAt (stride k) i) (none-same s)
+  places-after i m c =
+      bool-cases (some goes (rows k t))
+      (λ s. as-packed (numberAt (stride k) i)
+      (gap.gap-after goes (stride k) (capacity k * stride k) (rows k t) (two-long k) long long′ i
+      (length-without goes (rows k t)) (omega (arith, rw s at m, gap.before-all goes (rows k t))) (place-room k i c)))
+      (λ s. ap (numberAt (stride k) i) (none-same s))
 
   -- an unused place has number 0
   pub places-unused : (i : ℕ) → count k after ≤ i → i < capacity k → numberAt (stride k) i (bytes k after) ≡ 0 ∷ 0 ∷ []
   places-unused i m c =
-      ap (numberAt (stride k) i) (with-bytes k t (without goes (rows k t)))
-      ∙ gap.number-unused (stride k) (capacity k * stride k) i (without goes (rows k t)) long′ (two-long k)
-      (omega (arith, with-count k t (without goes (rows k t)))) (place-room k i c)
+      rw stand
+      (gap.number-unused (stride k) (capacity k * stride k) i (without goes (rows k t)) long′ (two-long k)
+      (omega (arith, with-count k t (without goes (rows k t)))) (place-room k i c))
 
   -- and no byte of a row before the first is written
   pub bytes-kept : take (gapOf goes (rows k t) .first * stride k) (bytes k after) ≡ take (gapOf goes (rows k t) .first * stride k) (bytes k t)
   unfolding gapOf
-  bytes-kept = go (some goes (rows k t)) refl
-    where
-      go : (b : Bool) → some goes (rows k t) ≡ b
-          → take (cond b found nowhere .first * stride k) (bytes k after) ≡ take (cond b found nowhere .first * stride k) (bytes k t)
-      go true s =
-          ap (take (rowsBefore goes (rows k t) * stride k)) (with-bytes k t (without goes (rows k t)))
-          ∙ gap.bytes-before goes (stride k) (capacity k * stride k) (rows k t) long long′ (gap.before-all goes (rows k t))
-          ∙ ap (take (rowsBefore goes (rows k t) * stride k)) (sym stands)
-      go false s = ap (take (0 * stride k)) (none-same s)
+  bytes-kept =
+      bool-cases (some goes (rows k t))
+      (λ s. rw s (as-packed (take (rowsBefore goes (rows k t) * stride k))
+      (gap.bytes-before goes (stride k) (capacity k * stride k) (rows k t) long long′ (gap.before-all goes (rows k t)))))
+      (λ s. rw (none-same s))
 
   -- nor a byte behind the last
   pub bytes-rest :
       drop ((gapOf goes (rows k t) .first + gapOf goes (rows k t) .many) * stride k) (bytes k after)
       ≡ drop ((gapOf goes (rows k t) .first + gapOf goes (rows k t) .many) * stride k) (bytes k t)
   unfolding gapOf
-  bytes-rest = go (some goes (rows k t)) refl
-    where
-      go : (b : Bool) → some goes (rows k t) ≡ b
-          → drop ((cond b found nowhere .first + cond b found nowhere .many) * stride k) (bytes k after)
-          ≡ drop ((cond b found nowhere .first + cond b found nowhere .many) * stride k) (bytes k t)
-      go true s =
-          let n = found .first + found .many in
-          let e : length (rows k t) ≤ n = omega arith in
-          ap (drop (n * stride k)) (with-bytes k t (without goes (rows k t)))
-          ∙ gap.bytes-behind (stride k) (capacity k * stride k) n (without goes (rows k t)) long′ (omega (arith, length-without goes (rows k t)))
-          ∙ sym (gap.bytes-behind (stride k) (capacity k * stride k) n (rows k t) long e)
-          ∙ ap (drop (n * stride k)) (sym stands)
-      go false s = ap (drop (0 * stride k)) (none-same s)
+  bytes-rest =
+      bool-cases (some goes (rows k t))
+      (λ s.
+      let n = rowsBefore goes (rows k t) + (length (rows k t) - rowsBefore goes (rows k t)) in
+      rw s (as-packed (drop (n * stride k))
+      (gap.bytes-behind (stride k) (capacity k * stride k) n (without goes (rows k t)) long′ (omega (arith, length-without goes (rows k t)))
+      ∙ sym (gap.bytes-behind (stride k) (capacity k * stride k) n (rows k t) long (omega arith)))))
+      (λ s. rw (none-same s))
 
   -- so storing the places leaves the new bytes
   pub bytes-stored : overwritten (stride k) (gapOf goes (rows k t)) (bytes k t) (bytes k after) ≡ bytes k after

@@ -1,6 +1,5 @@
 -- The laws of the definitions, and the theorems over them: Refusals, SoundKept, ReadBack, RowsStored, Restored, Gaps,
 -- Wear, SubjectRows, LinkLaws, AnyBody, YardSet, Isolated; and samples, and examples that definitions are tried by.
-pub mod Bools
 pub mod BitLaws
 pub mod RecordLaws
 pub mod SetLaws

@@ -1,7 +1,7 @@
 -- Laws of the sender's own credential row, the first with its number.
 -- A permitted assertion has one: it came over connection 1, and check 7 found the row.
-use Rattle.rows.proofs.Prelude.{_≡_, refl, sym, ap, _∙_, Bool, true, false, _||_, cond, List, [], _∷_, ℕ, _/_, _%_, _<_, arith, length, take, getD, getD-take}
-use Rattle.rows.proofs.Prelude.{take-take, eqb, eqb-true, not-false}
+use Rattle.rows.proofs.Prelude.{_≡_, refl, sym, ap, _∙_, Bool, true, false, List, [], _∷_, ℕ, _/_, _%_, _<_, arith, length, take, getD, getD-take, take-take}
+use Rattle.rows.proofs.Prelude.{eqb, eqb-true, not-false, bool-cases, contradiction, and-left, and-right}
 use Rattle.rows.specs.Rows.{Row, same, hasKey, numberedAs, firstRow, some, every, stored}
 use Rattle.rows.proofs.Kept.{same-true, length-stored}
 use Rattle.rules.specs.declared.Tables.{Tables}
@@ -15,7 +15,6 @@ use Rattle.rules.specs.Tables.{rows, sound}
 use Rattle.rules.specs.Permission.{numbered, ownRow}
 use Rattle.rules.specs.Checks.{badLength, noRow, noCredential}
 use Rattle.rules.specs.States.{stateAllows}
-use Rattle.rules.proofs.Bools.{contradiction, and-left, and-right}
 use Rattle.rules.proofs.BitLaws.{bits-word, bits-small}
 use Rattle.rules.proofs.RecordLaws.{sender-partner}
 use Rattle.rules.proofs.Answers.{long-enough, table-parts}
@@ -28,20 +27,13 @@ module _ (p : Row → Bool) where
   pub first-passes : (ws : List Row) → some p ws ≡ true → p (firstRow p ws) ≡ true
   unfolding some firstRow
   first-passes [] h = contradiction h refl
-  first-passes (w ∷ ws) h = go (p w) refl h (first-passes ws)
-    where
-      go : (b : Bool) → p w ≡ b → (b || some p ws) ≡ true → (some p ws ≡ true → p (firstRow p ws) ≡ true) → p (cond b w (firstRow p ws)) ≡ true
-      go true e h ih = e
-      go false e h ih = ih h
+  first-passes (w ∷ ws) h = bool-cases (p w) (λ e. rw e e) (λ e. rw e (first-passes ws (rw e at h)))
 
   pub first-every : (e : Row → Bool) (ws : List Row) → some p ws ≡ true → every e ws ≡ true → e (firstRow p ws) ≡ true
   unfolding some firstRow every
   first-every e [] h a = contradiction h refl
-  first-every e (w ∷ ws) h a = go (p w) h (λ s. first-every e ws s (and-right (e w) _ a))
-    where
-      go : (b : Bool) → (b || some p ws) ≡ true → (some p ws ≡ true → e (firstRow p ws) ≡ true) → e (cond b w (firstRow p ws)) ≡ true
-      go true h ih = and-left (e w) _ a
-      go false h ih = ih h
+  first-every e (w ∷ ws) h a =
+      bool-cases (p w) (λ t. rw t (and-left (e w) _ a)) (λ f. rw f (first-every e ws (rw f at h) (and-right (e w) _ a)))
 
 -- ---- a row's number
 

@@ -1,51 +1,43 @@
 -- A permission bit of a union comes from a member.
 -- So a chosen sender's effective permission on a security resource other than roles has none of C, U and D.
-use Rattle.rows.proofs.Prelude.{_≡_, refl, ap, ap₂, _∙_, Bool, true, false, _&&_, _||_, cond, and-false, or-false, List, [], _∷_, ℕ, zero, suc, _/_, _%_, _^_}
-use Rattle.rows.proofs.Prelude.{_<_, arith, length, eqb, bitOr, eq-eqb, eqb-true}
-use native.Mathlib.Nat.{zero-div}
-use lib.Bits.{or-shr, or-mod}
+use Rattle.rows.proofs.Prelude.{_≡_, refl, ap, _∙_, Bool, true, false, _&&_, _||_, and-false, or-false, List, [], _∷_, ℕ, zero, suc, _/_, _%_, _^_, _<_, arith}
+use Rattle.rows.proofs.Prelude.{length, eqb, bitOr, or-zero-r, eq-eqb, eqb-false, eqb-true, cond-cases, bool-cases, contradiction, and-left, and-right, or-left}
+use Rattle.rows.proofs.Prelude.{or-right, or-neither, and-false-right}
+use lib.Bits.{or-shr, or-step}
 use Rattle.rows.specs.Rows.{Row, some, unionOf}
 use Rattle.rules.specs.declared.Tables.{Tables}
 use Rattle.rules.specs.declared.Table.the-variants.{Aces}
 use Rattle.rules.specs.Directory.{isSecurity, roles, someBelow, someSecurity, directory}
 use Rattle.rules.specs.Record.{Sender, unauthenticated, partner}
-use Rattle.rules.specs.Bodies.{aceKind, acePermission, inSet}
+use Rattle.rules.specs.Bodies.{aceKind, inSet}
 use Rattle.rules.specs.Tables.{rows}
-use Rattle.rules.specs.Permission.{C, U, has, isRow, ownRow, connectionOf, roleFits, subjectIs, subjectFits, resourceFits}
+use Rattle.rules.specs.Permission.{has, isRow, ownRow, connectionOf, roleFits, subjectIs, subjectFits, resourceFits}
 use Rattle.rules.specs.Permission.{inForce, rowFits, gives, isOwner, byOwner, byNoOwner, byRoles, effectiveOf, effective}
 use Rattle.rules.specs.Isolation.{Harmless, alters, namesOwner, rowAlters, mayFit, mayAlter}
-use Rattle.rules.proofs.Bools.{cond-cases, contradiction, and-left, and-right, and-both, and-false-right, or-neither, or-left, or-right, bool-cases}
 use Rattle.rules.proofs.BodyLaws.{security-number}
-
-pub has-zero : (bit : ℕ) → has 0 bit ≡ false
-unfolding has
-has-zero bit = ap (λ (x : ℕ). eqb (x % 2) 1) (zero-div bit)
-
-one-bit : (x y : ℕ) → x < 2 → y < 2 → eqb (bitOr x y) 1 ≡ (eqb x 1 || eqb y 1)
-one-bit zero zero hx hy = refl
-one-bit zero (suc zero) hx hy = refl
-one-bit zero (suc (suc y)) hx hy = absurd (omega arith)
-one-bit (suc zero) zero hx hy = refl
-one-bit (suc zero) (suc zero) hx hy = refl
-one-bit (suc zero) (suc (suc y)) hx hy = absurd (omega arith)
-one-bit (suc (suc x)) y hx hy = absurd (omega arith)
 
 -- a bit of a union is a bit of one of the two
 pub has-or : (x y k : ℕ) → has (bitOr x y) (2 ^ k) ≡ (has x (2 ^ k) || has y (2 ^ k))
 unfolding has
 has-or x y k =
-    ap (λ (z : ℕ). eqb (z % 2) 1) (or-shr x y k)
-    ∙ ap (λ (z : ℕ). eqb z 1) (or-mod (x / 2 ^ k) (y / 2 ^ k) 1)
-    ∙ one-bit (x / 2 ^ k % 2) (y / 2 ^ k % 2) (omega arith) (omega arith)
+    let a = x / 2 ^ k in
+    let b = y / 2 ^ k in
+    rw (or-shr x y k)
+    (bool-cases (eqb (a % 2) 1)
+    (λ e. rw e (eq-eqb (bitOr a b % 2) 1 (omega (arith, or-step a b, eqb-true (a % 2) 1 e))))
+    (λ e. let same : bitOr a b % 2 ≡ b % 2 = omega (arith, or-step a b, eqb-false (a % 2) 1 e) in rw (e, same)))
 
--- no row that passes a test gives the bit, so the union has not
-union-lacks : (give : Row → ℕ) (p : Row → Bool) (k : ℕ) → ((a : Row) → p a ≡ false → has (give a) (2 ^ k) ≡ false) → (ws : List Row)
-    → some p ws ≡ false → has (unionOf give ws) (2 ^ k) ≡ false
-unfolding some unionOf
-union-lacks give p k f [] h = has-zero (2 ^ k)
-union-lacks give p k f (a ∷ ws) h =
-    has-or (give a) (unionOf give ws) k
-    ∙ or-neither _ _ (f a (or-left (p a) (some p ws) h)) (union-lacks give p k f ws (or-right (p a) (some p ws) h))
+-- so C, U and D are in it only where one of the two has them
+alters-neither : (x y : ℕ) → alters x ≡ false → alters y ≡ false → alters (bitOr x y) ≡ false
+alters-neither x y e f = rw (has-or x y 0, has-or x y 2, has-or x y 3) (search (or-left, or-right, or-neither) depth 9)
+
+-- no row that fails a test gives any of them, so the union has none
+union-lacks : (give : Row → ℕ) (p : Row → Bool) → ((a : Row) → p a ≡ false → alters (give a) ≡ false) → (ws : List Row)
+    → some p ws ≡ false → alters (unionOf give ws) ≡ false
+unfolding some unionOf has
+union-lacks give p f [] h = refl
+union-lacks give p f (a ∷ ws) h =
+    alters-neither (give a) (unionOf give ws) (f a (or-left (p a) (some p ws) h)) (union-lacks give p f ws (or-right (p a) (some p ws) h))
 
 -- ---- a test at every security resource
 below-lacks : (m n : ℕ) (q : ℕ → Bool) → n < m → someBelow m q ≡ false → q n ≡ false
@@ -53,13 +45,7 @@ below-lacks zero n q l h = absurd (omega arith)
 below-lacks (suc m) n q l h =
     bool-cases (eqb n m)
     (λ e. ap q (eqb-true n m e) ∙ or-left (q m) (someBelow m q) h)
-    (λ e. below-lacks m n q (other e) (or-right (q m) (someBelow m q) h))
-  where
-    other : eqb n m ≡ false → n < m
-    other e = lt-of-ne (λ q. contradiction (eq-eqb n m q) e)
-      where
-        lt-of-ne : (n ≡ m → ⊥) → n < m
-        lt-of-ne ne = omega (arith, ne)
+    (λ e. below-lacks m n q (omega (arith, eqb-false n m e)) (or-right (q m) (someBelow m q) h))
 
 pub security-lacks : (p : ℕ → Bool) (n : ℕ) → isSecurity n ≡ true → someSecurity p ≡ false → p n ≡ false
 unfolding someSecurity
@@ -70,11 +56,7 @@ security-lacks p n h l =
 below-same : (p q : ℕ → Bool) → ((n : ℕ) → isSecurity n ≡ true → p n ≡ q n) → (m : ℕ)
     → someBelow m (λ n. isSecurity n && p n) ≡ someBelow m (λ n. isSecurity n && q n)
 below-same p q f zero = refl
-below-same p q f (suc m) = ap₂ (λ (a b : Bool). a || b) (here (isSecurity m) (f m)) (below-same p q f m)
-  where
-    here : (b : Bool) → (b ≡ true → p m ≡ q m) → (b && p m) ≡ (b && q m)
-    here true e = e refl
-    here false e = refl
+below-same p q f (suc m) = rw (below-same p q f m) (bool-cases (isSecurity m) (λ e. rw (e, f m e)) (λ e. rw e))
 
 pub security-same : (p q : ℕ → Bool) → ((n : ℕ) → isSecurity n ≡ true → p n ≡ q n) → someSecurity p ≡ someSecurity q
 unfolding someSecurity
@@ -86,11 +68,6 @@ unfolding resourceFits
 fits-by-set a n h = rw h (simp (and-false, or-false))
 
 -- ---- a chosen sender alters no security resource
-and-weaken : (f y z g h : Bool) → (f && (y && z)) ≡ false → (y ≡ false → g ≡ false) → (z ≡ false → h ≡ false) → (f && g && h) ≡ false
-and-weaken false y z g h e u v = refl
-and-weaken true false z g h e u v = rw (u refl)
-and-weaken true true z g h e u v = rw (v e) (and-false g)
-
 -- a sender with a credential row is a partner
 row-partner : (t : Tables) (s : Sender) → isRow (ownRow t s) ≡ true → eqb (connectionOf s) 1 ≡ true
 row-partner t unauthenticated e = e
@@ -99,70 +76,37 @@ row-partner t (partner n) e = refl
 -- a row that fits may fit: every role counts
 fits-may : (clock : ℕ) (w : Row) (c : ℕ) (a : Row) → (isRow w ≡ true → eqb c 1 ≡ true) → subjectFits clock w c a ≡ true → mayFit w c a ≡ true
 unfolding subjectFits subjectIs mayFit roleFits
-fits-may clock w c a one = pick (eqb (aceKind a) 0) (eqb (aceKind a) 1) _ _ _ _ (λ h. one (and-left (isRow w) _ h))
-  where
-    pick : (k0 k1 x r r′ y : Bool) → (r ≡ true → r′ ≡ true) → cond k0 x (cond k1 r y) ≡ true → cond k0 x (cond k1 r′ y) ≡ true
-    pick true k1 x r r′ y f h = h
-    pick false true x r r′ y f h = f h
-    pick false false x r r′ y f h = h
+fits-may clock w c a one =
+    bool-cases (eqb (aceKind a) 0) (λ e. rw e (λ h. h))
+    (λ e. bool-cases (eqb (aceKind a) 1) (λ f. rw (e, f) (λ h. one (and-left (isRow w) _ h))) (λ f. rw (e, f) (λ h. h)))
 
 -- a row that may not alter a security resource gives nothing to alter resource n by
-gives-lacks : (clock : ℕ) (w : Row) (c n k : ℕ) (a : Row) → (isRow w ≡ true → eqb c 1 ≡ true) → isSecurity n ≡ true
-    → ((p : ℕ) → alters p ≡ false → has p (2 ^ k) ≡ false)
-    → (mayFit w c a && rowAlters a) ≡ false → has (gives clock w c n a) (2 ^ k) ≡ false
-unfolding gives rowFits rowAlters
-gives-lacks clock w c n k a one sec sub e =
-    cond-cases (λ (p : ℕ). has p (2 ^ k) ≡ false) (subjectFits clock w c a && resourceFits n a && inForce clock a)
+gives-lacks : (clock : ℕ) (w : Row) (c n : ℕ) (a : Row) → (isRow w ≡ true → eqb c 1 ≡ true) → isSecurity n ≡ true
+    → (mayFit w c a && rowAlters a) ≡ false → alters (gives clock w c n a) ≡ false
+unfolding gives rowFits rowAlters has
+gives-lacks clock w c n a one sec e =
+    cond-cases (λ (p : ℕ). alters p ≡ false) (subjectFits clock w c a && resourceFits n a && inForce clock a)
     (λ f.
     let both = and-left (subjectFits clock w c a && resourceFits n a) _ f in
     let may = fits-may clock w c a one (and-left (subjectFits clock w c a) _ both) in
-    and-false-right (mayFit w c a && resourceFits n a) _
-    (and-weaken (mayFit w c a) (someSecurity (λ m. resourceFits m a)) (alters (acePermission a)) (resourceFits n a)
-    (has (acePermission a) (2 ^ k)) e (security-lacks (λ m. resourceFits m a) n sec) (sub (acePermission a)))
-    (and-both _ _ may (and-right (subjectFits clock w c a) _ both)))
-    (λ _. has-zero (2 ^ k))
-
--- what holds of each of the bits C, U, D
-pub alters-lacks : (p : ℕ) → ((k : ℕ) → ((q : ℕ) → alters q ≡ false → has q (2 ^ k) ≡ false) → has p (2 ^ k) ≡ false) → alters p ≡ false
-alters-lacks p h =
-    or-neither _ _
-    (or-neither _ _
-    (h 0 (λ q e. or-left (has q C) _ (or-left (has q C || has q U) _ e)))
-    (h 2 (λ q e. or-right (has q C) _ (or-left (has q C || has q U) _ e))))
-    (h 3 (λ q e. or-right (has q C || has q U) _ e))
+    bool-cases (someSecurity (λ m. resourceFits m a))
+    (λ s. and-false-right (someSecurity (λ m. resourceFits m a)) _ (and-false-right (mayFit w c a) _ e may) s)
+    (λ s. contradiction (and-right (subjectFits clock w c a) _ both) (security-lacks (λ m. resourceFits m a) n sec s)))
+    (λ _. refl)
 
 module _ (clock : ℕ) (chosen : Sender → Bool) (t : Tables) (s : Sender) (n : ℕ) (safe : Harmless chosen t)
     (c : chosen s ≡ true) (sec : isSecurity n ≡ true) (other : eqb n roles ≡ false) where
-  owner-none : byOwner t (ownRow t s) n ≡ 0
-  unfolding byOwner namesOwner
-  owner-none = rw (sec, security-lacks (isOwner t (ownRow t s)) n sec (safe .notOwner s c))
-
-  unowned-none : byNoOwner t n ≡ 0
-  unfolding byNoOwner
-  unowned-none = rw (sec, safe .hasOwner s c)
-
-  elsewhere-none : byRoles (connectionOf s) n ≡ 0
-  unfolding byRoles
-  elsewhere-none = rw other
+  -- access rows are all that it has anything by
+  only-granted : effective clock t s n ≡ unionOf (gives clock (ownRow t s) (connectionOf s) n) (rows Aces t)
+  unfolding effectiveOf byOwner namesOwner byNoOwner byRoles
+  only-granted = simp (sec, security-lacks (isOwner t (ownRow t s)) n sec (safe .notOwner s c), safe .hasOwner s c, other, or-zero-r)
 
   -- a chosen sender alters no security resource but roles
   pub effective-lacks : alters (effective clock t s n) ≡ false
-  unfolding effectiveOf mayAlter
+  unfolding mayAlter
   effective-lacks =
       let w = ownRow t s in
-      let granted = unionOf (gives clock w (connectionOf s) n) (rows Aces t) in
-      alters-lacks (effective clock t s n) λ k sub.
-      has-or (bitOr (bitOr granted (byOwner t w n)) (byNoOwner t n)) (byRoles (connectionOf s) n) k
-      ∙ or-neither _ _
-      (has-or (bitOr granted (byOwner t w n)) (byNoOwner t n) k
-      ∙ or-neither _ _
-      (has-or granted (byOwner t w n) k
-      ∙ or-neither _ _
-      (union-lacks (gives clock w (connectionOf s) n) (λ a. mayFit w (connectionOf s) a && rowAlters a) k
-      (λ a e. gives-lacks clock w (connectionOf s) n k a (row-partner t s) sec sub e) (rows Aces t) (safe .notGranted s c))
-      (none k owner-none))
-      (none k unowned-none))
-      (none k elsewhere-none)
-    where
-      none : (k : ℕ) {x : ℕ} → x ≡ 0 → has x (2 ^ k) ≡ false
-      none k e = ap (λ (x : ℕ). has x (2 ^ k)) e ∙ has-zero (2 ^ k)
+      let v = connectionOf s in
+      rw only-granted
+      (union-lacks (gives clock w v n) (λ a. mayFit w v a && rowAlters a)
+      (λ a e. gives-lacks clock w v n a (row-partner t s) sec e) (rows Aces t) (safe .notGranted s c))

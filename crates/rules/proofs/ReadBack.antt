@@ -1,8 +1,8 @@
 -- Theorems, U1: the rows that a reply tells, sent as bodies one after the other, make the table again, but for asserted roles; and how long a reply gets.
 -- The lengths of the owners' fields are those that the struct's types give.
-use Rattle.rows.proofs.Prelude.{_≡_, refl, sym, ap, ap₂, _∙_, Bool, true, false, cond, List, [], _∷_, _++_, map, append-nil, ℕ, zero, suc, _+_, _-_, _*_, _/_}
-use Rattle.rows.proofs.Prelude.{_≤_, arith, length, take, drop, drop-of-length-le, length-append, length-drop, length-map, length-take, drop-at}
-use Rattle.rows.proofs.Prelude.{length-take-le, ltb, le-ltb, ne-eqb}
+use Rattle.rows.proofs.Prelude.{_≡_, refl, sym, ap, _∙_, true, false, List, [], _∷_, _++_, map, append-nil, ℕ, _+_, _-_, _*_, _≤_, arith, length, take, drop}
+use Rattle.rows.proofs.Prelude.{drop-of-length-le, length-append, length-drop, length-map, length-take, drop-at, length-take-le, ltb, eqb, eqb-true, le-ltb}
+use Rattle.rows.proofs.Prelude.{bool-cases, cond-cases, and-left, and-right}
 use native.Mathlib.Nat.{mul-div-cancel}
 use Rattle.rows.specs.Rows.{Row, rowsOf, joined, every, distinctNumbers, storedAll}
 use Rattle.rows.proofs.Kept.{AllLong, every-long, length-joined, rowsOf-joined}
@@ -17,7 +17,6 @@ use Rattle.rules.specs.Bodies.{credRowOf, aceRowOf}
 use Rattle.rules.specs.Roles.{bodyOf, withoutRoles, rolesInForce}
 use Rattle.rules.specs.Permission.{ownRow}
 use Rattle.rules.specs.Reading.{ownBody, rowBytes, contents, reads, replyOf, tooShort, holder, bare, rowsOfReply}
-use Rattle.rules.proofs.Bools.{and-left, and-right}
 use Rattle.rules.proofs.Answers.{table-parts}
 use Rattle.rules.proofs.BodyLaws.{sized, positive}
 use Rattle.rules.proofs.TableLaws.{few-rows}
@@ -52,35 +51,18 @@ long-bodies Aces t h = long-rows Aces t h
 
 pub read-rows : (k : Table) (owner : List ℕ) (ws : List Row) → length owner ≡ 16 → AllLong (longest k) ws → rowsOfReply k (owner ++ joined ws) ≡ ws
 read-rows k owner ws l a =
-    ap₂ (λ (n : ℕ) (b : List ℕ). rowsOf (longest k) n b) counted (drop-at owner (joined ws) 16 l ∙ sym (append-nil (joined ws)))
-    ∙ rowsOf-joined (longest k) ws [] a
-  where
-    counted : (length (owner ++ joined ws) - 16) / longest k ≡ length ws
-    counted =
-        ap (λ (n : ℕ). n / longest k)
-        (ap (λ (n : ℕ). n - 16) (length-append owner (joined ws)) ∙ bytes ∙ length-joined (longest k) ws a)
-        ∙ mul-div-cancel (length ws) (positive k)
-      where
-        bytes : length owner + length (joined ws) - 16 ≡ length (joined ws)
-        bytes = omega (arith, l)
+    let bytes : length (owner ++ joined ws) - 16 ≡ length ws * longest k = rw length-append (omega (arith, length-joined (longest k) ws a)) in
+    rw (bytes, mul-div-cancel (length ws) (positive k), drop-at owner (joined ws) 16 l)
+    (ap (rowsOf (longest k) (length ws)) (sym (append-nil (joined ws))) ∙ rowsOf-joined (longest k) ws [] a)
 
 -- a row that the table may hold, sent as its body, is the row that is stored, without what is asserted
-cred-itself : (w : Row) → storable Creds w ≡ true → rowOf Creds (bodyOf w) ≡ withoutRoles w
-unfolding credRowOf withoutRoles
-cred-itself w h = rw (body-long w (sized Creds w h), sized Creds w h)
-
-ace-itself : (w : Row) → storable Aces w ≡ true → rowOf Aces w ≡ w
-unfolding aceRowOf
-ace-itself w h = rw (sized Aces w h)
-
 pub rows-themselves : (k : Table) (ws : List Row) → every (storable k) ws ≡ true → map (rowOf k) (bodies k ws) ≡ bare k ws
-unfolding every
+unfolding every credRowOf aceRowOf withoutRoles
 rows-themselves Creds [] h = refl
 rows-themselves Creds (w ∷ ws) h =
-    ap₂ (λ (v : Row) (vs : List Row). v ∷ vs) (cred-itself w (and-left _ _ h)) (rows-themselves Creds ws (and-right (storable Creds w) _ h))
+    let l = sized Creds w (and-left _ _ h) in rw (body-long w l, l, rows-themselves Creds ws (and-right (storable Creds w) _ h))
 rows-themselves Aces [] h = refl
-rows-themselves Aces (w ∷ ws) h =
-    ap₂ (λ (v : Row) (vs : List Row). v ∷ vs) (ace-itself w (and-left _ _ h)) (rows-themselves Aces ws (and-right (storable Aces w) _ h))
+rows-themselves Aces (w ∷ ws) h = rw (sized Aces w (and-left _ _ h), rows-themselves Aces ws (and-right (storable Aces w) _ h))
 
 pub bare-apart : (k : Table) (ws : List Row) → distinctNumbers ws ≡ true → distinctNumbers (bare k ws) ≡ true
 bare-apart Creds ws h = distinct-map withoutRoles without-roles-body ws ∙ h
@@ -90,54 +72,40 @@ bare-apart Aces ws h = h
 pub same-rows : (clock : ℕ) (k : Table) (t : Tables) (s : Sender) → sound t ≡ true → length (t .rowners) ≡ 64
     → storedAll (map (rowOf k) (rowsOfReply k (contents clock t s (holder k)))) [] ≡ bare k (rows k t)
 same-rows clock k t s h l =
-    ap (λ (b : List ℕ). storedAll (map (rowOf k) (rowsOfReply k b)) []) (reply-is clock k t s)
-    ∙ ap (λ (ws : List Row). storedAll (map (rowOf k) ws) []) (read-rows k (rowOwner t (holder k)) (bodies k (rows k t)) (owner-long k t l) (long-bodies k t h))
-    ∙ ap (λ (ws : List Row). storedAll ws []) (rows-themselves k (rows k t) (table-parts k t h .stores))
-    ∙ restored (bare k (rows k t)) (bare-apart k (rows k t) (table-parts k t h .apart))
+    let x = table-parts k t h in
+    let told = read-rows k (rowOwner t (holder k)) (bodies k (rows k t)) (owner-long k t l) (long-bodies k t h) in
+    rw (reply-is clock k t s, told, rows-themselves k (rows k t) (x .stores)) (restored _ (bare-apart k (rows k t) (x .apart)))
 
 -- ---- the longest reply
 
 rows-short : (k : Table) (t : Tables) → sound t ≡ true → length (joined (bodies k (rows k t))) ≤ 1152
 rows-short Creds t h =
-    let l = length-joined 23 (map bodyOf (rows Creds t)) (long-bodies Creds t h) in
-    omega (arith, l, length-map (rows Creds t) bodyOf, few-rows Creds t h)
-rows-short Aces t h = let l = length-joined 36 (rows Aces t) (long-rows Aces t h) in omega (arith, l, few-rows Aces t h)
+    omega (arith, length-joined 23 (map bodyOf (rows Creds t)) (long-bodies Creds t h), length-map (rows Creds t) bodyOf, few-rows Creds t h)
+rows-short Aces t h = omega (arith, length-joined 36 (rows Aces t) (long-rows Aces t h), few-rows Aces t h)
 
 parts-short : (clock : ℕ) (t : Tables) (s : Sender) (n : ℕ) → sound t ≡ true → length (t .devowner) ≡ 16
     → length (ownBody t n) + length (rowBytes clock t s n) ≤ 1152
 unfolding ownBody rowBytes
-parts-short clock t s zero h l = omega (arith, l)
-parts-short clock t s (suc zero) h l = omega arith
-parts-short clock t s (suc (suc zero)) h l = omega (arith, rows-short Creds t h)
-parts-short clock t s (suc (suc (suc zero))) h l = omega (arith, rows-short Aces t h)
-parts-short clock t s (suc (suc (suc (suc zero)))) h l = omega (arith, in-force-short clock (ownRow t s))
-parts-short clock t s (suc (suc (suc (suc (suc n))))) h l =
-    rw (
-      ne-eqb (suc (suc (suc (suc (suc n))))) 0 (λ e. absurd (omega arith)),
-      ne-eqb (suc (suc (suc (suc (suc n))))) 1 (λ e. absurd (omega arith)),
-      ne-eqb (suc (suc (suc (suc (suc n))))) 2 (λ e. absurd (omega arith)),
-      ne-eqb (suc (suc (suc (suc (suc n))))) 3 (λ e. absurd (omega arith)),
-      ne-eqb (suc (suc (suc (suc (suc n))))) 4 (λ e. absurd (omega arith)),
-    ) (omega arith)
-
-owner-short : (t : Tables) (n : ℕ) → length (rowOwner t n) ≤ 16
-unfolding rowOwner
-owner-short t n = rw (length-take 16 (drop (n * 16) (t .rowners))) (omega arith)
+parts-short clock t s n h l =
+    bool-cases (eqb n 0) (λ e. rw (eqb-true n 0 e) (omega (arith, l)))
+    (λ a. bool-cases (eqb n 1) (λ e. rw (eqb-true n 1 e) (omega arith))
+    (λ b. bool-cases (eqb n 2) (λ e. rw (eqb-true n 2 e) (omega (arith, rows-short Creds t h)))
+    (λ c. bool-cases (eqb n 3) (λ e. rw (eqb-true n 3 e) (omega (arith, rows-short Aces t h)))
+    (λ d. bool-cases (eqb n 4) (λ e. rw (eqb-true n 4 e) (omega (arith, in-force-short clock (ownRow t s))))
+    (λ e. rw (a, b, c, d, e) (omega arith))))))
 
 -- a reply is 1168 bytes long at most
 pub reply-short : (clock : ℕ) (t : Tables) (s : Sender) (n : ℕ) → sound t ≡ true → length (t .devowner) ≡ 16 → length (contents clock t s n) ≤ 1168
-unfolding contents
+unfolding contents rowOwner
 reply-short clock t s n h l =
-    simp length-append (omega (arith, parts-short clock t s n h l, owner-short t n))
+    simp length-append (omega (arith, parts-short clock t s n h l, length-take 16 (drop (n * 16) (t .rowners))))
 
 -- so a record with a buffer of that length never gets 15
 pub room-enough : (clock : ℕ) (t : Tables) (r : List ℕ) → sound t ≡ true → length (t .devowner) ≡ 16 → tooShort t (received clock r 1168) ≡ false
 unfolding tooShort replyOf
-room-enough clock t r h l = go (reads r)
-  where
-    go : (b : Bool) → ltb 1168 (length (cond b (contents clock t (sender r) (resource r)) [])) ≡ false
-    go true = le-ltb 1168 (length (contents clock t (sender r) (resource r))) (reply-short clock t (sender r) (resource r) h l)
-    go false = refl
+room-enough clock t r h l =
+    cond-cases (λ (reply : List ℕ). ltb 1168 (length reply) ≡ false) (reads r)
+    (λ _. le-ltb 1168 _ (reply-short clock t (sender r) (resource r) h l)) (λ _. refl)
 
 -- ---- the reply of roles (U11) has no row owner
 

@@ -1,12 +1,12 @@
 -- Theorems, U1 over whole outcomes: the rows of the reply to a permitted RETRIEVE make the table again, but for asserted roles.
 -- As rows that are stored; and judged, as records one straight after the other, from tables without rows of that kind.
 -- The length of the row owners' field is what the struct's type gives.
-use Rattle.rows.proofs.Prelude.{_≡_, refl, sym, ap, subst, _∙_, Bool, true, _||_, or-false, List, [], _∷_, map, ℕ, length, length-map, eqb, eqb-true, not-false}
+use Rattle.rows.proofs.Prelude.{_≡_, refl, sym, ap, _∙_, true, _||_, or-false, List, [], _∷_, map, ℕ, length, length-map, eqb, eqb-true, not-false, and-left}
+use Rattle.rows.proofs.Prelude.{and-right, and-both, or-true-right}
 use Rattle.rows.specs.Rows.{Row, every, storedAll}
 use Rattle.rules.specs.declared.Tables.{Tables}
 use Rattle.rules.specs.declared.Table.{Table}
 use Rattle.rules.specs.declared.Table.the-variants.{Creds, Aces}
-use Rattle.rules.specs.declared.Check.{Check}
 use Rattle.rules.specs.declared.Check.the-variants.{Pass}
 use Rattle.rules.specs.Bits.{bit, bits}
 use Rattle.rules.specs.Directory.{isSecurity, resourceOf}
@@ -14,17 +14,16 @@ use Rattle.rules.specs.Record.{Request, Sender, resource, sender}
 use Rattle.rules.specs.Roles.{withoutRoles, bodyOf}
 use Rattle.rules.specs.Tables.{headSound, longest, storable, rowOf, count, rows, rowOwner, sound}
 use Rattle.rules.specs.Defaults.{Defaults}
-use Rattle.rules.specs.Permission.{U, has, ownRow, connectionOf, byOwner, byNoOwner, byRoles, effective, permission}
+use Rattle.rules.specs.Permission.{U, has, ownRow, byOwner, byNoOwner, effective, permission}
 use Rattle.rules.specs.States.{writeAllowed}
 use Rattle.rules.specs.Reading.{contents, reads, replyOf, holder, bare, rowsOfReply}
 use Rattle.rules.specs.Checks.{badLength, noVerb, zeroBitSet, mismatch, unknownResource, noCredential, senderChecks, checks, verdict}
-use Rattle.rules.specs.Outcome.{outcome, outcomeAt, outcomeOf, toldTo}
+use Rattle.rules.specs.Outcome.{Outcome, toldTo}
 use Rattle.rules.specs.Storing.{Retrieves, TakesRows, MayStore, AllMayStore, inClear, AllStored}
-use Rattle.rules.proofs.Bools.{and-left, and-right, and-both, or-true-right}
-use Rattle.rules.proofs.Answers.{passed, sound-parts, table-parts}
+use Rattle.rules.proofs.Answers.{passed, table-parts}
 use Rattle.rules.proofs.BodyLaws.{sized}
 use Rattle.rules.proofs.TableLaws.{few-rows}
-use Rattle.rules.proofs.Refusals.{none-permitted, permitted-is}
+use Rattle.rules.proofs.Refusals.{permitted-passes, permitted-outcome}
 use Rattle.rules.proofs.RoleLaws.{held-parts, body-long, unasserted-is}
 use Rattle.rules.proofs.SoundKept.{SoundRows}
 use Rattle.rules.proofs.ReadBack.{bodies, reply-is, owner-long, long-bodies, read-rows, rows-themselves, bare-apart, same-rows}
@@ -33,30 +32,23 @@ use Rattle.rules.proofs.RowsStored.{all-stored, all-may, otherwise, by-
 -- ---- the reply
 
 module _ (d : Defaults) (k : Table) (t : Tables) (q : Request) (p : Retrieves d k t q) where
-  passes-all : verdict (checks t (permission (q .clock) t (q .bytes)) q) ≡ Pass
-  passes-all = none-permitted (checks t (permission (q .clock) t (q .bytes)) q) (permitted-is d t q (p .permitted))
-
   pub retrieved-sound : sound t ≡ true
-  retrieved-sound = not-false _ (passed (checks t (permission (q .clock) t (q .bytes)) q) passes-all 1)
+  retrieved-sound = not-false _ (passed (checks t (permission (q .clock) t (q .bytes)) q) (permitted-passes d t q (p .permitted)) 1)
 
   reply-told : toldTo d t q .contents ≡ contents (q .clock) t (sender (q .bytes)) (holder k)
-  unfolding outcome outcomeAt replyOf reads
-  reply-told =
-      ap (λ (c : Check). outcomeOf d t (permission (q .clock) t (q .bytes)) q c .told .contents) passes-all
-      ∙ rw (p .retrieves, p .on, holder-security k)
+  unfolding replyOf reads
+  reply-told = ap (λ (o : Outcome). o .told .contents) (permitted-outcome d t q (p .permitted)) ∙ rw (p .retrieves, p .on, holder-security k)
 
   module _ (l : length (t .rowners) ≡ 64) where
     -- it tells each row's body
     pub rows-told : rowsOfReply k (toldTo d t q .contents) ≡ bodies k (rows k t)
     rows-told =
-        ap (rowsOfReply k) (reply-told ∙ reply-is (q .clock) k t (sender (q .bytes)))
-        ∙ read-rows k (rowOwner t (holder k)) (bodies k (rows k t)) (owner-long k t l) (long-bodies k t retrieved-sound)
+        rw (reply-told, reply-is (q .clock) k t (sender (q .bytes)))
+        (read-rows k (rowOwner t (holder k)) (bodies k (rows k t)) (owner-long k t l) (long-bodies k t retrieved-sound))
 
     -- stored as bodies in an empty table they are the table's rows, without what is asserted
     pub reply-restored : storedAll (map (rowOf k) (rowsOfReply k (toldTo d t q .contents))) [] ≡ bare k (rows k t)
-    reply-restored =
-        ap (λ (c : List ℕ). storedAll (map (rowOf k) (rowsOfReply k c)) []) reply-told
-        ∙ same-rows (q .clock) k t (sender (q .bytes)) retrieved-sound l
+    reply-restored = rw reply-told (same-rows (q .clock) k t (sender (q .bytes)) retrieved-sound l)
 
 -- ---- the rows without what is asserted may be held
 
@@ -64,20 +56,16 @@ bare-row : (w : Row) → storable Creds w ≡ true → storable Creds (withoutRo
 unfolding withoutRoles
 bare-row w h = rw (sized Creds w h) (unasserted-is (bodyOf w) (body-long w (sized Creds w h)) ∙ held-parts w h .body)
 
-bare-storable : (k : Table) (ws : List Row) → every (storable k) ws ≡ true → every (storable k) (bare k ws) ≡ true
+bare-rows : (ws : List Row) → every (storable Creds) ws ≡ true → every (storable Creds) (bare Creds ws) ≡ true
 unfolding every
-bare-storable Creds [] h = refl
-bare-storable Creds (w ∷ ws) h = and-both _ _ (bare-row w (and-left _ _ h)) (bare-storable Creds ws (and-right (storable Creds w) _ h))
-bare-storable Aces ws h = h
-
-bare-few : (k : Table) (ws : List Row) → length (bare k ws) ≡ length ws
-bare-few Creds ws = length-map ws withoutRoles
-bare-few Aces ws = refl
+bare-rows [] h = refl
+bare-rows (w ∷ ws) h = and-both _ _ (bare-row w (and-left _ _ h)) (bare-rows ws (and-right (storable Creds w) _ h))
 
 bare-sound : (k : Table) (t : Tables) → sound t ≡ true → SoundRows k (bare k (rows k t))
-bare-sound k t h =
-    let x = table-parts k t h in
-    record { few = rw (bare-few k (rows k t)) (few-rows k t h); stores = bare-storable k (rows k t) (x .stores); apart = bare-apart k (rows k t) (x .apart) }
+bare-sound Creds t h =
+    let x = table-parts Creds t h in
+    record { few = rw length-map (few-rows Creds t h); stores = bare-rows _ (x .stores); apart = bare-apart Creds _ (x .apart) }
+bare-sound Aces t h = let x = table-parts Aces t h in record { few = few-rows Aces t h; stores = x .stores; apart = x .apart }
 
 -- ---- judged
 
@@ -91,18 +79,14 @@ pub reply-judged : (d : Defaults) (k : Table) (t u : Tables) (q : Request) (qs :
 reply-judged d k t u q qs l p takes m =
     let h = retrieved-sound d k t q p in
     let is = rows-themselves k (rows k t) (table-parts k t h .stores) in
-    subst (AllStored d k u qs) is
-    (all-stored d k u (bodies k (rows k t)) qs takes (long-bodies k t h)
-    (rw is (bare-sound k t h))
-    (subst (AllMayStore k u qs) (rows-told d k t q p l) m))
+    rw is at (all-stored d k u (bodies k (rows k t)) qs takes (long-bodies k t h) (rw is (bare-sound k t h)) (rw (rows-told d k t q p l) at m))
 
 -- ---- by anyone, while there is no owner
 
 anyone-may : (t : Tables) (clock : ℕ) (s : Sender) (n : ℕ) → isSecurity n ≡ true → t .owned ≡ 0 → has (effective clock t s n) U ≡ true
 unfolding otherwise byNoOwner has
 anyone-may t clock s n h e =
-    by-others clock t s n
-    (ap (λ (b : Bool). b || has (byRoles (connectionOf s) n) U) (or-true-right (has (byOwner t (ownRow t s) n) U) (has (byNoOwner t n) U) (rw (h, e))))
+    by-others clock t s n (rw (or-true-right (has (byOwner t (ownRow t s) n) U) (has (byNoOwner t n) U) (rw (h, e))))
 
 clear-passes : (k : Table) (t : Tables) (b : List ℕ) → length b ≡ longest k → verdict (senderChecks t (inClear k b)) ≡ Pass
 unfolding inClear verdict badLength noVerb zeroBitSet mismatch unknownResource noCredential sender bits bit resourceOf
@@ -120,15 +104,14 @@ clear-may k t none q b l e = record {
   passes = rw e (clear-passes k t b l);
   updates = rw e;
   on = rw e (clear-on k b);
-  may = anyone-may t (q .clock) (sender (q .bytes)) (resource (q .bytes)) (ap isSecurity (rw e (clear-on k b)) ∙ holder-security k) none;
+  may = anyone-may t (q .clock) (sender (q .bytes)) (resource (q .bytes)) (rw (e, clear-on k b, holder-security k)) none;
   carries = rw e;
 }
 
 -- sound tables without an owner are in RFOTM, which takes rows
 unowned-takes : (k : Table) (t : Tables) → sound t ≡ true → t .owned ≡ 0 → count k t ≡ 0 → TakesRows k t
-unfolding headSound writeAllowed
+unfolding sound headSound writeAllowed
 unowned-takes k t h o z =
-    let head = sound-parts t h .head in
     let ready : (eqb (t .state) 1 || eqb (t .owned) 1) ≡ true = search (and-left, and-right) in
     let first : eqb (t .state) 1 ≡ true = sym (or-false (eqb (t .state) 1)) ∙ rw o at ready in
     record { isSound = h; inState = rw (eqb-true (t .state) 1 first); noRows = z }

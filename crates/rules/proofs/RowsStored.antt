@@ -1,36 +1,35 @@
 -- Theorem, U1 and U10: records that may store are all permitted when they are judged one straight after the other, from tables without rows of their kind.
 -- The rows are then those of their bodies, in their order, and nothing else is changed. At any clocks and buffer lengths, for any default lists.
-use Rattle.rows.proofs.Prelude.{_≡_, refl, sym, ap, ap₂, subst, _∙_, Bool, true, false, not, _||_, true≢false, List, [], _∷_, _++_, map, append-assoc}
-use Rattle.rows.proofs.Prelude.{append-nil, ℕ, suc, _<_, arith, length, drop, getD, length-append, leb, bitOr, le-ltb, lt-leb}
-use Rattle.rows.specs.Rows.{Row, rowsOf, numberedAs, some, every, stored, unionOf}
-use Rattle.rows.proofs.Laws.{length-rowsOf, every-append}
+use Rattle.rows.proofs.Prelude.{_≡_, refl, sym, ap, ap₂, _∙_, Bool, true, false, not, _||_, List, [], _∷_, _++_, map, append-assoc, append-nil, ℕ, _<_, arith}
+use Rattle.rows.proofs.Prelude.{length, drop, getD, length-append, le-ltb, lt-leb, and-left, and-right, contradiction, or-true-right}
+use mathlib.Core.Bool.{or-assoc}
+use Rattle.rows.specs.Rows.{Row, stored, rowsOf, some, every, unionOf}
+use Rattle.rows.proofs.Laws.{every-append}
 use Rattle.rows.proofs.Kept.{AllLong}
 use Rattle.rows.proofs.Restore.{store-absent}
 use Rattle.rows.proofs.Repeat.{none-before}
 use Rattle.rules.specs.declared.Tables.{Tables}
 use Rattle.rules.specs.declared.Table.{Table}
 use Rattle.rules.specs.declared.Table.the-variants.{Creds, Aces}
-use Rattle.rules.specs.declared.Check.{Check}
 use Rattle.rules.specs.declared.Check.the-variants.{Pass}
-use Rattle.rules.specs.declared.Action.{Action}
 use Rattle.rules.specs.declared.Action.the-variants.{Store}
 use Rattle.rules.specs.Directory.{isSecurity, resourceOf}
 use Rattle.rules.specs.Record.{Request, Sender, unauthenticated, partner, sender, verb, resource, body}
-use Rattle.rules.specs.Tables.{longest, capacity, storable, rowOf, count, bytes, rows, rowsIn, rowOwner, withRows, sound, stride}
+use Rattle.rules.specs.Tables.{longest, capacity, storable, rowOf, count, rows, rowsIn, rowOwner, withRows, sound}
 use Rattle.rules.specs.Defaults.{Defaults}
-use Rattle.rules.specs.Permission.{U, has, numbered, ownRow, connectionOf, gives, isOwner, byOwner}
-use Rattle.rules.specs.Permission.{byNoOwner, byRoles, effectiveOf, effective, permission}
+use Rattle.rules.specs.Permission.{U, has, numbered, ownRow, connectionOf, gives, isOwner, byOwner, byNoOwner, byRoles, effectiveOf, effective}
+use Rattle.rules.specs.Permission.{permission}
 use Rattle.rules.specs.Action.{ifAllowed, storeRow, updateRows, updateAction, securityAction, action}
 use Rattle.rules.specs.States.{writeAllowed}
 use Rattle.rules.specs.Reading.{reads, replyOf, tooShort, holder}
-use Rattle.rules.specs.Checks.{noRow, noCredential, noEndpoint, notPermitted, offered, notOffered, senderChecks, checks, verdict}
-use Rattle.rules.specs.Outcome.{outcome, outcomeAt, outcomeOf, effect, toldTo, tablesAfter}
+use Rattle.rules.specs.Checks.{noRow, noCredential, noEndpoint, notPermitted, offered, notOffered, senderChecks, checks, verdict, numberOf}
+use Rattle.rules.specs.Outcome.{Outcome, toldTo, tablesAfter}
 use Rattle.rules.specs.Storing.{TakesRows, MayStore, AllMayStore, AllStored}
-use Rattle.rules.proofs.Bools.{and-left, and-right, or-true-right}
-use Rattle.rules.proofs.Answers.{passed, table-parts, rows-are}
+use Rattle.rules.proofs.Answers.{passed, rows-count}
 use Rattle.rules.proofs.PermissionLaws.{has-or}
 use Rattle.rules.proofs.TableLaws.{rows-with}
-use Rattle.rules.proofs.SoundKept.{SoundRows, sound-kept}
+use Rattle.rules.proofs.Refusals.{answer-is, permitted-outcome}
+use Rattle.rules.proofs.SoundKept.{SoundRows, passed-all, stored-sound, sound-kept}
 
 -- ---- permission to update
 
@@ -42,25 +41,9 @@ given clock t s n ws = has (unionOf (gives clock (ownRow t s) (connectionOf s) n
 unfoldable pub otherwise : Tables → Sender → ℕ → Bool
 otherwise t s n = (has (byOwner t (ownRow t s) n) U || has (byNoOwner t n) U) || has (byRoles (connectionOf s) n) U
 
-or-last : (a b c d : Bool) → (((a || b) || c) || d) ≡ (a || ((b || c) || d))
-or-last true b c d = refl
-or-last false b c d = refl
-
 may-parts : (clock : ℕ) (t : Tables) (s : Sender) (n : ℕ) → has (effective clock t s n) U ≡ (given clock t s n (rows Aces t) || otherwise t s n)
 unfolding effectiveOf given otherwise
-may-parts clock t s n =
-    let rights = unionOf (gives clock (ownRow t s) (connectionOf s) n) (rows Aces t) in
-    let owner = byOwner t (ownRow t s) n in
-    let anyone = byNoOwner t n in
-    let onRoles = byRoles (connectionOf s) n in
-    has-or (bitOr (bitOr rights owner) anyone) onRoles 2
-    ∙ ap (λ (b : Bool). b || has onRoles U) (has-or (bitOr rights owner) anyone 2 ∙ ap (λ (b : Bool). b || has anyone U) (has-or rights owner 2))
-    ∙ or-last (has rights U) (has owner U) (has anyone U) (has onRoles U)
-
--- without access rows it is the rest that does
-from-others : (clock : ℕ) (t : Tables) (s : Sender) (n : ℕ) → rows Aces t ≡ [] → has (effective clock t s n) U ≡ true → otherwise t s n ≡ true
-unfolding given unionOf has
-from-others clock t s n z h = ap (λ (ws : List Row). given clock t s n ws || otherwise t s n) (sym z) ∙ sym (may-parts clock t s n) ∙ h
+may-parts clock t s n = rw (has-or _ _ 2, has-or _ _ 2, has-or _ _ 2) (simp or-assoc)
 
 pub by-others : (clock : ℕ) (t : Tables) (s : Sender) (n : ℕ) → otherwise t s n ≡ true → has (effective clock t s n) U ≡ true
 by-others clock t s n h = may-parts clock t s n ∙ or-true-right (given clock t s n (rows Aces t)) (otherwise t s n) h
@@ -71,8 +54,8 @@ pub all-may : (k : Table) (t : Tables) (record-of : List ℕ → List ℕ)
     → (bs : List (List ℕ)) (qs : List Request)
     → AllLong (longest k) bs → map (λ (q : Request). q .bytes) qs ≡ map record-of bs → AllMayStore k t qs bs
 all-may k t f one [] [] l e = tt
-all-may k t f one [] (q ∷ qs) l e = absurd (let z : suc (length (map (λ (q : Request). q .bytes) qs)) ≡ 0 = ap length e in omega arith)
-all-may k t f one (b ∷ bs) [] l e = absurd (let z : 0 ≡ suc (length (map f bs)) = ap length e in omega arith)
+all-may k t f one [] (q ∷ qs) l e = absurd (omega (arith, ap length e))
+all-may k t f one (b ∷ bs) [] l e = absurd (omega (arith, ap length e))
 all-may k t f one (b ∷ bs) (q ∷ qs) l e =
     (one q b (l .0) (ap (λ (x : List (List ℕ)). getD x 0 []) e), all-may k t f one bs qs (l .1) (ap (drop 1) e))
 
@@ -86,26 +69,25 @@ same-state : (k : Table) (t v : Tables) → SameBut k v t → v .state ≡ t .st
 same-state Creds t v e = ap (λ (x : Tables). x .state) e
 same-state Aces t v e = ap (λ (x : Tables). x .state) e
 
-none-known : (t : Tables) (m : ℕ) → rows Creds t ≡ [] → noRow t (partner m) ≡ false → ⊥
+-- where there are no credential rows, none but the unauthenticated is known
+none-known : (t : Tables) (s : Sender) → rows Creds t ≡ [] → noRow t s ≡ false → s ≡ unauthenticated
 unfolding some
-none-known t m z h = true≢false (ap (λ (ws : List Row). not (some (numbered m) ws)) (sym z) ∙ h)
+none-known t unauthenticated z h = refl
+none-known t (partner m) z h = contradiction (ap (λ (ws : List Row). not (some (numbered m) ws)) z) h
 
 known-still : (k : Table) (t v : Tables) (s : Sender) → rows k t ≡ [] → SameBut k v t → noRow t s ≡ false → noRow v s ≡ false
-known-still k t v unauthenticated z e h = refl
-known-still Creds t v (partner m) z e h = absurd (none-known t m z h)
+known-still Creds t v s z e h = rw (none-known t s z h)
+known-still Aces t v unauthenticated z e h = refl
 known-still Aces t v (partner m) z e h = ap (λ (x : Tables). noRow x (partner m)) e ∙ h
-
-otherwise-same : (t v : Tables) (s : Sender) (n : ℕ) → SameBut Aces v t → otherwise v s n ≡ otherwise t s n
-unfolding otherwise byOwner isOwner byNoOwner rowOwner
-otherwise-same t v unauthenticated n e = ap (λ (x : Tables). otherwise x unauthenticated n) e
-otherwise-same t v (partner m) n e = ap (λ (x : Tables). otherwise x (partner m) n) e
 
 may-still : (k : Table) (t v : Tables) (clock : ℕ) (s : Sender) (n : ℕ)
     → rows k t ≡ [] → SameBut k v t → noRow t s ≡ false → has (effective clock t s n) U ≡ true → has (effective clock v s n) U ≡ true
-unfolding effectiveOf byOwner isOwner byNoOwner rowOwner
-may-still Creds t v clock unauthenticated n z e known h = ap (λ (x : Tables). has (effective clock x unauthenticated n) U) e ∙ h
-may-still Creds t v clock (partner m) n z e known h = absurd (none-known t m z known)
-may-still Aces t v clock s n z e known h = by-others clock v s n (otherwise-same t v s n e ∙ from-others clock t s n z h)
+unfolding effectiveOf byOwner isOwner byNoOwner rowOwner otherwise given unionOf has
+may-still Creds t v clock s n z e known h =
+    rw (none-known t s z known) (ap (λ (x : Tables). has (effective clock x unauthenticated n) U) e ∙ rw (none-known t s z known) at h)
+may-still Aces t v clock s n z e known h =
+    -- without access rows it is the rest that gives it
+    by-others clock v s n (ap (λ (x : Tables). otherwise x s n) e ∙ rw (may-parts clock t s n, z) at h)
 
 -- ---- one row
 
@@ -114,13 +96,6 @@ record Holding (k : Table) (t v : Tables) (held : List Row) : Type 0 where
   isSound : sound v ≡ true
   holds : rows k v ≡ held
   others : SameBut k v t
-
--- a body for one row more
-record NewRow (k : Table) (held : List Row) (b : List ℕ) : Type 0 where
-  long : length b ≡ longest k
-  fits : storable k (rowOf k b) ≡ true
-  room : length held < capacity k
-  alone : some (numberedAs (rowOf k b)) held ≡ false
 
 pub holder-security : (k : Table) → isSecurity (holder k) ≡ true
 unfolding resourceOf
@@ -139,118 +114,65 @@ rows-over Aces v ws = refl
 
 module _ (d : Defaults) (k : Table) (t v : Tables) (held : List Row) (b : List ℕ) (q : Request)
     (none : rows k t ≡ []) (takes : writeAllowed (t .state) 2 ≡ true)
-    (at : Holding k t v held) (new : NewRow k held b) (m : MayStore k t q b) where
-  abbrev r : List ℕ
-  r = q .bytes
+    (at : Holding k t v held) (m : MayStore k t q b)
+    (long : length b ≡ longest k) (after : List Row) (x : SoundRows k (held ++ (rowOf k b ∷ after))) where
+  stores-row : action (q .bytes) ≡ Store k
+  unfolding every
+  stores-row =
+      row-action k (q .bytes) b (m .updates) (m .on) (m .carries) long
+      (and-left (storable k (rowOf k b)) _ (and-right (every (storable k) held) _ (rw every-append at (x .stores))))
 
-  abbrev w : Row
-  w = rowOf k b
+  stored-last : stored (rowOf k b) held ≡ held ++ (rowOf k b ∷ [])
+  stored-last = store-absent (rowOf k b) held (none-before held _ after (x .apart))
 
-  credential-held : noRow t (sender r) ≡ false
-  unfolding noCredential
-  credential-held = passed (senderChecks t r) (m .passes) 7
-
-  credential-good : noCredential v r ≡ false
-  unfolding noCredential
-  credential-good = known-still k t v (sender r) none (at .others) credential-held
-
-  endpoint-good : noEndpoint r ≡ false
-  unfolding noEndpoint
-  endpoint-good = rw (m .on, holder-security k)
-
-  permission-good : notPermitted (permission (q .clock) v r) r ≡ false
-  unfolding notPermitted permission
-  permission-good = rw (m .updates) (ap not (may-still k t v (q .clock) (sender r) (resource r) none (at .others) credential-held (m .may)))
-
-  offer-good : notOffered r ≡ false
-  unfolding notOffered offered
-  offer-good = rw (m .on, holder-security k, m .updates)
-
-  stores-row : action r ≡ Store k
-  stores-row = row-action k r b (m .updates) (m .on) (m .carries) (new .long) (new .fits)
-
-  state-good : writeAllowed (v .state) 2 ≡ true
-  state-good = ap (λ (s : ℕ). writeAllowed s 2) (same-state k t v (at .others)) ∙ takes
-
-  table-room : leb (capacity k) (count k v) ≡ false
-  table-room =
-      lt-leb (capacity k) (count k v)
-      (omega (arith, ap length (sym (rows-are k v (at .isSound)) ∙ at .holds), length-rowsOf (stride k) (count k v) (bytes k v), new .room))
-
-  room-good : tooShort v q ≡ false
-  unfolding tooShort replyOf reads
-  room-good = rw (m .updates) (le-ltb (q .room) 0 (omega arith))
-
-  row-permitted : verdict (checks v (permission (q .clock) v r) q) ≡ Pass
-  unfolding verdict
+  row-permitted : verdict (checks v (permission (q .clock) v (q .bytes)) q) ≡ Pass
+  unfolding verdict noCredential noEndpoint permission notPermitted notOffered offered tooShort replyOf reads
   row-permitted =
+      let r = q .bytes in
+      let known : noRow t (sender r) ≡ false = passed (senderChecks t r) (m .passes) 7 in
+      let room : count k v < capacity k = omega (arith, rows-count k v (at .isSound), ap length (at .holds), rw length-append at (x .few)) in
       rw (
-        room-good,
+        stores-row,
         at .isSound,
         passed (senderChecks t r) (m .passes) 2,
         passed (senderChecks t r) (m .passes) 3,
         passed (senderChecks t r) (m .passes) 4,
         passed (senderChecks t r) (m .passes) 5,
         passed (senderChecks t r) (m .passes) 6,
-        credential-good,
-        endpoint-good,
-        permission-good,
-        offer-good,
-        stores-row,
-        state-good,
-        table-room,
+        known-still k t v (sender r) none (at .others) known,
+        m .updates,
+        may-still k t v (q .clock) (sender r) (resource r) none (at .others) known (m .may),
+        m .on,
+        holder-security k,
+        lt-leb (capacity k) (count k v) room,
+        le-ltb (q .room) 0 (omega arith),
+        same-state k t v (at .others),
+        takes,
       )
 
   answer-0 : toldTo d v q .answer ≡ 0
-  unfolding outcome outcomeAt
-  answer-0 = ap (λ (c : Check). outcomeOf d v (permission (q .clock) v r) q c .told .answer) row-permitted
+  answer-0 = answer-is d v q ∙ ap numberOf row-permitted
 
   -- the row is the last
-  row-last : tablesAfter d v q ≡ withRows k v (held ++ (w ∷ []))
-  unfolding outcome outcomeAt
+  row-last : tablesAfter d v q ≡ withRows k v (held ++ (rowOf k b ∷ []))
   row-last =
-      ap (λ (c : Check). outcomeOf d v (permission (q .clock) v r) q c .tables) row-permitted
-      ∙ ap (λ (a : Action). effect d (q .clock) v r a) stores-row
-      ∙ ap (withRows k v) (ap₂ (λ (x : Row) (xs : List Row). stored x xs) (ap (rowOf k) (m .carries)) (at .holds) ∙ store-absent w held (new .alone))
+      ap (λ (o : Outcome). o .tables) (permitted-outcome d v q answer-0)
+      ∙ rw (stores-row, m .carries, at .holds, stored-last)
 
-  all-storable : every (storable k) (held ++ (w ∷ [])) ≡ true
-  unfolding every
-  all-storable =
-      every-append (storable k) held (w ∷ [])
-      ∙ rw (ap (every (storable k)) (sym (at .holds)) ∙ table-parts k v (at .isSound) .stores, new .fits)
+  others-same : SameBut k (tablesAfter d v q) v
+  others-same = rw row-last (rows-over k v (held ++ (rowOf k b ∷ [])))
 
-  holding-more : Holding k t (tablesAfter d v q) (held ++ (w ∷ []))
-  holding-more = record {
-    isSound = sound-kept d v q (at .isSound);
-    holds = ap (rows k) row-last ∙ rows-with k v (held ++ (w ∷ [])) (rw length-append (omega (arith, new .room))) all-storable;
-    others = ap (λ (x : Tables). withRows k x []) row-last ∙ rows-over k v (held ++ (w ∷ [])) ∙ at .others;
-  }
+  holding-more : Holding k t (tablesAfter d v q) (held ++ (rowOf k b ∷ []))
+  holding-more =
+      let p = rw stores-row at (passed-all v _ q row-permitted) in
+      let y = rw (m .carries, at .holds, stored-last) at (stored-sound k v q (at .isSound) p) in
+      record {
+        isSound = sound-kept d v q (at .isSound);
+        holds = rw row-last (rows-with k v _ (y .few) (y .stores));
+        others = others-same ∙ at .others;
+      }
 
 -- ---- the rows, one straight after the other
-
--- the next of rows that a sound table may hold
-next-row : (k : Table) (held : List Row) (b : List ℕ) (bs : List (List ℕ))
-    → length b ≡ longest k → SoundRows k (held ++ (rowOf k b ∷ map (rowOf k) bs)) → NewRow k held b
-unfolding every
-next-row k held b bs l x =
-    let w = rowOf k b in
-    let ws = map (rowOf k) bs in
-    record {
-      long = l;
-      fits =
-          and-left (storable k w) (every (storable k) ws)
-          (and-right (every (storable k) held) _ (sym (every-append (storable k) held (w ∷ ws)) ∙ x .stores));
-      room = omega (arith, length-append held (w ∷ ws), x .few);
-      alone = none-before held w ws (x .apart);
-    }
-
-store-more : (d : Defaults) (k : Table) (v : Tables) (q : Request) (qs : List Request) (held ws : List Row)
-    → toldTo d v q .answer ≡ 0 → tablesAfter d v q ≡ withRows k v held → AllStored d k (tablesAfter d v q) qs ws → AllStored d k v (q ∷ qs) ws
-store-more d k v q qs held ws a e l = record {
-  permitted = ap₂ (λ (x : ℕ) (xs : List ℕ). x ∷ xs) a (l .permitted);
-  held = l .held;
-  others = l .others ∙ ap (λ (x : Tables). withRows k x []) e ∙ rows-over k v held;
-}
 
 module _ (d : Defaults) (k : Table) (t : Tables) (none : rows k t ≡ []) (takes : writeAllowed (t .state) 2 ≡ true) where
   store : (v : Tables) (held : List Row) (bs : List (List ℕ)) (qs : List Request)
@@ -260,14 +182,15 @@ module _ (d : Defaults) (k : Table) (t : Tables) (none : rows k t ≡ []) (takes
   store v held [] (q ∷ qs) at l x m = absurd m
   store v held (b ∷ bs) [] at l x m = absurd m
   store v held (b ∷ bs) (q ∷ qs) at l x m =
-      let w = rowOf k b in
-      let a = append-assoc held (w ∷ []) (map (rowOf k) bs) in
-      let new = next-row k held b bs (l .0) x in
-      store-more d k v q qs (held ++ (w ∷ [])) (held ++ (w ∷ map (rowOf k) bs))
-      (answer-0 d k t v held b q none takes at new (m .0))
-      (row-last d k t v held b q none takes at new (m .0))
-      (subst (AllStored d k (tablesAfter d v q) qs) a
-      (store (tablesAfter d v q) (held ++ (w ∷ [])) bs qs (holding-more d k t v held b q none takes at new (m .0)) (l .1) (rw a x) (m .1)))
+      let a = append-assoc held (rowOf k b ∷ []) (map (rowOf k) bs) in
+      let ws = map (rowOf k) bs in
+      let next = holding-more d k t v held b q none takes at (m .0) (l .0) ws x in
+      let more = rw a at (store (tablesAfter d v q) (held ++ (rowOf k b ∷ [])) bs qs next (l .1) (rw a x) (m .1)) in
+      record {
+        permitted = ap₂ (λ (n : ℕ) (ns : List ℕ). n ∷ ns) (answer-0 d k t v held b q none takes at (m .0) (l .0) ws x) (more .permitted);
+        held = more .held;
+        others = more .others ∙ others-same d k t v held b q none takes at (m .0) (l .0) ws x;
+      }
 
 pub none-held : (k : Table) (t : Tables) → count k t ≡ 0 → rows k t ≡ []
 unfolding rowsIn rowsOf
@@ -277,11 +200,8 @@ none-held Aces t z = rw z
 -- into a table without credential rows none but the unauthenticated may store one: a partner without a row gets 7
 pub creds-in-clear : (t : Tables) (q : Request) (b : List ℕ) → TakesRows Creds t → MayStore Creds t q b → sender (q .bytes) ≡ unauthenticated
 unfolding noCredential
-creds-in-clear t q b takes m = go (sender (q .bytes)) (passed (senderChecks t (q .bytes)) (m .passes) 7)
-  where
-    go : (s : Sender) → noRow t s ≡ false → s ≡ unauthenticated
-    go unauthenticated h = refl
-    go (partner n) h = absurd (none-known t n (none-held Creds t (takes .noRows)) h)
+creds-in-clear t q b takes m =
+    none-known t (sender (q .bytes)) (none-held Creds t (takes .noRows)) (passed (senderChecks t (q .bytes)) (m .passes) 7)
 
 -- records that may store the bodies are permitted throughout, and leave their rows
 pub all-stored : (d : Defaults) (k : Table) (t : Tables) (bs : List (List ℕ)) (qs : List Request)

@@ -1,27 +1,24 @@
 -- Theorems, U3: a permitted DELETE of cred with 16 bytes leaves exactly the rows without that subject, in their order, and all else as it was.
 -- 13 where no row has it. Of a record at any clock, with any buffer and for any default lists, and for every subject.
-use Rattle.rows.proofs.Prelude.{_≡_, refl, sym, ap, _∙_, Bool, true, false, not, _&&_, cond, List, [], _∷_, _++_, ℕ, length, take, drop, eqb}
+use Rattle.rows.proofs.Prelude.{_≡_, refl, sym, ap, _∙_, Bool, true, false, cond, List, _++_, ℕ, length, take, drop, bool-cases, contradiction}
 use mathlib.Core.List.{List·Memᴰ, Sublistᴰ}
 use Rattle.rows.specs.Rows.{Row, same, some, without, hasKey}
 use Rattle.rows.proofs.Kept.{same-true, same-refl}
 use Rattle.rows.proofs.Without.{without-order, without-gone, without-left}
 use Rattle.rules.specs.declared.Tables.{Tables}
 use Rattle.rules.specs.declared.Table.the-variants.{Creds}
-use Rattle.rules.specs.declared.Action.{Action}
 use Rattle.rules.specs.declared.Action.the-variants.{Remove}
-use Rattle.rules.specs.declared.Check.{Check}
-use Rattle.rules.specs.declared.Check.the-variants.{Pass, Refuse}
-use Rattle.rules.specs.Record.{Request, verb, body}
+use Rattle.rules.specs.declared.Check.the-variants.{Pass}
+use Rattle.rules.specs.Record.{Request, body}
 use Rattle.rules.specs.Bodies.{isNil, credSubject, hasSubject}
 use Rattle.rules.specs.Tables.{rows, withRows}
 use Rattle.rules.specs.Defaults.{Defaults}
 use Rattle.rules.specs.Permission.{permission}
 use Rattle.rules.specs.Action.{ifAllowed, deleteCreds, action}
-use Rattle.rules.specs.Reading.{reads, tooShort}
+use Rattle.rules.specs.Reading.{reads}
 use Rattle.rules.specs.Places.{deletes}
-use Rattle.rules.specs.Checks.{checks, verdict, numberOf, isMalformed, missing, formChecks, requestChecks, stateChecks, rowChecks, roomChecks}
+use Rattle.rules.specs.Checks.{verdict, numberOf, isMalformed, formChecks, requestChecks, stateChecks, rowChecks, roomChecks}
 use Rattle.rules.specs.Outcome.{toldTo, tablesAfter}
-use Rattle.rules.proofs.Bools.{cond-cases, contradiction}
 use Rattle.rules.proofs.Answers.{passed, no-reply-fits}
 use Rattle.rules.proofs.CheckLaws.{skip-all}
 use Rattle.rules.proofs.TableLaws.{rows-with}
@@ -50,38 +47,15 @@ key-subject : (s : List ℕ) → length s ≡ 16 → hasKey 2 s ≡ hasSubject s
 unfolding hasKey
 key-subject s l = let f : ℕ → Row → Bool = λ n w. same (take n (drop 2 w)) s in ap f l
 
-by-subject : (b : List ℕ) → length b ≡ 16 → deleteCreds b ≡ ifAllowed (not (isNil b)) (Remove Creds 2)
-unfolding deleteCreds
-by-subject b l = rw l
-
-subject-is : (b : List ℕ) → length b ≡ 16 → isMalformed (deleteCreds b) ≡ false → deleteCreds b ≡ Remove Creds 2
-unfolding ifAllowed
-subject-is b l m =
-    by-subject b l
-    ∙ cond-cases (λ (a : Action). isMalformed a ≡ false → a ≡ Remove Creds 2) (not (isNil b)) (λ _ _. refl) (λ _ h. contradiction refl h)
-    (ap isMalformed (sym (by-subject b l)) ∙ m)
+by-subject : (b : List ℕ) → length b ≡ 16 → isMalformed (deleteCreds b) ≡ false → deleteCreds b ≡ Remove Creds 2
+unfolding deleteCreds ifAllowed
+by-subject b l m = bool-cases (isNil b) (λ e. contradiction refl (rw (l, e) at m)) (λ e. rw (l, e))
 
 other-subject : (s : List ℕ) (w : Row) → (credSubject w ≡ s → ⊥) → hasSubject s w ≡ false
-other-subject s w other = go (hasSubject s w) refl
-  where
-    go : (b : Bool) → hasSubject s w ≡ b → b ≡ false
-    go true e = absurd (other (same-true (credSubject w) s e))
-    go false e = refl
+other-subject s w other = bool-cases (hasSubject s w) (λ e. absurd (other (same-true (credSubject w) s e))) (λ e. e)
 
 has-own : (s : List ℕ) (w : Row) → credSubject w ≡ s → hasSubject s w ≡ true
 has-own s w e = rw e (same-refl s)
-
--- ---- the checks from 13 on
-
-delete-unread : (r : List ℕ) → verb r ≡ 3 → reads r ≡ false
-unfolding reads
-delete-unread r v = rw v
-
-last-checks : (m short found : Bool) → m ≡ not found → short ≡ false
-    → verdict ((13, m) ∷ (14, false) ∷ (22, false) ∷ (15, short) ∷ []) ≡ cond found Pass (Refuse 13)
-unfolding verdict
-last-checks m short true e f = rw (e, f)
-last-checks m short false e f = rw e
 
 -- ---- of a record
 
@@ -91,12 +65,11 @@ module _ (d : Defaults) (t : Tables) (q : Request) (asks : deletes Creds (q .byt
       let b = body (q .bytes) in
       let x = deleted d t q Creds asks z in
       let is-delete = delete-is Creds (q .bytes) asks in
-      let by : Remove Creds (x .at) ≡ Remove Creds 2 = sym (x .is) ∙ is-delete ∙ subject-is b long (ap isMalformed (sym is-delete ∙ x .is)) in
+      let by : Remove Creds (x .at) ≡ Remove Creds 2 = sym (x .is) ∙ is-delete ∙ by-subject b long (ap isMalformed (sym is-delete ∙ x .is)) in
       let at : x .at ≡ 2 = cc in
-      let goes : hasKey (x .at) b ≡ hasSubject b = ap (λ (n : ℕ). hasKey n b) at ∙ key-subject b long in
       let s = removed-sound Creds t (hasSubject b) (x .sound) in
       let ws = without (hasSubject b) (rows Creds t) in
-      let is : tablesAfter d t q ≡ withRows Creds t ws = x .tables ∙ ap (λ (g : Row → Bool). withRows Creds t (without g (rows Creds t))) goes in
+      let is : tablesAfter d t q ≡ withRows Creds t ws = x .tables ∙ rw (at, key-subject b long) in
       let are : rows Creds (tablesAfter d t q) ≡ ws = ap (rows Creds) is ∙ rows-with Creds t ws (s .few) (s .stores) in
       record {
         rows-left = are;
@@ -109,19 +82,16 @@ module _ (d : Defaults) (t : Tables) (q : Request) (asks : deletes Creds (q .byt
   -- where the earlier checks pass: 0 where a row has the subject, and else 13
   pub subject-answer : noneApplies (earlier t (permission (q .clock) t (q .bytes)) (q .bytes)) ≡ true
       → toldTo d t q .answer ≡ cond (some (hasSubject (body (q .bytes))) (rows Creds t)) 0 13
+  unfolding reads verdict
   subject-answer h =
       let r = q .bytes in
       let b = body r in
       let p = permission (q .clock) t r in
       let some-has = some (hasSubject b) (rows Creds t) in
       let e : verdict (earlier t p r) ≡ Pass = none-permitted (earlier t p r) h in
+      let unread : reads r ≡ false = rw (delete-verb Creds r asks) in
       let is-delete = delete-is Creds r asks in
-      let i : action r ≡ Remove Creds 2 = is-delete ∙ subject-is b long (ap isMalformed (sym is-delete) ∙ passed (earlier t p r) e 10) in
-      let m : missing t b (Remove Creds 2) ≡ not some-has =
-      ap (λ (n : ℕ). not (eqb n 0) && not (some (hasKey 2 b) (rows Creds t))) long
-      ∙ ap (λ (g : Row → Bool). not (some g (rows Creds t))) (key-subject b long) in
-      let v : verdict (checks t p q) ≡ cond some-has Pass (Refuse 13) =
-      sym (skip-all (earlier t p r) (rowChecks (q .clock) t r (action r) ++ roomChecks t q) refl e refl)
-      ∙ ap (λ (a : Action). verdict (rowChecks (q .clock) t r a ++ roomChecks t q)) i
-      ∙ last-checks (missing t b (Remove Creds 2)) (tooShort t q) some-has m (no-reply-fits t q (delete-unread r (delete-verb Creds r asks))) in
-      answer-is d t q ∙ ap numberOf v ∙ cond-cases (λ (c : Check). numberOf c ≡ cond some-has 0 13) some-has (λ x. rw x) (λ x. rw x)
+      let i : action r ≡ Remove Creds 2 = is-delete ∙ by-subject b long (ap isMalformed (sym is-delete) ∙ passed (earlier t p r) e 10) in
+      answer-is d t q
+      ∙ ap numberOf (sym (skip-all (earlier t p r) (rowChecks (q .clock) t r (action r) ++ roomChecks t q) refl e refl))
+      ∙ rw (i, long, key-subject b long, no-reply-fits t q unread) (bool-cases some-has (λ x. rw x) (λ x. rw x))

@@ -1,8 +1,7 @@
 -- Theorems, U4: what a permitted DELETE reports, and what it leaves in the memory that wears; everything else reports 0 and 0.
 -- Of a record at any clock, with any buffer and for any default lists. The bytes' length is that which the struct's type gives.
-use Rattle.rows.proofs.Prelude.{_≡_, refl, sym, ap, _∙_, Bool, true, false, List, [], _∷_, ℕ, _+_, _*_, _≤_, _<_, arith, length, take, drop}
+use Rattle.rows.proofs.Prelude.{_≡_, refl, sym, ap, _∙_, Bool, true, false, List, [], _∷_, ℕ, _+_, _*_, _≤_, _<_, arith, length, take, drop, cond-cases}
 use Rattle.rows.specs.Rows.{Row, some, without, hasKey, numberAt}
-use Rattle.rows.proofs.Laws.{length-rowsOf}
 use Rattle.rows.proofs.Gap as gap
 use Rattle.rules.specs.declared.Tables.{Tables}
 use Rattle.rules.specs.declared.Places.{Places}
@@ -12,8 +11,7 @@ use Rattle.rules.specs.Tables.{stride, capacity, count, bytes, rows, wit
 use Rattle.rules.specs.Defaults.{Defaults}
 use Rattle.rules.specs.Places.{nowhere, gapOf, deletes, overwritten}
 use Rattle.rules.specs.Outcome.{Told, Outcome, toldTo, tablesAfter}
-use Rattle.rules.proofs.Bools.{cond-cases}
-use Rattle.rules.proofs.Answers.{rows-are}
+use Rattle.rules.proofs.Answers.{rows-count}
 use Rattle.rules.proofs.TableLaws.{rows-with}
 use Rattle.rules.proofs.SoundKept.{removed-sound}
 use Rattle.rules.proofs.Refusals.{not-told, permitted-outcome}
@@ -40,9 +38,6 @@ pub record Worn (k : Table) (t t′ : Tables) (p : Places) : Type 0 where
   pub others : t′ ≡ withRows k t (rows k t′)
 
 -- ---- rows that go
-
-held : (k : Table) (t : Tables) → sound t ≡ true → length (rows k t) ≡ count k t
-held k t h = ap length (rows-are k t h) ∙ length-rowsOf (stride k) (count k t) (bytes k t)
 
 -- they end with the last row, also where there is none
 gap-ends : (goes : Row → Bool) (ws : List Row) → (some goes ws ≡ false → ws ≡ []) → gapOf goes ws .first + gapOf goes ws .many ≡ length ws
@@ -71,7 +66,7 @@ delete-worn d t q k h z l =
       stored = gaps.bytes-stored k t goes (x .sound) l;
       front = gaps.bytes-kept k t goes (x .sound) l;
       rest = gaps.bytes-rest k t goes (x .sound) l;
-      ends = gap-ends goes (rows k t) (x .none) ∙ held k t (x .sound);
+      ends = gap-ends goes (rows k t) (x .none) ∙ rows-count k t (x .sound);
       changed = gaps.places-changed k t goes (x .sound) l;
       before = gaps.places-before k t goes (x .sound) l;
       behind = gaps.places-after k t goes (x .sound) l;
@@ -94,7 +89,7 @@ no-places d t q = record {
   no-delete = λ other. places-unless d t q (λ z. ap (λ (o : Outcome). o .told .places) (permitted-outcome d t q z) ∙ quiet t (q .bytes) other);
   no-rows = λ k h same. places-unless d t q (λ z.
       let x = deleted d t q k h z in
-      let ws = without (hasKey (x .at) (body (q .bytes))) (rows k t) in
+      let goes = hasKey (x .at) (body (q .bytes)) in
       x .places
-      ∙ gap-none (hasKey (x .at) (body (q .bytes))) (rows k t) (sym (with-count k t ws) ∙ ap (count k) (sym (x .tables)) ∙ same ∙ sym (held k t (x .sound))));
+      ∙ gap-none goes (rows k t) (sym (with-count k t (without goes (rows k t))) ∙ ap (count k) (sym (x .tables)) ∙ same ∙ sym (rows-count k t (x .sound))));
 }

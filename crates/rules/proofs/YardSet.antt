@@ -1,7 +1,7 @@
 -- Theorems, U9: the set that a permitted RETRIEVE or UPDATE of /yard answers holds exactly those of 8 to 14 whose own record gets answer 0.
 -- Every other record has the empty set and size 0. Of a record at any clock, with any buffer and for any default lists.
-use Rattle.rows.proofs.Prelude.{_≡_, refl, sym, ap, ap₂, _∙_, Bool, true, false, _&&_, and-false, List, [], _∷_, _++_, ℕ, _+_, _*_, _/_, _%_, _^_, _≤_, _<_}
-use Rattle.rows.proofs.Prelude.{le-trans, arith, length, eqb, leb, ltb, ones, onesIn, le-leb, leb-true}
+use Rattle.rows.proofs.Prelude.{_≡_, refl, sym, ap, ap₂, _∙_, Bool, true, false, _&&_, and-false, List, _++_, ℕ, _+_, _*_, _/_, _%_, _^_, _≤_, _<_, le-trans}
+use Rattle.rows.proofs.Prelude.{arith, length, eqb, leb, ones, onesIn, le-leb, leb-true, bool-cases}
 use lib.Dec.{leb·suc-suc}
 use Rattle.rules.specs.declared.Tables.{Tables}
 use Rattle.rules.specs.declared.Links.{Links}
@@ -10,10 +10,9 @@ use Rattle.rules.specs.Bits.{word}
 use Rattle.rules.specs.Record.{Request, received, verb, connection, resource, credential}
 use Rattle.rules.specs.Defaults.{Defaults}
 use Rattle.rules.specs.Permission.{permission}
-use Rattle.rules.specs.Action.{action}
 use Rattle.rules.specs.Reading.{reads}
 use Rattle.rules.specs.Links.{ownRecord, permits, setOf, asksLinks, linkSet, linksOf, noLinks, inLinks, countBelow}
-use Rattle.rules.specs.Checks.{checks, formChecks, askedChecks, verdict, isPass}
+use Rattle.rules.specs.Checks.{checks}
 use Rattle.rules.specs.Outcome.{Told, Outcome, toldTo}
 use Rattle.rules.proofs.Answers.{passed, long-enough, no-reply-fits}
 use Rattle.rules.proofs.BodyLaws.{security-number}
@@ -38,24 +37,15 @@ pub record YardSet (d : Defaults) (t : Tables) (q : Request) : Type 0 where
 -- ---- a link's own record
 
 link-plain : (n : ℕ) → leb 8 n ≡ true → isSecurity n ≡ false
-link-plain n h = go (isSecurity n) refl
-  where
-    go : (b : Bool) → isSecurity n ≡ b → b ≡ false
-    go true e = absurd (omega (arith, security-number n e, leb-true 8 n h))
-    go false e = refl
+link-plain n h = bool-cases (isSecurity n) (λ e. absurd (omega (arith, security-number n e, leb-true 8 n h))) (λ e. e)
 
--- a record that is not read gets answer 0 where it is permitted with no buffer, whatever its buffer
-permits-zero : (clock : ℕ) (t : Tables) (r : List ℕ) → reads r ≡ false → (d : Defaults) (room : ℕ)
+-- a record for an application resource gets answer 0 where it is permitted with no buffer, whatever its buffer
+permits-zero : (clock : ℕ) (t : Tables) (r : List ℕ) → isSecurity (resource r) ≡ false → (d : Defaults) (room : ℕ)
     → permits clock t r ≡ eqb (toldTo d t (received clock r room) .answer) 0
-unfolding permits
-permits-zero clock t r unread d room =
-    ap (λ (b : Bool). isPass (verdict (formChecks t r ++ askedChecks clock t (permission clock t r) r (action r) ++ (15, b) ∷ [])))
-    (no-reply-fits t (received clock r 0) unread ∙ sym (no-reply-fits t (received clock r room) unread))
-    ∙ sym (zero-passes d t (received clock r room))
-
-served-unread : (r : List ℕ) → isSecurity (resource r) ≡ false → reads r ≡ false
-unfolding reads
-served-unread r a = rw (a, and-false)
+unfolding permits reads
+permits-zero clock t r plain d room =
+    let unread : reads r ≡ false = rw (plain, and-false) in
+    rw (zero-passes d t (received clock r room), no-reply-fits t (received clock r 0) unread, no-reply-fits t (received clock r room) unread)
 
 own-any-body : (r : List ℕ) (n : ℕ) (b : List ℕ) → length b ≤ 252 → isSecurity (resource (ownRecord r n)) ≡ false → (d : Defaults) (t : Tables) (clock room : ℕ)
     → toldTo d t (received clock (ownRecord r n ++ b) room) .answer ≡ toldTo d t (received clock (ownRecord r n) room) .answer
@@ -64,35 +54,27 @@ own-any-body r n b few plain = any-body (verb r * 32 + connection r * 16 + n / 4
 
 -- 8 to 14
 from-8 : (n : ℕ) {b c : Bool} → (leb 8 n ≡ true → b ≡ c) → (within 8 7 n && b) ≡ (leb 8 n && leb n 14 && c)
-from-8 n {b} {c} h = go (leb 8 n) h
-  where
-    go : (low : Bool) → (low ≡ true → b ≡ c) → ((low && ltb n 15) && b) ≡ ((low && leb n 14) && c)
-    go true h = ap₂ (λ (x y : Bool). x && y) (leb·suc-suc n 14) (h refl)
-    go false h = refl
+from-8 n h = bool-cases (leb 8 n) (λ e. rw e (ap₂ (λ (x y : Bool). x && y) (leb·suc-suc n 14) (h e))) (λ e. rw e)
 
 -- ---- of a record
 
--- the links are seven from 8 on
-asked-set : (clock : ℕ) (t : Tables) (r : List ℕ) → asksLinks r ≡ true → linkSet clock t r ≡ setOf (λ n. permits clock t (ownRecord r n)) (from 8 7)
-unfolding linkSet
-asked-set clock t r a = rw a
-
 pub yard-set : (d : Defaults) (t : Tables) (q : Request) → asksLinks (q .bytes) ≡ true → toldTo d t q .answer ≡ 0 → YardSet d t q
+unfolding linkSet
 yard-set d t q asks z =
     let r = q .bytes in
     let passes : ℕ → Bool = λ n. permits (q .clock) t (ownRecord r n) in
-    let e = permitted-passes d t q z in
-    let l = long-enough r (passed (checks t (permission (q .clock) t r) q) e 2) in
+    let l = long-enough r (passed (checks t (permission (q .clock) t r) q) (permitted-passes d t q z) 2) in
     let plain : (n : ℕ) → n < 64 → leb 8 n ≡ true → isSecurity (resource (ownRecord r n)) ≡ false =
     λ n h m. ap (λ (i : ℕ). isSecurity i) (own r n l h .resource-is) ∙ link-plain n m in
     let are : toldTo d t q .links ≡ linksOf (q .clock) t r = ap (λ (o : Outcome). o .told .links) (permitted-outcome d t q z) in
-    let is : toldTo d t q .links .set ≡ setOf passes (from 8 7) = ap (λ (x : Links). x .set) are ∙ asked-set (q .clock) t r asks in
+    -- the links are seven from 8 on
+    let is : toldTo d t q .links .set ≡ setOf passes (from 8 7) = ap (λ (x : Links). x .set) are ∙ rw asks in
     let small : toldTo d t q .links .set < 2 ^ 64 = rw is (le-trans (set-below passes 7 7 (omega arith)) (omega arith)) in
     record {
       member = λ n h d′ room.
           ap (λ (x : ℕ). inLinks x n) is
           ∙ in-set passes 8 7 (omega arith) n h
-          ∙ from-8 n (λ m. permits-zero (q .clock) t (ownRecord r n) (served-unread (ownRecord r n) (plain n h m)) d′ room);
+          ∙ from-8 n (λ m. permits-zero (q .clock) t (ownRecord r n) (plain n h m) d′ room);
       own = λ n h. own r n l h;
       with-body = λ n h m b few d′ room. own-any-body r n b few (plain n h (le-leb 8 n m)) d′ t (q .clock) room;
       fits = small;
@@ -104,15 +86,12 @@ pub record NoSet (d : Defaults) (t : Tables) (q : Request) : Type 0 where
   pub refused : (toldTo d t q .answer ≡ 0 → ⊥) → toldTo d t q .links ≡ noLinks
   pub other : asksLinks (q .bytes) ≡ false → toldTo d t q .links ≡ noLinks
 
-not-asked : (clock : ℕ) (t : Tables) (r : List ℕ) → asksLinks r ≡ false → linksOf clock t r ≡ noLinks
-unfolding linkSet ones onesIn
-not-asked clock t r a = rw a
-
 links-unless : (d : Defaults) (t : Tables) (q : Request) → (toldTo d t q .answer ≡ 0 → toldTo d t q .links ≡ noLinks) → toldTo d t q .links ≡ noLinks
 links-unless d t q = not-told (λ (x : Told). x .links) noLinks d t q (λ n. refl)
 
 pub no-set : (d : Defaults) (t : Tables) (q : Request) → NoSet d t q
+unfolding linkSet ones onesIn
 no-set d t q = record {
   refused = λ other. links-unless d t q (λ z. absurd (other z));
-  other = λ a. links-unless d t q (λ z. ap (λ (o : Outcome). o .told .links) (permitted-outcome d t q z) ∙ not-asked (q .clock) t (q .bytes) a);
+  other = λ a. links-unless d t q (λ z. ap (λ (o : Outcome). o .told .links) (permitted-outcome d t q z) ∙ rw a);
 }

@@ -1,6 +1,6 @@
 -- Demand 3 is not empty: a run for which the premise of 'The others alone' holds, though the chosen senders do write.
 -- What everybody is answered, and what the theorem says of it.
-use Rattle.rows.proofs.Prelude.{_≡_, refl, Bool, true, false, not, _&&_, List, [], _∷_, map, eqb, eqb-true, not-true}
+use Rattle.rows.proofs.Prelude.{_≡_, refl, Bool, true, false, not, _&&_, List, [], _∷_, map, eqb, eqb-true, not-true, and-left, and-right}
 use Rattle.rules.specs.declared.Tables.{Tables}
 use Rattle.rules.specs.Directory.{someSecurity}
 use Rattle.rules.specs.Record.{Request, Sender, unauthenticated, partner}
@@ -9,7 +9,6 @@ use Rattle.rules.specs.Outcome.{toldTo, tablesAfter}
 use Rattle.rules.specs.Run.{replies, final, Along, kept, keptOf}
 use Rattle.rules.specs.Isolation.{Harmless, Premise, isOthers, namesOwner, rowAlters, mayFit, mayAlter, compared}
 use Rattle.rules.proofs.Samples.{samples, lent, credRow, aceRow, weight, haulier, yard}
-use Rattle.rules.proofs.Bools.{and-left, and-right}
 use Rattle.rules.proofs.Isolated.{isolation}
 
 -- ---- demand 3 is not empty: partner 7, a haulier who may read resource 8, is chosen, and the unauthenticated senders with it

@@ -40,34 +40,27 @@ overfull = record {
 full24 : Tables
 full24 = withCreds (fresh noDefaults) (credRows 24)
 
-pub record Example : Type 0 where
-  pub tables : Tables
-  pub bytes : List ℕ
-
-example : Tables → List ℕ → Example
-example t b = record { tables = t; bytes = b }
-
 -- in the order of their numbers
-pub examples : List Example
+pub examples : List (Tables × List ℕ)
 examples =
-    example overfull []
-    ∷ example (fresh noDefaults) (0x40 ∷ 0x80 ∷ 0x00 ∷ [])
-    ∷ example (fresh noDefaults) (0xa2 ∷ 0x00 ∷ 0x00 ∷ 0x00 ∷ [])
-    ∷ example (fresh noDefaults) (0x22 ∷ 0x01 ∷ 0x00 ∷ 0x00 ∷ [])
-    ∷ example (fresh noDefaults) (0x22 ∷ 0x00 ∷ 0x00 ∷ 0x05 ∷ [])
-    ∷ example (fresh noDefaults) (0x21 ∷ 0x40 ∷ 0x00 ∷ 0x00 ∷ [])
-    ∷ example (fresh noDefaults) (0x32 ∷ 0x00 ∷ 0x00 ∷ 0x09 ∷ [])
-    ∷ example (fresh noDefaults) (0x22 ∷ 0x00 ∷ 0x00 ∷ 0x00 ∷ [])
-    ∷ example (fresh noDefaults) (0x00 ∷ 0xc0 ∷ 0x00 ∷ 0x00 ∷ [])
-    ∷ example (fresh noDefaults) (0x40 ∷ 0x40 ∷ 0x00 ∷ 0x00 ∷ 0xa0 ∷ [])
-    ∷ example owned5 (0x50 ∷ 0x00 ∷ 0x00 ∷ 0x05 ∷ 0x80 ∷ uuid)
-    ∷ example (fresh noDefaults) (0x40 ∷ 0x40 ∷ 0x00 ∷ 0x00 ∷ 0x60 ∷ [])
-    ∷ example (fresh noDefaults) (0x60 ∷ 0x80 ∷ 0x00 ∷ 0x00 ∷ 0x00 ∷ 0x05 ∷ [])
-    ∷ example full24 (0x40 ∷ 0x80 ∷ 0x00 ∷ 0x00 ∷ credBody 25)
+    (overfull, [])
+    ∷ (fresh noDefaults, 0x40 ∷ 0x80 ∷ 0x00 ∷ [])
+    ∷ (fresh noDefaults, 0xa2 ∷ 0x00 ∷ 0x00 ∷ 0x00 ∷ [])
+    ∷ (fresh noDefaults, 0x22 ∷ 0x01 ∷ 0x00 ∷ 0x00 ∷ [])
+    ∷ (fresh noDefaults, 0x22 ∷ 0x00 ∷ 0x00 ∷ 0x05 ∷ [])
+    ∷ (fresh noDefaults, 0x21 ∷ 0x40 ∷ 0x00 ∷ 0x00 ∷ [])
+    ∷ (fresh noDefaults, 0x32 ∷ 0x00 ∷ 0x00 ∷ 0x09 ∷ [])
+    ∷ (fresh noDefaults, 0x22 ∷ 0x00 ∷ 0x00 ∷ 0x00 ∷ [])
+    ∷ (fresh noDefaults, 0x00 ∷ 0xc0 ∷ 0x00 ∷ 0x00 ∷ [])
+    ∷ (fresh noDefaults, 0x40 ∷ 0x40 ∷ 0x00 ∷ 0x00 ∷ 0xa0 ∷ [])
+    ∷ (owned5, 0x50 ∷ 0x00 ∷ 0x00 ∷ 0x05 ∷ 0x80 ∷ uuid)
+    ∷ (fresh noDefaults, 0x40 ∷ 0x40 ∷ 0x00 ∷ 0x00 ∷ 0x60 ∷ [])
+    ∷ (fresh noDefaults, 0x60 ∷ 0x80 ∷ 0x00 ∷ 0x00 ∷ 0x00 ∷ 0x05 ∷ [])
+    ∷ (full24, 0x40 ∷ 0x80 ∷ 0x00 ∷ 0x00 ∷ credBody 25)
     ∷ []
 
-pub fourteen : map (λ e. answer (e .tables) (e .bytes)) examples ≡ 1 ∷ 2 ∷ 3 ∷ 4 ∷ 5 ∷ 6 ∷ 7 ∷ 8 ∷ 9 ∷ 10 ∷ 11 ∷ 12 ∷ 13 ∷ 14 ∷ []
-unfolding samples credRows overfull full24 example examples
+pub fourteen : map (λ (e : Tables × List ℕ). answer (e .0) (e .1)) examples ≡ 1 ∷ 2 ∷ 3 ∷ 4 ∷ 5 ∷ 6 ∷ 7 ∷ 8 ∷ 9 ∷ 10 ∷ 11 ∷ 12 ∷ 13 ∷ 14 ∷ []
+unfolding samples credRows overfull full24 examples
 fourteen = refl
 
 -- ---- the worked run

@@ -1,5 +1,5 @@
 -- Theorems: each refusal exactly where it applies, what a refusal leaves, and what is handed out with 0.
-use Rattle.rows.proofs.Prelude.{_≡_, refl, sym, _∙_, Bool, true, false, cond, List, [], _∷_, append-nil, ℕ, suc, _/_, _≤_, arith, length, le-ltb}
+use Rattle.rows.proofs.Prelude.{_≡_, refl, false, cond, List, [], append-nil, ℕ, suc, _/_, _≤_, arith, length, le-ltb, bool-cases}
 use Rattle.rows.specs.Rows.{joined}
 use Rattle.rows.proofs.Kept.{rowsOf-joined}
 use Rattle.rules.specs.declared.Check.{Check}
@@ -8,31 +8,16 @@ use Rattle.rules_lists.specs.Lists.{listed}
 use Rattle.rules.specs.Reading.{filled}
 use Rattle.rules.specs.Checks.{verdict, numberOf}
 use Rattle.rules_legacy.specs.OldList.{badFile}
-use Rattle.rules_legacy.specs.Conversion.{rowsMade, tooManyRows, bufferTooShort, conversionChecks, conversionVerdict, handedOut, conversionReply}
+use Rattle.rules_legacy.specs.Conversion.{rowsMade, tooManyRows, bufferTooShort, conversionVerdict, handedOut, conversionReply}
 use Rattle.rules_legacy.proofs.Stored.{rows-long, rows-size, few-rows}
-
--- the number beside the first check that applies
-abbrev firstNumber : List (ℕ × Bool) → ℕ
-firstNumber [] = 0
-firstNumber (e ∷ es) = cond (e .1) (e .0) (firstNumber es)
-
-number-is : (es : List (ℕ × Bool)) → numberOf (verdict es) ≡ firstNumber es
-unfolding verdict
-number-is [] = refl
-number-is ((n, true) ∷ es) = refl
-number-is ((n, false) ∷ es) = number-is es
-
-none-applies : (a b c : Bool) → _≡_ {A = ℕ} (cond a 23 (cond b 24 (cond c 25 0))) 0 → (a ≡ false) × ((b ≡ false) × (c ≡ false))
-none-applies true b c e = absurd (omega arith)
-none-applies false true c e = absurd (omega arith)
-none-applies false false true e = absurd (omega arith)
-none-applies false false false e = (refl, (refl, refl))
 
 module _ (f : List ℕ) (room : ℕ) where
   -- 23, then 24, then 25: the first that applies is given, and only then
   pub answer-is : numberOf (conversionVerdict f room) ≡ cond (badFile f) 23 (cond (tooManyRows f) 24 (cond (bufferTooShort f room) 25 0))
-  unfolding conversionVerdict
-  answer-is = number-is (conversionChecks f room)
+  unfolding conversionVerdict verdict
+  answer-is =
+      bool-cases (badFile f) (λ a. rw a)
+      (λ a. bool-cases (tooManyRows f) (λ b. rw (a, b)) (λ b. bool-cases (bufferTooShort f room) (λ c. rw (a, b, c)) (λ c. rw (a, b, c))))
 
   -- with 0 no check applies, and the rows are handed out
   pub record Converted : Type 0 where
@@ -44,8 +29,10 @@ module _ (f : List ℕ) (room : ℕ) where
   pub converted : numberOf (conversionVerdict f room) ≡ 0 → Converted
   unfolding conversionReply conversionVerdict verdict
   converted e =
-      let p = none-applies (badFile f) (tooManyRows f) (bufferTooShort f room) (sym answer-is ∙ e) in
-      record { good = p .0; few = p .1 .0; fits = p .1 .1; told = rw (p .0, p .1 .0, p .1 .1) }
+      bool-cases (badFile f) (λ a. absurd (omega (arith, rw a at e)))
+      (λ a. bool-cases (tooManyRows f) (λ b. absurd (omega (arith, rw (a, b) at e)))
+      (λ b. bool-cases (bufferTooShort f room) (λ c. absurd (omega (arith, rw (a, b, c) at e)))
+      (λ c. record { good = a; few = b; fits = c; told = rw (a, b, c) })))
 
   -- any other answer hands nothing out
   pub refused-nothing : (n : ℕ) → numberOf (conversionVerdict f room) ≡ suc n → conversionReply f room ≡ []
@@ -64,14 +51,10 @@ refused-kept f buffer n e = rw (refused-nothing f (length buffer) n e)
 
 -- ---- the longest result
 
-module _ (f : List ℕ) (few : tooManyRows f ≡ false) where
-  rows-short : length (joined (rowsMade f)) ≤ 1152
-  rows-short = omega (arith, rows-size f, few-rows f few)
-
-  -- a buffer of 1,152 bytes never gets 25
-  pub never-25 : (room : ℕ) → 1152 ≤ room → bufferTooShort f room ≡ false
-  unfolding bufferTooShort
-  never-25 room h = le-ltb room (length (joined (rowsMade f))) (omega (arith, rows-short))
+-- a buffer of 1,152 bytes never gets 25
+pub never-25 : (f : List ℕ) (few : tooManyRows f ≡ false) (room : ℕ) → 1152 ≤ room → bufferTooShort f room ≡ false
+unfolding bufferTooShort
+never-25 f few room h = le-ltb room (length (joined (rowsMade f))) (omega (arith, rows-size f, few-rows f few))
 
 -- ---- the rows are read back
 

@@ -1,5 +1,5 @@
 -- Theorem of tables that hold the rows made: each record has what the old rows gave its sender, beside what it has without access rows.
-use Rattle.rows.proofs.Prelude.{_≡_, ap, _∙_, false, List, [], ℕ, _≤_, _<_, bitOr}
+use Rattle.rows.proofs.Prelude.{_≡_, false, List, [], ℕ, _≤_, _<_, bitOr}
 use Rattle.rows.specs.Rows.{rowsOf, unionOf}
 use Rattle.rows.proofs.Union.{or-assoc}
 use Rattle.rules.specs.declared.Tables.{Tables}
@@ -28,11 +28,7 @@ rows-held f good few t = let s = rows-sound f few good in rows-with Aces t (rows
 module _ (f : List ℕ) (t : Tables) (holds : rows Aces t ≡ rowsMade f) where
   pub effective-same : (clock n : ℕ) → clock ≤ 4294967295 → n < 64 → (s : Sender)
       → effective clock t s n ≡ bitOr (oldUnion (credentialIn (rows Creds t) s) (connectionOf s) n f) (effective clock (withRows Aces t []) s n)
-  effective-same clock n h k s =
-      let w = credentialIn (rows Creds t) s in
-      effective-parts clock t s n
-      ∙ ap (λ (u : ℕ). bitOr u (effective clock (withRows Aces t []) s n))
-      (ap (unionOf (gives clock w (connectionOf s) n)) holds ∙ same-union clock n h k (rows Creds t) s f)
+  effective-same clock n h k s = rw (effective-parts clock t s n, holds, same-union clock n h k (rows Creds t) s f)
 
   -- every record at every clock; its resource has six bits
   pub permission-same : (clock : ℕ) → clock ≤ 4294967295 → (r : List ℕ)

@@ -1,10 +1,9 @@
 -- Rows numbered one after the other, whatever follows the numbers: how many they are, their numbers, and that no number stands twice.
 use Rattle.rows.proofs.Prelude.{_≡_, refl, ap, ap₂, _∙_, true, false, _&&_, List, [], _∷_, _++_, map, ℕ, zero, suc, _+_, _/_, _%_, _≤_, _<_, add-zero, arith}
-use Rattle.rows.proofs.Prelude.{length, eqb, eqb-true}
+use Rattle.rows.proofs.Prelude.{length, eqb, eqb-true, bool-cases, and-left, and-right, or-neither}
 use Rattle.rows.specs.Rows.{Row, same, numberedAs, some, distinctNumbers}
 use Rattle.rules.specs.Bits.{word}
 use Rattle.rules.specs.Bodies.{rowNumber}
-use Rattle.rules.proofs.Bools.{bool-cases, and-left, and-right, or-neither}
 use Rattle.rules.proofs.BitLaws.{bits-word}
 use Rattle.rules_legacy.specs.Conversion.{numberedFrom}
 
@@ -47,14 +46,10 @@ words-apart j i h =
     absurd (omega arith))
     (λ e. e)
 
-number-apart : (j i : ℕ) (d e : List ℕ) → j < i → numberedAs (word j ++ d) (word i ++ e) ≡ false
-unfolding numberedAs word
-number-apart j i d e h = words-apart j i h
-
 none-numbered : (j i : ℕ) (d : List ℕ) (es : List (List ℕ)) → j < i → some (numberedAs (word j ++ d)) (numberedFrom i es) ≡ false
-unfolding some numberedFrom
+unfolding some numberedFrom numberedAs word
 none-numbered j i d [] h = refl
-none-numbered j i d (e ∷ es) h = or-neither _ _ (number-apart j i d e h) (none-numbered j (i + 1) d es (omega arith))
+none-numbered j i d (e ∷ es) h = or-neither _ _ (words-apart j i h) (none-numbered j (i + 1) d es (omega arith))
 
 pub numbers-distinct : (i : ℕ) (es : List (List ℕ)) → distinctNumbers (numberedFrom i es) ≡ true
 unfolding distinctNumbers numberedFrom

@@ -1,6 +1,6 @@
 -- Theorems: the rows made of a good file are rows that a body could store, of 36 bytes each, numbered 1, 2, .., so that an access list holds them.
-use Rattle.rows.proofs.Prelude.{_≡_, refl, sym, ap, ap₂, _∙_, Bool, true, false, not, _&&_, _||_, List, [], _∷_, _++_, map, ℕ, zero, suc, _+_, _*_, _%_, _≤_}
-use Rattle.rows.proofs.Prelude.{_<_, arith, length, length-append, eqb, ltb-false, ne-eqb}
+use Rattle.rows.proofs.Prelude.{_≡_, refl, sym, ap, _∙_, true, false, not, _&&_, List, [], _∷_, _++_, map, ℕ, zero, suc, _+_, _*_, _%_, _≤_, _<_, arith, length}
+use Rattle.rows.proofs.Prelude.{length-append, eqb, ltb-false, ne-eqb, cond-cases, bool-cases, and-both, or-left, or-right}
 use Rattle.rows.specs.Rows.{Row, allZero, some, every, distinctNumbers, joined, storedAll}
 use Rattle.rows.proofs.Laws.{every-append}
 use Rattle.rows.proofs.Kept.{AllLong, length-joined}
@@ -10,7 +10,6 @@ use Rattle.rules.specs.Bits.{bit, bits, word}
 use Rattle.rules.specs.Directory.{known, someBelow}
 use Rattle.rules.specs.Bodies.{rowNumber, inSet, setKnown, everySecond, subjectStorable, aceStorable}
 use Rattle.rules.specs.Tables.{capacity}
-use Rattle.rules.proofs.Bools.{and-both, or-left, or-right, cond-cases}
 use Rattle.rules.proofs.SoundKept.{SoundRows}
 use Rattle.rules_legacy.specs.OldList.{oldZeros, inOldSet, isAnybody, oldRows, badRow, badFile}
 use Rattle.rules_legacy.specs.Conversion.{uuidEntry, connectionSubject, connectionEntry, entriesOf, allEntries, numberedFrom, rowsMade, tooManyRows}
@@ -40,19 +39,14 @@ all-long i (o ∷ os) a =
 
 -- ---- storable
 
-known-or-not : (x k y : Bool) → ((not x || k) && not y) ≡ not ((x && not k) || y)
-known-or-not true true y = refl
-known-or-not true false y = refl
-known-or-not false k y = refl
-
 -- a row whose set is the old one
 pub set-known : (o a : Row) → ((n : ℕ) → n < 64 → inSet a n ≡ inOldSet o n)
     → (n : ℕ) → n ≤ 64 → setKnown a n ≡ not (someBelow n (λ m. inOldSet o m && not (known m)))
 unfolding setKnown
 set-known o a s zero h = refl
 set-known o a s (suc n) h =
-    ap₂ (λ (x y : Bool). (not x || known n) && y) (s n (omega arith)) (set-known o a s n (omega arith))
-    ∙ known-or-not (inOldSet o n) (known n) (someBelow n (λ m. inOldSet o m && not (known m)))
+    rw (s n (omega arith), set-known o a s n (omega arith))
+    (bool-cases (inOldSet o n) (λ x. rw x (bool-cases (known n) (λ k. rw k) (λ k. rw k))) (λ x. rw x))
 
 module _ {kind : ℕ} {subject : List ℕ} {o a : Row} (m : Made kind subject o a) where
   made-storable : (i : ℕ) → rowNumber a ≡ i → 0 < i → badRow o ≡ false → subjectStorable a ≡ true → aceStorable a ≡ true
@@ -101,11 +95,10 @@ unfolding allEntries numberedFrom every some
 all-storable i [] a h k good = refl
 all-storable i (o ∷ os) a h k good =
     let l = length-append (entriesOf o) (allEntries os) in
-    ap (every aceStorable) (numbered-append i (entriesOf o) (allEntries os))
-    ∙ every-append aceStorable (numberedFrom i (entriesOf o)) (numberedFrom (i + length (entriesOf o)) (allEntries os))
-    ∙ and-both _ _
+    rw (numbered-append i (entriesOf o) (allEntries os), every-append)
+    (and-both _ _
     (entries-storable i o (a .0) h (omega arith) (or-left (badRow o) (some badRow os) good))
-    (all-storable (i + length (entriesOf o)) os (a .1) (omega arith) (omega arith) (or-right (badRow o) (some badRow os) good))
+    (all-storable (i + length (entriesOf o)) os (a .1) (omega arith) (omega arith) (or-right (badRow o) (some badRow os) good)))
 
 -- ---- of a file
 

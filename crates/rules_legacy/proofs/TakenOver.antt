@@ -7,7 +7,7 @@ use Rattle.rules.specs.declared.Table.the-variants.{Creds, Aces}
 use Rattle.rules.specs.Record.{Request, sender, resource}
 use Rattle.rules.specs.Tables.{rows, withRows}
 use Rattle.rules.specs.Defaults.{Defaults}
-use Rattle.rules.specs.Permission.{credentialIn, connectionOf, gives, effective, permission}
+use Rattle.rules.specs.Permission.{credentialIn, connectionOf, permission}
 use Rattle.rules.specs.Outcome.{tablesAfter}
 use Rattle.rules.specs.Run.{final}
 use Rattle.rules.proofs.RowsStored.{none-held}
@@ -22,12 +22,7 @@ use Rattle.rules_legacy.proofs.Tested.{rows-tested}
 -- tables without access rows
 without-rows : (clock : ℕ) (t : Tables) (r : List ℕ) → t .naces ≡ 0 → permission clock t r ≡ permission clock (withRows Aces t []) r
 unfolding permission unionOf
-without-rows clock t r z =
-    let w = credentialIn (rows Creds t) (sender r) in
-    let c = connectionOf (sender r) in
-    effective-parts clock t (sender r) (resource r)
-    ∙ ap (λ (ws : List Row). bitOr (unionOf (gives clock w c (resource r)) ws) (effective clock (withRows Aces t []) (sender r) (resource r)))
-    (none-held Aces t z)
+without-rows clock t r z = rw (effective-parts clock t (sender r) (resource r), none-held Aces t z)
 
 module _ (f : List ℕ) (good : badFile f ≡ false) (few : tooManyRows f ≡ false) (closed : some opensSecurity (oldRows f) ≡ false) where
   module _ (d : Defaults) (t : Tables) (n : ℕ) (qs : List Request) (ready : Ready n t) (stores : Stores n qs (rowsMade f)) where
@@ -42,8 +37,7 @@ module _ (f : List ℕ) (good : badFile f ≡ false) (few : tooManyRows f ≡ fa
         → permission clock (final (tablesAfter d) t qs) r
         ≡ bitOr (oldUnion (credentialIn (rows Creds t) (sender r)) (connectionOf (sender r)) (resource r) f) (permission clock t r)
     taken-over clock h r =
-        let after = final (tablesAfter d) t qs in
-        permission-same f after (rows-loaded .held) clock h r
+        permission-same f (final (tablesAfter d) t qs) (rows-loaded .held) clock h r
         ∙ ap₂ (λ (ws : List Row) (p : ℕ). bitOr (oldUnion (credentialIn ws (sender r)) (connectionOf (sender r)) (resource r) f) p)
         (ap (rows Creds) (rows-loaded .others))
         (ap (λ (x : Tables). permission clock x r) (rows-loaded .others) ∙ sym (without-rows clock t r (ready .noAces)))

@@ -1,18 +1,16 @@
 -- Theorems, U10: a list is accepted exactly where it has none of the faults, and otherwise refused with the first fault and its row.
 -- What the test says of the rows is so (`rows-told`), and rows without a fault are passed over (`rows-past`), so nothing else can be said.
-use Rattle.rows.proofs.Prelude.{_≡_, refl, sym, ap, _∙_, Bool, true, false, not, cond, List, [], _∷_, _++_, append-assoc, append-nil, ℕ, suc, arith, length}
-use Rattle.rows.proofs.Prelude.{not-false}
+use Rattle.rows.proofs.Prelude.{_≡_, refl, sym, ap, _∙_, true, false, not, List, [], _∷_, _++_, append-assoc, append-nil, ℕ, suc, arith, length, not-false}
+use Rattle.rows.proofs.Prelude.{bool-cases, and-left, and-right, or-left, or-right}
 use Rattle.rows.specs.Rows.{Row, some, every, numberedAs, distinctNumbers}
 use Rattle.rows.proofs.Laws.{every-append, some-append}
 use Rattle.rows.proofs.Repeat.{distinct-end, none-before}
-use Rattle.rules.specs.declared.Check.{Check}
 use Rattle.rules.specs.declared.Check.the-variants.{Pass, Refuse}
 use Rattle.rules.specs.declared.Table.the-variants.{Aces}
 use Rattle.rules.specs.Tables.{storable}
 use Rattle.rules.specs.Checks.{refuseIf, verdict}
-use Rattle.rules.proofs.Bools.{bool-cases, and-left, and-right, or-left, or-right}
 use Rattle.rules_lists.specs.declared.Tested.{Tested}
-use Rattle.rules_lists.specs.Lists.{listed, badSize, unfit, excessive, rowChecks, said, accepted, namedOr, rowsTested, listTested}
+use Rattle.rules_lists.specs.Lists.{listed, badSize, unfit, excessive, rowChecks, said, accepted, rowsTested, listTested}
 
 -- ---- faults
 
@@ -45,10 +43,6 @@ pub data Fault (b : List ℕ) : ℕ → ℕ → Type 0 where
 
 -- ---- rows without a fault
 
-no-rows : Clean []
-unfolding every distinctNumbers some
-no-rows = record { stores = refl; apart = refl; modest = refl }
-
 -- a row without a fault is one more
 clean-more : (earlier : List Row) (w : Row) → Clean earlier → unfit earlier w ≡ false → excessive w ≡ false → Clean (earlier ++ (w ∷ []))
 unfolding unfit every some
@@ -76,11 +70,10 @@ fault-verdict before w n (excess u g) = rw (u, g)
 -- the test goes on behind them
 rows-past : (earlier ws after : List Row) → Clean (earlier ++ ws) → rowsTested earlier (ws ++ after) ≡ rowsTested (earlier ++ ws) after
 unfolding rowsTested
-rows-past earlier [] after c = ap (λ (vs : List Row). rowsTested vs after) (sym (append-nil earlier))
+rows-past earlier [] after c = rw append-nil
 rows-past earlier (w ∷ ws) after c =
     rw (row-passes earlier w ws c)
-    (rows-past (earlier ++ (w ∷ [])) ws after (rw (append-assoc earlier (w ∷ []) ws) c)
-    ∙ ap (λ (vs : List Row). rowsTested vs after) (append-assoc earlier (w ∷ []) ws))
+    (rw (append-assoc earlier (w ∷ []) ws) at (rows-past (earlier ++ (w ∷ [])) ws after (rw (append-assoc earlier (w ∷ []) ws) c)))
 
 -- ---- what the test says of rows is so
 
@@ -91,20 +84,17 @@ data Told (ws : List Row) : Tested → Type 0 where
 rows-told : (earlier ws : List Row) → Clean earlier → Told (earlier ++ ws) (rowsTested earlier ws)
 unfolding rowsTested verdict
 rows-told earlier [] c = clean (rw append-nil c)
-rows-told earlier (w ∷ ws) c = go (unfit earlier w) refl (excessive w) refl (λ c′. rows-told (earlier ++ (w ∷ [])) ws c′)
-  where
-    go : (u : Bool) → unfit earlier w ≡ u → (g : Bool) → excessive w ≡ g
-        → (Clean (earlier ++ (w ∷ [])) → Told ((earlier ++ (w ∷ [])) ++ ws) (rowsTested (earlier ++ (w ∷ [])) ws))
-        → Told (earlier ++ (w ∷ ws)) (namedOr (cond u (Refuse 20) (cond g (Refuse 21) Pass)) (suc (length earlier)) (rowsTested (earlier ++ (w ∷ [])) ws))
-    go true e g f ih = bad (record { after = ws; stands = refl; clean = c }) (unstored e)
-    go false e true f ih = bad (record { after = ws; stands = refl; clean = c }) (excess e f)
-    go false e false f ih = rw (append-assoc earlier (w ∷ []) ws) at (ih (clean-more earlier w c e f))
+rows-told earlier (w ∷ ws) c =
+    let s : Behind earlier w (earlier ++ (w ∷ ws)) = record { after = ws; stands = refl; clean = c } in
+    bool-cases (unfit earlier w) (λ e. rw e (bad s (unstored e)))
+    (λ e. bool-cases (excessive w) (λ f. rw (e, f) (bad s (excess e f)))
+    (λ f. rw (e, f) (rw (append-assoc earlier (w ∷ []) ws) at (rows-told (earlier ++ (w ∷ [])) ws (clean-more earlier w c e f)))))
 
 -- ---- of a list
 
 list-told : (b : List ℕ) → badSize b ≡ false → Told (listed b) (listTested b)
-unfolding listTested refuseIf
-list-told b e = rw e (rows-told [] (listed b) no-rows)
+unfolding listTested refuseIf every distinctNumbers some
+list-told b e = rw e (rows-told [] (listed b) (record { stores = refl; apart = refl; modest = refl }))
 
 -- 19, with row 0, for a bad size
 size-refused : (b : List ℕ) → badSize b ≡ true → listTested b ≡ said 19 0
@@ -115,38 +105,34 @@ module _ (b : List ℕ) where
   -- every list without one of the faults is accepted
   pub faultless-accepted : Faultless b → listTested b ≡ accepted
   unfolding listTested refuseIf rowsTested
-  faultless-accepted f =
-      rw (f .whole)
-      (ap (rowsTested []) (sym (append-nil (listed b))) ∙ rows-past [] (listed b) [] (f .clean))
+  faultless-accepted f = rw (f .whole, ← append-nil (listed b)) (rows-past [] (listed b) [] (f .clean))
+
+  told-clean : (x : Tested) → Told (listed b) x → x .answer ≡ 0 → Clean (listed b)
+  told-clean x (clean c) h = c
+  told-clean x (bad s (unstored u)) h = absurd (omega arith)
+  told-clean x (bad s (excess u g)) h = absurd (omega arith)
 
   -- and no other
   pub accepted-faultless : listTested b .answer ≡ 0 → Faultless b
   accepted-faultless h =
       bool-cases (badSize b)
       (λ e. absurd (omega (arith, ap (λ (x : Tested). x .answer) (size-refused b e))))
-      (λ e. go e (listTested b) (list-told b e) h)
-    where
-      go : badSize b ≡ false → (x : Tested) → Told (listed b) x → x .answer ≡ 0 → Faultless b
-      go e x (clean c) h = record { whole = e; clean = c }
-      go e x (bad s (unstored u)) h = absurd (omega arith)
-      go e x (bad s (excess u g)) h = absurd (omega arith)
+      (λ e. record { whole = e; clean = told-clean (listTested b) (list-told b e) h })
 
   told-fault : badSize b ≡ false → (x : Tested) → Told (listed b) x → (x .answer ≡ 0 → ⊥) → Fault b (x .answer) (x .row)
   told-fault e x (clean c) z = absurd (z refl)
   told-fault e x (bad s f) z = row e s f
 
+  -- a list that is not accepted has what is said of it
+  pub any-fault : (listTested b .answer ≡ 0 → ⊥) → Fault b (listTested b .answer) (listTested b .row)
+  any-fault z = bool-cases (badSize b) (λ e. rw (size-refused b e) (size e)) (λ e. told-fault e (listTested b) (list-told b e) z)
+
   -- a refusal names the first fault and its row
   pub refused-fault : (n m : ℕ) → listTested b ≡ said (suc n) m → Fault b (suc n) m
-  refused-fault n m h = go (said (suc n) m) h (λ z. absurd (omega arith))
-    where
-      go : (x : Tested) → listTested b ≡ x → (x .answer ≡ 0 → ⊥) → Fault b (x .answer) (x .row)
-      go x h z = bool-cases (badSize b) (λ e. rw (sym h ∙ size-refused b e) (size e)) (λ e. told-fault e x (rw h at (list-told b e)) z)
+  refused-fault n m h = rw h at (any-fault (rw h (λ z. absurd (omega arith))))
 
   -- and the first fault is named
   pub fault-refused : (n m : ℕ) → Fault b n m → listTested b ≡ said n m
   unfolding listTested refuseIf rowsTested
   fault-refused n m (size e) = size-refused b e
-  fault-refused n m (row {before} {w} e s f) =
-      rw (e, s .stands)
-      (rows-past [] before (w ∷ s .after) (s .clean)
-      ∙ ap (λ (v : Check). namedOr v (suc (length before)) (rowsTested (before ++ (w ∷ [])) (s .after))) (fault-verdict before w n f))
+  fault-refused n m (row {before} {w} e s f) = rw (e, s .stands, rows-past [] before (w ∷ s .after) (s .clean), fault-verdict before w n f)

@@ -1,7 +1,7 @@
 -- Theorem, U10: an accepted list is permitted throughout when its rows are judged, one straight after the other, as records of the device owner;
 -- and then the access rows are the list's, in their order, and nothing else is changed. At any clocks and buffer lengths, for any default lists.
-use Rattle.rows.proofs.Prelude.{_≡_, refl, sym, ap, subst, _∙_, Bool, true, false, not, _||_, cond, false≢true, List, [], _∷_, map, ℕ, _/_, _%_, _≤_, _<_}
-use Rattle.rows.proofs.Prelude.{arith, length, take, eqb, ltb-false, ne-eqb}
+use Rattle.rows.proofs.Prelude.{_≡_, refl, ap, subst, _∙_, Bool, true, false, not, false≢true, List, [], _∷_, map, ℕ, _/_, _%_, _≤_, _<_, arith, length, take}
+use Rattle.rows.proofs.Prelude.{eqb, ltb-false, ne-eqb, bool-cases, and-left, and-right, or-right}
 use Rattle.rows.specs.Rows.{Row, firstRow, some}
 use Rattle.rows.proofs.Laws.{length-rowsOf}
 use Rattle.rows.proofs.Kept.{every-long}
@@ -10,7 +10,7 @@ use Rattle.rules.specs.declared.Check.the-variants.{Pass}
 use Rattle.rules.specs.declared.Table.the-variants.{Creds, Aces}
 use Rattle.rules.specs.Bits.{bit, bits, word}
 use Rattle.rules.specs.Directory.{resourceOf, acl2}
-use Rattle.rules.specs.Record.{Request, partner, sender, verb, connection, resource, headerZeros, credential, body}
+use Rattle.rules.specs.Record.{Request, partner, sender, credential}
 use Rattle.rules.specs.Tables.{storable, rows, withRows, sound}
 use Rattle.rules.specs.Defaults.{Defaults}
 use Rattle.rules.specs.Permission.{U, has, numbered, credentialIn, isRow, isOwner, byOwner, effective, permission}
@@ -19,7 +19,6 @@ use Rattle.rules.specs.Reading.{rowsOfReply}
 use Rattle.rules.specs.Checks.{badLength, noVerb, zeroBitSet, mismatch, unknownResource, noCredential, senderChecks, verdict}
 use Rattle.rules.specs.Outcome.{Told, toldTo}
 use Rattle.rules.specs.Storing.{Retrieves, TakesRows, MayStore}
-use Rattle.rules.proofs.Bools.{and-left, and-right, or-right}
 use Rattle.rules.proofs.BitLaws.{bits-word}
 use Rattle.rules.proofs.RecordLaws.{sender-partner}
 use Rattle.rules.proofs.Answers.{table-parts}
@@ -38,41 +37,13 @@ use Rattle.rules_lists.specs.Lists.{listed, badSize, listTested}
 use Rattle.rules_lists.specs.Loading.{ownsDevice, storing, Stores, Ready, Loaded}
 use Rattle.rules_lists.proofs.Exact.{accepted-faultless}
 
--- ---- the record
-
--- the fields of partner n's record that stores w
-record Storing (n : ℕ) (w : Row) (r : List ℕ) : Type 0 where
-  long : length r ≡ 40
-  updates : verb r ≡ 2
-  secured : connection r ≡ 1
-  on : resource r ≡ acl2
-  zeros : headerZeros r ≡ 0
-  number : credential r ≡ n
-  carries : body r ≡ w
-
-storing-is : (n : ℕ) (w : Row) → n < 65536 → length w ≡ 36 → Storing n w (storing n w)
-unfolding storing word bits bit
-storing-is n w h l = record {
-  long = omega (arith, l);
-  updates = refl;
-  secured = refl;
-  on = refl;
-  zeros = refl;
-  number = bits-word (storing n w) 2 (omega arith) (omega arith) ∙ omega arith;
-  carries = refl;
-}
-
 -- ---- the sender
 
 -- where the first row that passes a test has bytes, there is one
 some-first : (p : Row → Bool) (ws : List Row) → isRow (firstRow p ws) ≡ true → some p ws ≡ true
 unfolding firstRow some
 some-first p [] h = absurd (false≢true h)
-some-first p (w ∷ ws) h = go (p w) h (some-first p ws)
-  where
-    go : (b : Bool) → isRow (cond b w (firstRow p ws)) ≡ true → (isRow (firstRow p ws) ≡ true → some p ws ≡ true) → (b || some p ws) ≡ true
-    go true h ih = refl
-    go false h ih = ih h
+some-first p (w ∷ ws) h = bool-cases (p w) (λ e. rw e) (λ e. rw e (some-first p ws (rw e at h)))
 
 module _ (t : Tables) (n : ℕ) (h : sound t ≡ true) (o : ownsDevice t (partner n) ≡ true) where
   abbrev own : Row
@@ -97,51 +68,30 @@ module _ (t : Tables) (n : ℕ) (h : sound t ≡ true) (o : ownsDevice t (partne
   unfolding otherwise byOwner isOwner ownsDevice resourceOf has
   may-update clock = by-others clock t (partner n) acl2 (rw (a-row, and-right (isRow own) _ o))
 
-  -- ---- a record of the owner
+  -- ---- the owner's record that stores w
 
-  module _ (w : Row) (r : List ℕ) (s : Storing n w r) where
-    from-owner : sender r ≡ partner n
-    from-owner = sender-partner r (omega (arith, s .long)) (s .secured) ∙ ap partner (s .number)
+  module _ (small : n < 65536) (w : Row) (l : length w ≡ 36) where
+    number-is : credential (storing n w) ≡ n
+    unfolding storing word
+    number-is = bits-word (storing n w) 2 (omega arith) (omega arith) ∙ omega arith
 
-    length-good : badLength r ≡ false
-    unfolding badLength
-    length-good = rw (s .long)
+    from-owner : sender (storing n w) ≡ partner n
+    unfolding storing word bits bit
+    from-owner = sender-partner (storing n w) (omega arith) refl ∙ ap partner number-is
 
-    verb-good : noVerb r ≡ false
-    unfolding noVerb
-    verb-good = rw (s .updates)
-
-    zeros-good : zeroBitSet r ≡ false
-    unfolding zeroBitSet
-    zeros-good = rw (s .zeros)
-
-    numbers-good : mismatch r ≡ false
-    unfolding mismatch
-    numbers-good = rw (s .secured, s .number, ne-eqb n 0 not-zero)
-
-    resource-good : unknownResource r ≡ false
-    unfolding unknownResource resourceOf
-    resource-good = rw (s .on)
-
-    credential-good : noCredential t r ≡ false
-    unfolding noCredential
-    credential-good = rw from-owner (ap not there)
-
-    owner-passes : verdict (senderChecks t r) ≡ Pass
-    unfolding verdict
-    owner-passes = rw (length-good, verb-good, zeros-good, numbers-good, resource-good, credential-good)
+    owner-passes : verdict (senderChecks t (storing n w)) ≡ Pass
+    unfolding storing word bits bit verdict badLength noVerb zeroBitSet mismatch unknownResource resourceOf noCredential
+    owner-passes = rw (l, number-is, ne-eqb n 0 not-zero, from-owner, there)
 
   owner-may : n < 65536 → (q : Request) (w : Row) → length w ≡ 36 → q .bytes ≡ storing n w → MayStore Aces t q w
-  unfolding permission
-  owner-may small q w l e =
-      let s = subst (Storing n w) (sym e) (storing-is n w small l) in
-      record {
-        passes = owner-passes w (q .bytes) s;
-        updates = s .updates;
-        on = s .on;
-        may = rw (from-owner w (q .bytes) s, s .on) (may-update (q .clock));
-        carries = s .carries;
-      }
+  unfolding permission storing word bits bit
+  owner-may small q w l e = record {
+    passes = rw e (owner-passes small w l);
+    updates = rw e;
+    on = rw e;
+    may = rw (e, from-owner small w l) (may-update (q .clock));
+    carries = rw e;
+  }
 
 -- ---- the rows
 

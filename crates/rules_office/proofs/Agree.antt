@@ -1,10 +1,11 @@
 -- Two rows are equal where their packed fields agree one after the other, from the first bit to the last.
-use Rattle.rows.proofs.Prelude.{_≡_, refl, sym, ap, ap₂, _∙_, Bool, true, false, List, [], _∷_, ℕ, zero, suc, _+_, _-_, _*_, _/_, _%_, _^_, _≤_, _<_, add-one}
-use Rattle.rows.proofs.Prelude.{arith, length, take, drop, getD, getD-drop, getD-take, eqb, ltb, eqb-false, eqb-true, ltb-false, ltb-true}
+use Rattle.rows.proofs.Prelude.{_≡_, refl, sym, ap, ap₂, _∙_, Bool, true, List, [], _∷_, ℕ, zero, suc, _+_, _-_, _*_, _/_, _%_, _^_, _≤_, _<_, add-one, arith}
+use Rattle.rows.proofs.Prelude.{length, take, drop, getD, getD-drop, getD-take, eqb, ltb, eqb-false, eqb-true, ltb-false, ltb-true, and-left, and-right}
+use Rattle.rows.proofs.Prelude.{bool-cases}
 use lib.Seq.{ext-getD}
 use Rattle.rows.specs.Rows.{allZero}
+use Rattle.rows.proofs.Laws.{zeros-replicate}
 use Rattle.rules.specs.Bits.{bit, bits}
-use Rattle.rules.proofs.Bools.{and-left, and-right}
 use Rattle.rules.proofs.BitLaws.{bits-byte, bits-more, bit-small}
 use Rattle.rules_office.proofs.Codes.{all}
 
@@ -19,14 +20,7 @@ byte-bound (b ∷ r) h (suc i) = byte-bound r (and-right (isByte b) _ h) i
 
 -- two lists of zeros
 pub zeros-same : (r s : List ℕ) → length r ≡ length s → allZero r ≡ true → allZero s ≡ true → r ≡ s
-unfolding allZero
-zeros-same [] [] l h k = refl
-zeros-same [] (b ∷ s) l h k = absurd (omega arith)
-zeros-same (a ∷ r) [] l h k = absurd (omega arith)
-zeros-same (a ∷ r) (b ∷ s) l h k =
-    ap₂ (λ (x : ℕ) (y : List ℕ). x ∷ y)
-    (eqb-true a 0 (and-left _ _ h) ∙ sym (eqb-true b 0 (and-left _ _ k)))
-    (zeros-same r s (omega arith) (and-right (eqb a 0) _ h) (and-right (eqb b 0) _ k))
+zeros-same r s l h k = zeros-replicate r h ∙ rw l (sym (zeros-replicate s k))
 
 -- a field of one bit more, over plain numbers
 split-last : (a b x y : ℕ) → x < 2 → y < 2 → a * 2 + x ≡ b * 2 + y → (a ≡ b) × (x ≡ y)
@@ -41,11 +35,7 @@ module _ (r s : List ℕ) where
   agree-none i h = absurd (omega arith)
 
   pub agree-bit : (b : ℕ) → Agree b → bit r b ≡ bit s b → Agree (suc b)
-  agree-bit b f e i h = go (eqb i b) refl
-    where
-      go : (t : Bool) → eqb i b ≡ t → bit r i ≡ bit s i
-      go true q = rw (eqb-true i b q) e
-      go false q = f i (omega (arith, eqb-false i b q))
+  agree-bit b f e i h = bool-cases (eqb i b) (λ q. rw (eqb-true i b q) e) (λ q. f i (omega (arith, eqb-false i b q)))
 
   parts : (b width : ℕ) → bits r b (width + 1) ≡ bits s b (width + 1) → (bits r b width ≡ bits s b width) × (bit r (b + width) ≡ bit s (b + width))
   parts b width e =
@@ -65,17 +55,15 @@ module _ (r s : List ℕ) where
   -- so many whole bytes
   pub agree-part : (start count : ℕ) → Agree (8 * start) → take count (drop start r) ≡ take count (drop start s) → Agree (8 * (start + count))
   unfolding bit
-  agree-part start count f e i h = go (ltb i (8 * start)) refl
-    where
-      go : (t : Bool) → ltb i (8 * start) ≡ t → bit r i ≡ bit s i
-      go true q = f i (ltb-true i (8 * start) q)
-      go false q =
-          let l = ltb-false i (8 * start) q in
-          let j : start + (i / 8 - start) ≡ i / 8 = omega arith in
-          let k : i / 8 - start < count = omega arith in
-          ap (λ (x : ℕ). x / 2 ^ (7 - i % 8) % 2)
-          (ap (λ (n : ℕ). getD r n 0) (sym j) ∙ sym (at-part r start count (i / 8 - start) k)
-          ∙ ap (λ (w : List ℕ). getD w (i / 8 - start) 0) e ∙ at-part s start count (i / 8 - start) k ∙ ap (λ (n : ℕ). getD s n 0) j)
+  agree-part start count f e i h =
+      bool-cases (ltb i (8 * start))
+      (λ q. f i (ltb-true i (8 * start) q))
+      (λ q. let l = ltb-false i (8 * start) q in
+      let j : start + (i / 8 - start) ≡ i / 8 = omega arith in
+      let k : i / 8 - start < count = omega arith in
+      ap (λ (x : ℕ). x / 2 ^ (7 - i % 8) % 2)
+      (ap (λ (n : ℕ). getD r n 0) (sym j) ∙ sym (at-part r start count (i / 8 - start) k)
+      ∙ ap (λ (w : List ℕ). getD w (i / 8 - start) 0) e ∙ at-part s start count (i / 8 - start) k ∙ ap (λ (n : ℕ). getD s n 0) j))
 
   bits-agree : (b width : ℕ) → ((i : ℕ) → b ≤ i → i < b + width → bit r i ≡ bit s i) → bits r b width ≡ bits s b width
   unfolding bits

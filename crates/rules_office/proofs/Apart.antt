@@ -1,7 +1,7 @@
 -- Theorem, U6: lists with different rows never give the same text.
 -- Of rows that a body could store and that hold for every second; that they are bytes is what the struct's types give.
-use Rattle.rows.proofs.Prelude.{_≡_, refl, sym, ap, _∙_, Bool, true, false, not, _&&_, cond, List, _∷_, _++_, append-assoc, append-cancel-left}
-use Rattle.rows.proofs.Prelude.{tail-eq-of-cons-eq, ℕ, zero, suc, _+_, min, length, take, drop, getD, eqb, eqb-true}
+use Rattle.rows.proofs.Prelude.{_≡_, refl, sym, ap, _∙_, Bool, true, false, not, _&&_, List, _∷_, _++_, append-assoc, append-cancel-left, tail-eq-of-cons-eq, ℕ}
+use Rattle.rows.proofs.Prelude.{zero, suc, _+_, min, length, take, drop, getD, eqb, eqb-true, and-left, and-right, and-both, cond-cases, not-false}
 use Rattle.text.specs.Text.{ascii}
 use Rattle.rows.specs.Rows.{Row, rowsOf, every, without, joined, same}
 use Rattle.rules.specs.declared.Tables.{Tables}
@@ -9,12 +9,11 @@ use Rattle.rules.specs.declared.Table.the-variants.{Aces}
 use Rattle.rules.specs.Bits.{bit, bits}
 use Rattle.rules.specs.Bodies.{rowNumber, acePermission, inSet, setKnown, subjectStorable, aceStorable, aceFirst, aceLast}
 use Rattle.rules.specs.Tables.{rowsIn, rows, sound, storable}
-use Rattle.rules.proofs.Bools.{and-left, and-right, and-both}
 use Rattle.rules.proofs.BitLaws.{bits-small, bit-small}
 use Rattle.rules.proofs.SetLaws.{set-ranges}
 use Rattle.rules.proofs.Answers.{table-parts}
-use Rattle.rules_office.specs.Office.{href, choices, chosen, picked, braced, resourcesText, rowText}
-use Rattle.rules_office.specs.Office.{rowsText, listText, always, seasonal, rowsWritten, officeText}
+use Rattle.rules_office.specs.Office.{href, choices, chosen, picked, braced, resourcesText, rowText, rowsText, listText, always, seasonal, rowsWritten}
+use Rattle.rules_office.specs.Office.{officeText}
 use Rattle.rules_office.proofs.Codes.{all, span, elements-told, all-picked, different, picked-told}
 use Rattle.rules_office.proofs.Decimals.{decimal-told}
 use Rattle.rules_office.proofs.Agree.{isByte, Agree, agree-none, agree-bit, agree-field, agree-all}
@@ -25,10 +24,6 @@ use Rattle.rules_office.proofs.Subjects.{SubjectSame, subject-told, bit
 -- no "}" inside
 abbrev plain : List ℕ → Bool
 plain x = all (λ b. not (eqb b 125)) x
-
-braced-opens : (x s : List ℕ) → getD (braced x ++ s) 0 0 ≡ 123
-unfolding braced joined ascii
-braced-opens x s = refl
 
 braced-told : (x y s t : List ℕ) → plain x ≡ true → plain y ≡ true → braced x ++ s ≡ braced y ++ t → (x ≡ y) × (s ≡ t)
 unfolding braced joined ascii
@@ -49,10 +44,10 @@ unfolding choices chosen
 chosen-length w = refl
 
 resources-told : (w v : Row) (s t : List ℕ) → resourcesText w ++ 93 ∷ s ≡ resourcesText v ++ 93 ∷ t → (chosen w ≡ chosen v) × (s ≡ t)
-unfolding resourcesText
+unfolding resourcesText braced joined ascii
 resources-told w v s t e =
     let r =
-    elements-told braced plain braced-opens braced-told true (picked (chosen w) choices) (picked (chosen v) choices) s t
+    elements-told braced plain (λ x s. refl) braced-told true (picked (chosen w) choices) (picked (chosen v) choices) s t
     (all-picked plain (chosen w) choices choices-plain) (all-picked plain (chosen v) choices choices-plain) e
     in
     (picked-told (chosen w) (chosen v) choices (chosen-length w) (chosen-length v) choices-different (r .0), r .1)
@@ -75,8 +70,7 @@ record Stored (w : Row) : Type 0 where
 stored : (w : Row) → storedRow w ≡ true → Stored w
 unfolding storedRow aceStorable always
 stored w h =
-    let parts = and-left (aceStorable w && all isByte w) _ h in
-    let row = and-left (aceStorable w) _ parts in
+    let row = and-left (aceStorable w) _ (and-left (aceStorable w && all isByte w) _ h) in
     let period = and-right (aceStorable w && all isByte w) _ h in
     search (and-left, and-right, eqb-true)
 
@@ -135,10 +129,6 @@ module _ (w v : Row) (gw : Stored w) (gv : Stored v) (c : chosen w ≡ chosen v)
       let j : Agree w v 288 = field 256 32 i (gw .last ∙ sym (gv .last)) in
       agree-all w v (gw .size ∙ sym (gv .size)) (gw .bytes) (gv .bytes) (rw (gw .size) j)
 
-row-opens : (w : Row) (s : List ℕ) → getD (rowText w ++ s) 0 0 ≡ 123
-unfolding rowText joined ascii
-row-opens w s = refl
-
 -- the text of a row, piece by piece
 row-told : (w v : Row) (s t : List ℕ) → storedRow w ≡ true → storedRow v ≡ true → rowText w ++ s ≡ rowText v ++ t → (w ≡ v) × (s ≡ t)
 unfolding rowText joined ascii
@@ -155,9 +145,9 @@ row-told w v s t hw hv e =
 -- ---- the list
 
 pub lists-apart : (ws vs : List Row) → all storedRow ws ≡ true → all storedRow vs ≡ true → listText ws ≡ listText vs → ws ≡ vs
-unfolding listText rowsText joined ascii
+unfolding listText rowsText rowText joined ascii
 lists-apart ws vs hw hv e =
-    elements-told rowText storedRow row-opens row-told true ws vs _ _ hw hv (append-cancel-left (ascii "{\"aclist2\":[") _ _ e) .0
+    elements-told rowText storedRow (λ w s. refl) row-told true ws vs _ _ hw hv (append-cancel-left (ascii "{\"aclist2\":[") _ _ e) .0
 
 -- ---- the tables
 
@@ -165,15 +155,12 @@ rows-stored : (n : ℕ) (b : List ℕ) → all isByte b ≡ true → every (stor
 unfolding storedRow seasonal rowsOf every without
 rows-stored zero b h k = refl
 rows-stored (suc n) b h k =
-    go (always (take 36 b)) refl (rows-stored n (drop 36 b) (all-drop isByte 36 b h) (and-right (aceStorable (take 36 b)) _ k))
-  where
-    go : (x : Bool) → always (take 36 b) ≡ x → all storedRow (rowsWritten (rowsOf 36 n (drop 36 b))) ≡ true
-        → all storedRow (cond (not x) (rowsWritten (rowsOf 36 n (drop 36 b))) (take 36 b ∷ rowsWritten (rowsOf 36 n (drop 36 b)))) ≡ true
-    go true e more =
-        and-both (storedRow (take 36 b)) _ (and-both (aceStorable (take 36 b) && all isByte (take 36 b)) _
-        (and-both (aceStorable (take 36 b)) _ (and-left _ _ k) (all-take isByte 36 b h)) e)
-        more
-    go false e more = more
+    let more = rows-stored n (drop 36 b) (all-drop isByte 36 b h) (and-right (aceStorable (take 36 b)) _ k) in
+    cond-cases (λ (ws : List Row). all storedRow ws ≡ true) (seasonal (take 36 b)) (λ _. more)
+    (λ e. and-both (storedRow (take 36 b)) _
+    (and-both (aceStorable (take 36 b) && all isByte (take 36 b)) _
+    (and-both (aceStorable (take 36 b)) _ (and-left _ _ k) (all-take isByte 36 b h)) (not-false _ e))
+    more)
 
 -- sound tables with the same office text have the same access rows, but for those that are left out
 pub tables-apart : (t u : Tables) → sound t ≡ true → sound u ≡ true → all isByte (t .aces) ≡ true → all isByte (u .aces) ≡ true

@@ -1,7 +1,7 @@
 -- Theorems: no access list has a text longer than 13,069 bytes, so a buffer of that length never gets 18.
 -- 32 rows, each with a number of five digits, a UUID, all resources and wildcards, and a permission of two digits.
 use Rattle.rows.proofs.Prelude.{_≡_, refl, Bool, true, false, List, [], _∷_, map, ℕ, zero, suc, _+_, _*_, _/_, _^_, _≤_, _<_, min, pow-suc, arith, length, drop}
-use Rattle.rows.proofs.Prelude.{length-append, length-take, eqb, ltb, le-ltb, lt-ltb}
+use Rattle.rows.proofs.Prelude.{length-append, length-take, eqb, ltb, le-ltb, lt-ltb, cond-cases}
 use native.Mathlib.Nat.{min-le-right}
 use Rattle.text.specs.Text.{ascii, decimalIn, decimal}
 use Rattle.rows.specs.Rows.{Row, rowsOf, joined}
@@ -14,11 +14,10 @@ use Rattle.rules.specs.declared.Check.the-variants.{Pass}
 use Rattle.rules.specs.Tables.{rowsIn}
 use Rattle.rules_waiting.specs.Terminal.{Terminal, soundTerminal}
 use Rattle.rules.specs.Checks.{verdict}
-use Rattle.rules.proofs.Bools.{cond-cases}
 use Rattle.rules.proofs.BitLaws.{bits-below}
-use Rattle.rules_office.specs.Office.{dashed, dash, hexByte, uuidFrom, uuidText, comma, separated, uuidSubject, roleSubject}
-use Rattle.rules_office.specs.Office.{connectionSubject, subjectText, href, choices, chosen, picked, braced, resourcesText}
-use Rattle.rules_office.specs.Office.{rowText, rowsText, listText, seasonal, rowsWritten, officeText, officeVerdict}
+use Rattle.rules_office.specs.Office.{dashed, dash, hexByte, uuidFrom, uuidText, comma, separated, uuidSubject, roleSubject, connectionSubject}
+use Rattle.rules_office.specs.Office.{subjectText, href, choices, chosen, picked, braced, resourcesText, rowText, rowsText, listText, seasonal}
+use Rattle.rules_office.specs.Office.{rowsWritten, officeText, officeVerdict}
 
 -- ---- numbers
 
@@ -59,13 +58,9 @@ unfolding hexByte dashes
 uuid-length i [] = refl
 uuid-length i (b ∷ u) = simp length-append (omega (arith, uuid-length (suc i) u))
 
-four-dashes : dashes 0 16 ≡ 4
-unfolding dashes dash dashed ascii
-four-dashes = refl
-
 uuid-short : (u : List ℕ) → length u ≤ 16 → length (uuidText u) ≤ 36
-unfolding uuidText
-uuid-short u h = omega (arith, uuid-length 0 u, dashes-more 0 (length u) 16 h, four-dashes)
+unfolding uuidText dashes dash dashed ascii
+uuid-short u h = omega (arith, uuid-length 0 u, dashes-more 0 (length u) 16 h)
 
 -- ---- a subject
 

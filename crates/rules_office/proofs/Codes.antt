@@ -1,11 +1,11 @@
 -- Texts that can be told apart from what follows them, all of one shape: x before s and y before t are one text only if x is y and s is t.
 use Rattle.rows.proofs.Prelude.{_≡_, refl, sym, ap, ap₂, _∙_, Bool, true, false, not, _&&_, _||_, List, [], _∷_, _++_, map, append-assoc, append-cancel-left}
-use Rattle.rows.proofs.Prelude.{tail-eq-of-cons-eq, ℕ, arith, length, getD, not-true}
+use Rattle.rows.proofs.Prelude.{tail-eq-of-cons-eq, ℕ, arith, length, getD, not-true, and-left, and-right, and-both, or-left, or-right, or-neither}
+use Rattle.rows.proofs.Prelude.{contradiction, cond-cases}
 use mathlib.Core.List.{head-eq-of-cons-eq}
 use Rattle.text.specs.Text.{ascii}
 use Rattle.rows.specs.Rows.{same}
 use Rattle.rows.proofs.Kept.{same-refl}
-use Rattle.rules.proofs.Bools.{and-left, and-right, and-both, or-left, or-right, or-neither, contradiction, cond-cases}
 use Rattle.rules_office.specs.Office.{comma, separated, picked}
 
 -- every element passes the test, and some element does
@@ -91,13 +91,9 @@ picked-told [] [] xs hb hc d e = refl
 picked-told [] (c ∷ cs) xs hb hc d e = absurd (omega arith)
 picked-told (b ∷ bs) [] xs hb hc d e = absurd (omega arith)
 picked-told (b ∷ bs) (c ∷ cs) [] hb hc d e = absurd (omega arith)
-picked-told (b ∷ bs) (c ∷ cs) (x ∷ xs) hb hc d e = go (picked-told bs cs xs (omega arith) (omega arith) (and-right (not (any (same x) xs)) _ d)) b c e
-  where
-    fresh : any (same x) xs ≡ false
-    fresh = not-true _ (and-left _ _ d)
-
-    go : (picked bs xs ≡ picked cs xs → bs ≡ cs) → (b c : Bool) → picked (b ∷ bs) (x ∷ xs) ≡ picked (c ∷ cs) (x ∷ xs) → b ∷ bs ≡ c ∷ cs
-    go rest true true e = ap (λ l. true ∷ l) (rest (tail-eq-of-cons-eq e))
-    go rest true false e = absurd (not-picked x xs _ cs fresh (sym e))
-    go rest false true e = absurd (not-picked x xs _ bs fresh e)
-    go rest false false e = ap (λ l. false ∷ l) (rest e)
+picked-told (true ∷ bs) (true ∷ cs) (x ∷ xs) hb hc d e =
+    ap (λ l. true ∷ l) (picked-told bs cs xs (omega arith) (omega arith) (and-right (not (any (same x) xs)) _ d) (tail-eq-of-cons-eq e))
+picked-told (true ∷ bs) (false ∷ cs) (x ∷ xs) hb hc d e = absurd (not-picked x xs _ cs (not-true _ (and-left _ _ d)) (sym e))
+picked-told (false ∷ bs) (true ∷ cs) (x ∷ xs) hb hc d e = absurd (not-picked x xs _ bs (not-true _ (and-left _ _ d)) e)
+picked-told (false ∷ bs) (false ∷ cs) (x ∷ xs) hb hc d e =
+    ap (λ l. false ∷ l) (picked-told bs cs xs (omega arith) (omega arith) (and-right (not (any (same x) xs)) _ d) e)

@@ -1,8 +1,7 @@
 -- Decimals before a byte that is no digit: the number that the digits show is the number.
 use Rattle.rows.proofs.Prelude.{_≡_, refl, sym, ap, _∙_, Bool, true, false, _&&_, List, [], _∷_, _++_, ℕ, zero, suc, _+_, _-_, _*_, _/_, _≤_, arith, leb, ltb}
-use Rattle.rows.proofs.Prelude.{le-leb, ltb-false, ltb-true}
+use Rattle.rows.proofs.Prelude.{le-leb, ltb-false, ltb-true, and-both, cond-cases}
 use Rattle.text.specs.Text.{lastDigit, decimalIn, decimal}
-use Rattle.rules.proofs.Bools.{and-both, cond-cases}
 use Rattle.rules_office.proofs.Codes.{all, all-join, span}
 
 abbrev pub isDigit : ℕ → Bool

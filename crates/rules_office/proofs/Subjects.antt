@@ -1,13 +1,12 @@
 -- The subject of a storable access row can be told from its text.
-use Rattle.rows.proofs.Prelude.{_≡_, refl, sym, ap, ap₂, _∙_, Bool, true, false, not, _&&_, cond, List, [], _∷_, _++_, append-assoc, append-cancel-left}
-use Rattle.rows.proofs.Prelude.{tail-eq-of-cons-eq, ℕ, zero, suc, _+_, _/_, _%_, _≤_, _<_, arith, length, take, drop, getD, length-drop, length-take, take-take}
-use Rattle.rows.proofs.Prelude.{eqb, ltb, eqb-false, eqb-true, ltb-false, ltb-true}
+use Rattle.rows.proofs.Prelude.{_≡_, refl, sym, ap, _∙_, Bool, true, false, cond, List, [], _∷_, _++_, append-assoc, append-cancel-left, tail-eq-of-cons-eq, ℕ}
+use Rattle.rows.proofs.Prelude.{zero, suc, _+_, _/_, _%_, _≤_, _<_, arith, length, take, drop, getD, length-drop, length-take, take-take, eqb, ltb, eqb-false}
+use Rattle.rows.proofs.Prelude.{eqb-true, ltb-false, ltb-true, and-left, and-right, and-both, cond-cases, bool-cases, contradiction}
 use mathlib.Core.List.{head-eq-of-cons-eq}
 use Rattle.text.specs.Text.{ascii}
 use Rattle.rows.specs.Rows.{Row, allZero, joined}
 use Rattle.rules.specs.Bits.{bits}
-use Rattle.rules.specs.Bodies.{aceKind, aceSubject, aceAuthority, aceRole, aceConnection, isNil, subjectStorable}
-use Rattle.rules.proofs.Bools.{and-left, and-right, and-both, cond-cases, contradiction}
+use Rattle.rules.specs.Bodies.{aceKind, aceSubject, aceAuthority, aceRole, aceConnection, subjectStorable}
 use Rattle.rules.proofs.BitLaws.{bits-small}
 use Rattle.rules_office.specs.Office.{hexDigit, dash, hexByte, uuidFrom, uuidText, uuidSubject, roleSubject, connectionSubject, subjectText}
 use Rattle.rules_office.proofs.Codes.{all}
@@ -18,16 +17,10 @@ use Rattle.rules_office.proofs.Agree.{isByte, zeros-same, Agree, agree-
 
 hex-same : (a b : ℕ) → a < 16 → b < 16 → hexDigit a ≡ hexDigit b → a ≡ b
 unfolding hexDigit
-hex-same a b ha hb e = go (ltb a 10) (ltb b 10) refl refl e
-  where
-    go : (p q : Bool) → ltb a 10 ≡ p → ltb b 10 ≡ q → cond p (48 + a) (87 + a) ≡ cond q (48 + b) (87 + b) → a ≡ b
-    go true true hp hq e = omega arith
-    go true false hp hq e = omega (arith, ltb-true a 10 hp, ltb-false b 10 hq)
-    go false true hp hq e = omega (arith, ltb-false a 10 hp, ltb-true b 10 hq)
-    go false false hp hq e = omega arith
-
-byte-same : (a b : ℕ) → a / 16 ≡ b / 16 → a % 16 ≡ b % 16 → a ≡ b
-byte-same a b q m = omega arith
+hex-same a b ha hb e =
+    bool-cases (ltb a 10)
+    (λ p. bool-cases (ltb b 10) (λ q. omega (arith, rw (p, q) at e)) (λ q. omega (arith, rw (p, q) at e, ltb-true a 10 p, ltb-false b 10 q)))
+    (λ p. bool-cases (ltb b 10) (λ q. omega (arith, rw (p, q) at e, ltb-false a 10 p, ltb-true b 10 q)) (λ q. omega (arith, rw (p, q) at e)))
 
 pub uuid-told : (i : ℕ) (u v : List ℕ) {s t : List ℕ} → length u ≡ length v → all isByte u ≡ true → all isByte v ≡ true
     → uuidFrom i u ++ s ≡ uuidFrom i v ++ t → (u ≡ v) × (s ≡ t)
@@ -43,49 +36,32 @@ uuid-told i (a ∷ u) (b ∷ v) {s} {t} l hu hv e =
     let q = hex-same (a / 16) (b / 16) (omega arith) (omega arith) (head-eq-of-cons-eq e₁) in
     let m = hex-same (a % 16) (b % 16) (omega arith) (omega arith) (head-eq-of-cons-eq e₂) in
     let r = uuid-told (suc i) u v (omega arith) (and-right (isByte a) _ hu) (and-right (isByte b) _ hv) (tail-eq-of-cons-eq e₂) in
-    (ap₂ (λ (x : ℕ) (y : List ℕ). x ∷ y) (byte-same a b q m) (r .0), r .1)
+    let first : a ≡ b = omega arith in
+    (rw (first, r .0), r .1)
 
 -- ---- the three kinds
 
-data Subject (w : Row) : Type 0 where
-  uuid : aceKind w ≡ 0 → subjectText w ≡ uuidSubject w → Subject w
-  role : aceKind w ≡ 1 → subjectText w ≡ roleSubject w → allZero (take 12 (aceSubject w)) ≡ true → Subject w
-  connection : aceKind w ≡ 2 → subjectText w ≡ connectionSubject w → allZero (take 15 (aceSubject w)) ≡ true → bits w 216 7 ≡ 0 → Subject w
-
-subject : (w : Row) → subjectStorable w ≡ true → Subject w
-unfolding subjectStorable subjectText
-subject w h = go (eqb (aceKind w) 0) (eqb (aceKind w) 1) (eqb (aceKind w) 2) refl refl refl h
-  where
-    go : (a b c : Bool) → eqb (aceKind w) 0 ≡ a → eqb (aceKind w) 1 ≡ b → eqb (aceKind w) 2 ≡ c
-        → cond a (not (isNil (aceSubject w))) (cond b (allZero (take 12 (aceSubject w)) && not (eqb (aceRole w) 0))
-        (cond c (allZero (take 15 (aceSubject w)) && eqb (bits w 216 7) 0) false))
-        ≡ true
-        → Subject w
-    go true b c p q o h = uuid (eqb-true _ 0 p) (rw p)
-    go false true c p q o h = role (eqb-true _ 1 q) (rw (p, q)) (and-left _ _ h)
-    go false false true p q o h = connection (eqb-true _ 2 o) (rw (p, q, o)) (and-left _ _ h) (eqb-true _ 0 (and-right (allZero (take 15 (aceSubject w))) _ h))
-    go false false false p q o h = contradiction h refl
-
 -- the first letter of the key tells the kind
-abbrev letter : {w : Row} → Subject w → ℕ
-letter (uuid k e) = 117
-letter (role k e z) = 97
-letter (connection k e z b) = 99
+abbrev kindOf : ℕ → ℕ
+kindOf letter = cond (eqb letter 117) 0 (cond (eqb letter 97) 1 2)
 
-letter-at : {w : Row} (k : Subject w) (s : List ℕ) → getD (subjectText w ++ s) 2 0 ≡ letter k
-unfolding uuidSubject roleSubject connectionSubject joined ascii
-letter-at (uuid k e) s = rw e
-letter-at (role k e z) s = rw e
-letter-at {w} (connection k e z b) s =
-    rw e (cond-cases (λ (x : List ℕ). getD (x ++ s) 2 0 ≡ 99) (eqb (aceConnection w) 1) (λ _. refl) (λ _. refl))
+kind-told : (w : Row) (s : List ℕ) → subjectStorable w ≡ true → kindOf (getD (subjectText w ++ s) 2 0) ≡ aceKind w
+unfolding subjectStorable subjectText uuidSubject roleSubject connectionSubject joined ascii
+kind-told w s h =
+    bool-cases (eqb (aceKind w) 0) (λ p. rw p (sym (eqb-true (aceKind w) 0 p)))
+    (λ p. bool-cases (eqb (aceKind w) 1) (λ q. rw (p, q) (sym (eqb-true (aceKind w) 1 q)))
+    (λ q. bool-cases (eqb (aceKind w) 2)
+    (λ o. rw (p, q, o)
+    (cond-cases (λ (x : List ℕ). kindOf (getD (x ++ s) 2 0) ≡ aceKind w) (eqb (aceConnection w) 1)
+    (λ _. sym (eqb-true (aceKind w) 2 o)) (λ _. sym (eqb-true (aceKind w) 2 o))))
+    (λ o. contradiction (rw (p, q, o) at h) refl)))
 
 -- two bits with the same test
 pub bit-same : (x y : ℕ) → x < 2 → y < 2 → eqb x 1 ≡ eqb y 1 → x ≡ y
-bit-same x y hx hy e = go (eqb y 1) refl e
-  where
-    go : (b : Bool) → eqb y 1 ≡ b → eqb x 1 ≡ b → x ≡ y
-    go true p q = omega (arith, eqb-true y 1 p, eqb-true x 1 q)
-    go false p q = omega (arith, eqb-false y 1 p, eqb-false x 1 q)
+bit-same x y hx hy e =
+    bool-cases (eqb y 1)
+    (λ p. omega (arith, eqb-true y 1 p, eqb-true x 1 (e ∙ p)))
+    (λ p. omega (arith, eqb-false y 1 p, eqb-false x 1 (e ∙ p)))
 
 connectionText : Bool → List ℕ
 connectionText b = cond b (ascii "{\"conntype\":\"auth-crypt\"}") (ascii "{\"conntype\":\"anon-clear\"}")
@@ -120,9 +96,6 @@ module _ (w v : Row) (l : length w ≡ length v) where
   part : (n : ℕ) → n ≤ 16 → take n (aceSubject w) ≡ take n (aceSubject v) → take n (drop 12 w) ≡ take n (drop 12 v)
   part n h e = sym (take-take n 16 (drop 12 w) h) ∙ e ∙ take-take n 16 (drop 12 v) h
 
-  letters : (s t : List ℕ) (k : Subject w) (k′ : Subject v) → subjectText w ++ s ≡ subjectText v ++ t → letter k ≡ letter k′
-  letters s t k k′ h = sym (letter-at k s) ∙ ap (λ (x : List ℕ). getD x 2 0) h ∙ letter-at k′ t
-
   uuids : {s t : List ℕ} → all isByte w ≡ true → all isByte v ≡ true → uuidSubject w ++ s ≡ uuidSubject v ++ t → (aceSubject w ≡ aceSubject v) × (s ≡ t)
   unfolding uuidSubject uuidText joined ascii
   uuids {s} {t} bw bv h =
@@ -146,36 +119,30 @@ module _ (w v : Row) (l : length w ≡ length v) where
       let r = connection-told (eqb (aceConnection w) 1) (eqb (aceConnection v) 1) s t h in
       (bit-same (aceConnection w) (aceConnection v) (bits-small w 223 1) (bits-small v 223 1) (r .0), r .1)
 
-  both : {s t : List ℕ} → all isByte w ≡ true → all isByte v ≡ true → Subject w → Subject v
-      → subjectText w ++ s ≡ subjectText v ++ t → SubjectSame w v × (s ≡ t)
-  both {s} {t} bw bv (uuid k e) (uuid k′ e′) h =
-      let r = uuids bw bv (rw (e, e′) at h) in
-      (record { kind = k ∙ sym k′; bytes = λ f. agree-part w v 12 16 f (r .0) }, r .1)
-  both {s} {t} bw bv (role k e z) (role k′ e′ z′) h =
-      let r = roles (rw (e, e′) at h) in (
-        record {
-          kind = k ∙ sym k′;
-          bytes = λ f. agree-field w v 208 16
-              (agree-field w v 192 16 (agree-part w v 12 12 f (part 12 (omega arith) (zeros-same _ _ (length-part 12) z z′))) (r .0)) (r .1);
-        },
-        r .2,
-      )
-  both {s} {t} bw bv (connection k e z b) (connection k′ e′ z′ b′) h =
-      let r = connections (rw (e, e′) at h) in (
-        record {
-          kind = k ∙ sym k′;
-          bytes = λ f. agree-field w v 223 1
-              (agree-field w v 216 7 (agree-part w v 12 15 f (part 15 (omega arith) (zeros-same _ _ (length-part 15) z z′))) (b ∙ sym b′)) (r .0);
-        },
-        r .1,
-      )
-  both {s} {t} bw bv (uuid k e) (role k′ e′ z′) h = absurd (omega (arith, letters s t (uuid k e) (role k′ e′ z′) h))
-  both {s} {t} bw bv (uuid k e) (connection k′ e′ z′ b′) h = absurd (omega (arith, letters s t (uuid k e) (connection k′ e′ z′ b′) h))
-  both {s} {t} bw bv (role k e z) (uuid k′ e′) h = absurd (omega (arith, letters s t (role k e z) (uuid k′ e′) h))
-  both {s} {t} bw bv (role k e z) (connection k′ e′ z′ b′) h = absurd (omega (arith, letters s t (role k e z) (connection k′ e′ z′ b′) h))
-  both {s} {t} bw bv (connection k e z b) (uuid k′ e′) h = absurd (omega (arith, letters s t (connection k e z b) (uuid k′ e′) h))
-  both {s} {t} bw bv (connection k e z b) (role k′ e′ z′) h = absurd (omega (arith, letters s t (connection k e z b) (role k′ e′ z′) h))
-
   pub subject-told : {s t : List ℕ} → all isByte w ≡ true → all isByte v ≡ true → subjectStorable w ≡ true → subjectStorable v ≡ true
       → subjectText w ++ s ≡ subjectText v ++ t → SubjectSame w v × (s ≡ t)
-  subject-told bw bv hw hv e = both bw bv (subject w hw) (subject v hv) e
+  unfolding subjectStorable subjectText
+  subject-told {s} {t} bw bv hw hv e =
+      let k : aceKind w ≡ aceKind v = sym (kind-told w s hw) ∙ ap (λ (x : List ℕ). kindOf (getD x 2 0)) e ∙ kind-told v t hv in
+      bool-cases (eqb (aceKind w) 0)
+      (λ p. let r = uuids bw bv (rw (p, rw k at p) at e) in (record { kind = k; bytes = λ f. agree-part w v 12 16 f (r .0) }, r .1))
+      (λ p. let p′ = rw k at p in
+      bool-cases (eqb (aceKind w) 1)
+      (λ q. let q′ = rw k at q in
+      let r = roles (rw (p, q, p′, q′) at e) in
+      let z = and-left (allZero (take 12 (aceSubject w))) _ (rw (p, q) at hw) in
+      let z′ = and-left (allZero (take 12 (aceSubject v))) _ (rw (p′, q′) at hv) in
+      let zeros = part 12 (omega arith) (zeros-same _ _ (length-part 12) z z′) in
+      (record { kind = k; bytes = λ f. agree-field w v 208 16 (agree-field w v 192 16 (agree-part w v 12 12 f zeros) (r .0)) (r .1) }, r .2))
+      (λ q. let q′ = rw k at q in
+      bool-cases (eqb (aceKind w) 2)
+      (λ o. let o′ = rw k at o in
+      let r = connections (rw (p, q, o, p′, q′, o′) at e) in
+      let z = rw (p, q, o) at hw in
+      let z′ = rw (p′, q′, o′) at hv in
+      let all-zero = allZero (take 15 (aceSubject w)) in
+      let all-zero′ = allZero (take 15 (aceSubject v)) in
+      let zeros = part 15 (omega arith) (zeros-same _ _ (length-part 15) (and-left all-zero _ z) (and-left all-zero′ _ z′)) in
+      let bits-same = eqb-true (bits w 216 7) 0 (and-right all-zero _ z) ∙ sym (eqb-true (bits v 216 7) 0 (and-right all-zero′ _ z′)) in
+      (record { kind = k; bytes = λ f. agree-field w v 223 1 (agree-field w v 216 7 (agree-part w v 12 15 f zeros) bits-same) (r .0) }, r .1))
+      (λ o. contradiction (rw (p, q, o) at hw) refl)))

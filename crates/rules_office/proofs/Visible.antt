@@ -1,16 +1,15 @@
 -- Theorem, U6: the office text is ASCII with no white space: each byte lies between 32, the space, and 127.
 -- Of tables of any content; that the rows are bytes is what the struct's types give.
 use Rattle.rows.proofs.Prelude.{_≡_, refl, Bool, true, false, _&&_, List, [], _∷_, _++_, map, ℕ, zero, suc, _+_, _/_, _%_, _<_, min, arith, length, take, drop}
-use Rattle.rows.proofs.Prelude.{getD, eqb, leb, ltb, leb-true, lt-ltb, ltb-true}
+use Rattle.rows.proofs.Prelude.{getD, eqb, leb, ltb, leb-true, lt-ltb, ltb-true, and-left, and-right, and-both, cond-cases}
 use Rattle.text.specs.Text.{ascii, decimalIn, decimal}
 use Rattle.rows.specs.Rows.{Row, rowsOf, joined, without}
 use Rattle.rules.specs.declared.Tables.{Tables}
 use Rattle.rules.specs.Bodies.{rowNumber, aceKind, acePermission, aceSubject, aceAuthority, aceRole, aceConnection}
 use Rattle.rules.specs.Tables.{rowsIn}
-use Rattle.rules.proofs.Bools.{and-left, and-right, and-both, cond-cases}
-use Rattle.rules_office.specs.Office.{hexDigit, dashed, dash, hexByte, uuidFrom, uuidText, comma, separated, uuidSubject}
-use Rattle.rules_office.specs.Office.{roleSubject, connectionSubject, subjectText, href, choices, chosen, picked, braced}
-use Rattle.rules_office.specs.Office.{resourcesText, rowText, rowsText, listText, seasonal, rowsWritten, officeText}
+use Rattle.rules_office.specs.Office.{hexDigit, dashed, dash, hexByte, uuidFrom, uuidText, comma, separated, uuidSubject, roleSubject, connectionSubject}
+use Rattle.rules_office.specs.Office.{subjectText, href, choices, chosen, picked, braced, resourcesText, rowText, rowsText, listText, seasonal}
+use Rattle.rules_office.specs.Office.{rowsWritten, officeText}
 use Rattle.rules_office.proofs.Codes.{all, all-join, all-picked}
 use Rattle.rules_office.proofs.Decimals.{isDigit, digits}
 use Rattle.rules_office.proofs.Agree.{isByte}
@@ -52,10 +51,7 @@ between : (b : ℕ) → 32 < b → b < 127 → visible b ≡ true
 between b l h = and-both (ltb 32 b) (ltb b 127) (lt-ltb 32 b l) (lt-ltb b 127 h)
 
 digit-visible : (b : ℕ) → isDigit b ≡ true → visible b ≡ true
-digit-visible b h =
-    let low = leb-true 48 b (and-left _ _ h) in
-    let high = leb-true b 57 (and-right (leb 48 b) _ h) in
-    between b (omega arith) (omega arith)
+digit-visible b h = between b (omega (arith, leb-true 48 b (and-left _ _ h))) (omega (arith, leb-true b 57 (and-right (leb 48 b) _ h)))
 
 decimal-visible : (n : ℕ) → Visible (decimal n)
 unfolding decimal
@@ -90,10 +86,9 @@ subject-visible : (w : Row) → all isByte w ≡ true → Visible (subjectText w
 unfolding subjectText uuidSubject roleSubject connectionSubject uuidText ascii
 subject-visible w h =
     let u = uuid-visible 0 (aceSubject w) (all-take isByte 16 (drop 12 w) (all-drop isByte 12 w h)) in
-    let a = decimal-visible (aceAuthority w) in
     let r = decimal-visible (aceRole w) in
     cond-cases Visible (eqb (aceKind w) 0) (λ _. joined-visible _ (rw u))
-    (λ _. cond-cases Visible (eqb (aceKind w) 1) (λ _. joined-visible _ (rw (a, r)))
+    (λ _. cond-cases Visible (eqb (aceKind w) 1) (λ _. joined-visible _ (rw (decimal-visible (aceAuthority w), r)))
     (λ _. cond-cases Visible (eqb (aceKind w) 2) (λ _. cond-cases Visible (eqb (aceConnection w) 1) (λ _. refl) (λ _. refl)) (λ _. refl)))
 
 choices-visible : all (all visible) choices ≡ true

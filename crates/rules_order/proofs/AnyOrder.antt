@@ -1,15 +1,15 @@
 -- Theorem, U14: terminals whose tables differ only in the order of their access rows answer every run the same, but for that order.
 -- A run is of hand-ins, takes and records that are judged at once, mixed in any way,
 -- each with its clock and its buffer's length. One claim over the whole list.
-use Rattle.rows.proofs.Prelude.{_≡_, refl, sym, ap, ap₂, _∙_, Bool, true, List, [], _∷_, ℕ, length}
+use Rattle.rows.proofs.Prelude.{_≡_, refl, sym, ap₂, _∙_, Bool, true, List, [], _∷_, ℕ, length}
 use Rattle.rows.specs.Rows.{Row, packed, every}
-use Rattle.rows.proofs.Laws.{length-rowsOf, kept}
+use Rattle.rows.proofs.Laws.{kept}
 use Rattle.rules.specs.declared.Tables.{Tables}
 use Rattle.rules.specs.declared.Table.the-variants.{Aces}
 use Rattle.rules.specs.Tables.{storable, rows, withRows, sound}
 use Rattle.rules.specs.Defaults.{Defaults}
 use Rattle.rules.specs.Run.{replies, final}
-use Rattle.rules.proofs.Answers.{table-parts, rows-are}
+use Rattle.rules.proofs.Answers.{table-parts, rows-are, rows-count}
 use Rattle.rules.proofs.TableLaws.{aces-are, table-is, few-rows, rows-with}
 use Rattle.rules.proofs.SoundKept.{SoundRows, sound-with}
 use Rattle.rules_waiting.specs.Slots.{waiting}
@@ -64,9 +64,6 @@ any-order d x y is s l =
 
 -- ---- what the relation says: nothing else differs, byte for byte
 
-pub counted : (t : Tables) → sound t ≡ true → t .naces ≡ length (rows Aces t)
-counted t h = sym (ap length (rows-are Aces t h) ∙ length-rowsOf 36 (t .naces) (t .aces))
-
 -- the second terminal is the first with the access rows of the second
 pub order-whole : (x y : Terminal) → InStep x y → length (y .tables .aces) ≡ 1152 → y ≡ withAccess x (rows Aces (y .tables))
 order-whole x y s l =
@@ -74,7 +71,8 @@ order-whole x y s l =
     let h = terminal-parts y (s .soundRight) .tables in
     let stands : u .aces ≡ packed 1152 (rows Aces u) = kept 36 (u .naces) (u .aces) (table-is Aces u h l) ∙ ap₂ packed l (sym (rows-are Aces u h)) in
     ap₂ terminal
-    (order-is (x .tables) u (s .tables) ∙ aces-are (x .tables) (rows Aces u) (x .tables .naces) 1152 (u .aces) (s .tables .counted ∙ counted u h) stands refl)
+    (order-is (x .tables) u (s .tables)
+    ∙ aces-are (x .tables) (rows Aces u) (x .tables .naces) 1152 (u .aces) (s .tables .counted ∙ sym (rows-count Aces u h)) stands refl)
     (sym (s .memory))
 
 -- ---- the office's question: a sound terminal whose access rows are put in any order is sound, and in step with it
@@ -106,7 +104,7 @@ reordered-in-step x ws h o =
       memory = refl;
       tables = record {
         others = refl;
-        counted = counted t (s .tables) ∙ order-length o;
+        counted = sym (rows-count Aces t (s .tables)) ∙ order-length o;
         order = rw (rows-with Aces t ws (r .few) (r .stores)) o;
       };
     }

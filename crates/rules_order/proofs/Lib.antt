@@ -1,7 +1,6 @@
--- The laws of another order (ReorderLaws), one record (FromAccess, OneRecord), one input
+-- The laws of another order (ReorderLaws), one record (OneRecord), one input
 -- (OwnersKept, OneInput), and the theorems of U14: AnyOrder, Calls, Lists.
 pub mod ReorderLaws
-pub mod FromAccess
 pub mod OneRecord
 pub mod OwnersKept
 pub mod OneInput

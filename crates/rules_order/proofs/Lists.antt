@@ -16,7 +16,7 @@ use Rattle.rules_lists.specs.Lists.{listed, badSize, excessive, listTested, acc
 use Rattle.rules_lists.proofs.Exact.{faultless-accepted, accepted-faultless}
 use Rattle.rules_order.specs.Reorder.{Reordered}
 use Rattle.rules_order.specs.Order.{OrderOnly}
-use Rattle.rules_order.proofs.AnyOrder.{counted}
+use Rattle.rules.proofs.Answers.{rows-count}
 use Rattle.rules_order.proofs.ReorderLaws.{order-length, order-every, order-some, order-distinct}
 
 pub list-any-order : (b c : List ℕ) → length b ≡ length c → Reordered (listed b) (listed c) → listTested b .answer ≡ 0 → listTested c ≡ accepted
@@ -42,13 +42,11 @@ pub loaded-any-order :
 loaded-any-order d t n b c qs rs l o h ready e f =
     let one = accepted-loaded d t n b qs h ready e in
     let other = accepted-loaded d t n c rs (ap (λ (x : Tested). x .answer) (list-any-order b c l o h)) ready f in
-    let u = final (tablesAfter d) t qs in
-    let v = final (tablesAfter d) t rs in
     record {
       others = one .others ∙ sym (other .others);
-      counted = counted u (run-sound d t qs (ready .isSound))
+      counted = sym (rows-count Aces (final (tablesAfter d) t qs) (run-sound d t qs (ready .isSound)))
           ∙ ap length (one .held)
           ∙ order-length o
-          ∙ sym (counted v (run-sound d t rs (ready .isSound)) ∙ ap length (other .held));
+          ∙ sym (sym (rows-count Aces (final (tablesAfter d) t rs) (run-sound d t rs (ready .isSound))) ∙ ap length (other .held));
       order = rw (one .held, other .held) o;
     }

@@ -1,22 +1,20 @@
 -- One input to two terminals in step: a hand-in, a take or a record that is judged at once gets the same answer but for the order, and leaves them in step.
 -- What waits is found by the credential rows alone, so the queue of one is that of the other.
-use Rattle.rows.proofs.Prelude.{_≡_, refl, sym, ap, ap₂, subst, true, _&&_, List, ℕ, length, eqb}
+use Rattle.rows.proofs.Prelude.{_≡_, refl, sym, ap, ap₂, subst, true, List, ℕ, length, eqb}
 use Rattle.rows.specs.Rows.{Row, same}
 use Rattle.rules.specs.declared.Tables.{Tables}
 use Rattle.rules.specs.declared.Table.the-variants.{Aces}
-use Rattle.rules.specs.declared.Check.{Check}
-use Rattle.rules.specs.declared.Check.the-variants.{Pass, Refuse}
 use Rattle.rules.specs.Record.{Request, received}
 use Rattle.rules.specs.Tables.{rows}
 use Rattle.rules.specs.Defaults.{Defaults}
-use Rattle.rules.specs.Action.{action}
 use Rattle.rules.specs.Checks.{verdict}
 use Rattle.rules.specs.Outcome.{toldTo, tablesAfter}
 use Rattle.rules_waiting.specs.Slots.{Round}
 use Rattle.rules_waiting.specs.Round.{seats, firstInTurn}
-use Rattle.rules_waiting.specs.Terminal.{Terminal, terminal, Answered, numberAlone, soundTerminal, handInChecks, handInOf, handedIn, isReset}
-use Rattle.rules_waiting.specs.Terminal.{clears, asMany, memoryAfter, takeChecks, turn, due, takeOf, taken, directChecks, directOf, judged}
+use Rattle.rules_waiting.specs.Terminal.{Terminal, terminal, Answered, numberAlone, soundTerminal, handInChecks, handedIn, clears, asMany, memoryAfter}
+use Rattle.rules_waiting.specs.Terminal.{takeChecks, turn, due, taken, directChecks, judged}
 use Rattle.rules_waiting.specs.Inputs.{Input, handIn, takeAt, direct, answered, next}
+use Rattle.rules.proofs.CheckLaws.{check-cases}
 use Rattle.rules_waiting.proofs.Sound.{terminal-parts, sound-next}
 use Rattle.rules_order.specs.Reorder.{Reordered}
 use Rattle.rules_order.specs.Order.{OrderOnly, InStep, SameBut, SameAnswer}
@@ -31,17 +29,13 @@ seats-same t u o = ap seats (o .others)
 
 module _ (d : Defaults) (t u : Tables) (q : Request) (o : OrderOnly t u)
     (a : toldTo d t q .answer ≡ toldTo d u q .answer) (p : OrderOnly (tablesAfter d t q) (tablesAfter d u q)) where
-  clears-same : clears d t q ≡ clears d u q
-  unfolding clears
-  clears-same = ap (λ (n : ℕ). eqb n 0 && isReset (action (q .bytes))) a
-
   many-same : asMany t (tablesAfter d t q) ≡ asMany u (tablesAfter d u q)
   unfolding asMany
   many-same = ap₂ (λ (x y : Tables). eqb (x .ncreds) (y .ncreds)) (o .others) (p .others)
 
   memory-same : (k : Round) (ws : List Row) → memoryAfter d t q k ws ≡ memoryAfter d u q k ws
-  unfolding memoryAfter
-  memory-same k ws = rw (clears-same, many-same, seats-same t u o, seats-same (tablesAfter d t q) (tablesAfter d u q) p)
+  unfolding memoryAfter clears
+  memory-same k ws = rw (a, many-same, seats-same t u o, seats-same (tablesAfter d t q) (tablesAfter d u q) p)
 
 -- ---- an answer on two sides
 
@@ -68,80 +62,46 @@ module _ (d : Defaults) (t : Tables) (z m : List ℕ) (o : Reordered (rows Aces 
   stays : (i : Input) (n : ℕ) → Stepped i (numberAlone n x) (numberAlone n y)
   stays i n = record { same = record { bytes = refl; told = same-told _ _ }; memory = refl; tables = alike }
 
-  -- ---- hand-in
-
-  hand-step : (r : List ℕ) → Stepped (handIn r) (handedIn x r) (handedIn y r)
-  unfolding handedIn
-  hand-step r =
-      subst (λ (c : Check). Stepped (handIn r) (handInOf x r (verdict (handInChecks x r))) (handInOf y r c)) verdicts (go (verdict (handInChecks x r)))
-    where
-      verdicts : verdict (handInChecks x r) ≡ verdict (handInChecks y r)
-      verdicts = rw (h, k, credential-same t z o r)
-
-      go : (c : Check) → Stepped (handIn r) (handInOf x r c) (handInOf y r c)
-      go Pass = record { same = record { bytes = refl; told = same-told _ _ }; memory = refl; tables = alike }
-      go (Refuse n) = stays (handIn r) n
-
-  -- ---- a record that is judged: at a take, and at once
-
   judged-both : (q : Request) → SameBut (q .bytes) (toldTo d t q) (toldTo d u q) × OrderOnly (tablesAfter d t q) (tablesAfter d u q)
   judged-both q = record-step d t z o q (terminal-parts x h .tables) (terminal-parts y k .tables) l
 
-  take-step : (clock room : ℕ) → Stepped (takeAt clock room) (taken d x clock room) (taken d y clock room)
-  unfolding taken due turn firstInTurn seats
-  take-step clock room =
-      subst (λ (c : Check). Stepped (takeAt clock room) (takeOf d x q (verdict (takeChecks x))) (takeOf d y q c)) verdicts (go (verdict (takeChecks x)))
-    where
-      q : Request
-      q = received clock (due x) room
-
-      verdicts : verdict (takeChecks x) ≡ verdict (takeChecks y)
-      verdicts = rw (h, k)
-
-      go : (c : Check) → Stepped (takeAt clock room) (takeOf d x q c) (takeOf d y q c)
-      go Pass =
-          let both = judged-both q in
-          record { same = record { bytes = refl; told = both .0 }; memory = memory-same d t u q alike (both .0 .answer) (both .1) _ _; tables = both .1 }
-      go (Refuse n) = stays (takeAt clock room) n
-
-  direct-step : (q : Request) → Stepped (direct q) (judged d x q) (judged d y q)
-  unfolding judged
-  direct-step q =
-      subst (λ (c : Check). Stepped (direct q) (directOf d x q (verdict (directChecks x))) (directOf d y q c)) verdicts (go (verdict (directChecks x)))
-    where
-      verdicts : verdict (directChecks x) ≡ verdict (directChecks y)
-      verdicts = rw (h, k)
-
-      go : (c : Check) → Stepped (direct q) (directOf d x q c) (directOf d y q c)
-      go Pass =
-          let both = judged-both q in
-          record { same = record { bytes = refl; told = both .0 }; memory = memory-same d t u q alike (both .0 .answer) (both .1) _ _; tables = both .1 }
-      go (Refuse n) = stays (direct q) n
-
   stepped : (i : Input) → Stepped i (answered d x i) (answered d y i)
-  stepped (handIn r) = hand-step r
-  stepped (takeAt clock room) = take-step clock room
-  stepped (direct q) = direct-step q
+  unfolding handedIn taken due turn firstInTurn seats judged
+  stepped (handIn r) =
+      let v : verdict (handInChecks y r) ≡ verdict (handInChecks x r) = rw (h, k, credential-same t z o r) in
+      rw v
+      (check-cases (verdict (handInChecks x r))
+      (λ e. rw e (record { same = record { bytes = refl; told = same-told _ _ }; memory = refl; tables = alike }))
+      (λ n e. rw e (stays (handIn r) n)))
+  stepped (takeAt clock room) =
+      let v : verdict (takeChecks y) ≡ verdict (takeChecks x) = rw (h, k) in
+      let q = received clock (due x) room in
+      let both = judged-both q in
+      rw v
+      (check-cases (verdict (takeChecks x))
+      (λ e. rw e
+      (record { same = record { bytes = refl; told = both .0 }; memory = memory-same d t u q alike (both .0 .answer) (both .1) _ _; tables = both .1 }))
+      (λ n e. rw e (stays (takeAt clock room) n)))
+  stepped (direct q) =
+      let v : verdict (directChecks y) ≡ verdict (directChecks x) = rw (h, k) in
+      let both = judged-both q in
+      rw v
+      (check-cases (verdict (directChecks x))
+      (λ e. rw e
+      (record { same = record { bytes = refl; told = both .0 }; memory = memory-same d t u q alike (both .0 .answer) (both .1) _ _; tables = both .1 }))
+      (λ n e. rw e (stays (direct q) n)))
 
 -- ---- the row owners keep their length
 
 pub owners-next : (d : Defaults) (x : Terminal) (i : Input) → length (x .tables .rowners) ≡ 64 → length (next d x i .tables .rowners) ≡ 64
 unfolding handedIn taken judged
-owners-next d x (handIn r) l = go (verdict (handInChecks x r))
-  where
-    go : (c : Check) → length (handInOf x r c .terminal .tables .rowners) ≡ 64
-    go Pass = l
-    go (Refuse n) = l
-owners-next d x (takeAt clock room) l = go (verdict (takeChecks x))
-  where
-    go : (c : Check) → length (takeOf d x (received clock (due x) room) c .terminal .tables .rowners) ≡ 64
-    go Pass = owners-kept d (x .tables) (received clock (due x) room) l
-    go (Refuse n) = l
-owners-next d x (direct q) l = go (verdict (directChecks x))
-  where
-    go : (c : Check) → length (directOf d x q c .terminal .tables .rowners) ≡ 64
-    go Pass = owners-kept d (x .tables) q l
-    go (Refuse n) = l
+owners-next d x (handIn r) l = check-cases (verdict (handInChecks x r)) (λ e. rw (e, next) l) (λ n e. rw (e, next) l)
+owners-next d x (takeAt clock room) l =
+    check-cases (verdict (takeChecks x))
+    (λ e. rw (e, next) (owners-kept d (x .tables) (received clock (due x) room) l))
+    (λ n e. rw (e, next) l)
+owners-next d x (direct q) l =
+    check-cases (verdict (directChecks x)) (λ e. rw (e, next) (owners-kept d (x .tables) q l)) (λ n e. rw (e, next) l)
 
 -- ---- one input
 

@@ -1,8 +1,8 @@
 -- One record, judged on two sound tables that differ only in the order of their access rows (U14):
 -- the same is said of it but for that order, and afterwards the tables differ at most so.
 -- The second tables are the first with other bytes of access rows, so that whatever does not look at these is the same by itself.
-use Rattle.rows.proofs.Prelude.{_≡_, refl, sym, ap, ap₂, subst, _∙_, Bool, true, false, not, _&&_, List, [], _∷_, _++_, ℕ, arith, length, length-append}
-use Rattle.rows.proofs.Prelude.{take-at, eqb, leb, bitOr, eqb-true}
+use Rattle.rows.proofs.Prelude.{_≡_, refl, sym, ap, ap₂, subst, _∙_, Bool, true, false, List, [], _∷_, _++_, ℕ, arith, length, length-append, take-at, eqb}
+use Rattle.rows.proofs.Prelude.{bitOr, eqb-true, contradiction, and-left, and-right, and-false-right, cond, cond-cases}
 use Rattle.rows.specs.Rows.{Row, joined, stored, without, hasKey, numberedAs}
 use Rattle.rows.proofs.Kept.{AllLong}
 use Rattle.rules.specs.declared.Tables.{Tables}
@@ -12,11 +12,14 @@ use Rattle.rules.specs.declared.Check.the-variants.{Pass, Refuse}
 use Rattle.rules.specs.declared.Action.{Action}
 use Rattle.rules.specs.declared.Action.the-variants.{Serve, Read, SetRowOwner, SetOwner, SetState, Store, Remove, Assert, Malformed}
 use Rattle.rules.specs.Directory.{resourceOf, isSecurity, links, cred, acl2}
+use Rattle.rules.specs.declared.Table.{Table}
+use Rattle.rules.specs.Kinds.{onRemove}
 use Rattle.rules.specs.Record.{Request, received, Sender, unauthenticated, partner, sender, verb, resource, body}
 use Rattle.rules.specs.Bodies.{target}
 use Rattle.rules.specs.Tables.{rowOf, rows, withRows, rowOwner, sound}
 use Rattle.rules.specs.Permission.{ownRow, connectionOf, gives, isOwner, byOwner, byNoOwner, byRoles, effectiveOf, permission}
-use Rattle.rules.specs.Action.{action}
+use Rattle.rules.specs.Action.{action, ifAllowed, updateDoxm, updatePstat, storeRow, updateRows, updateRoles, updateAction, deleteNumber, deleteCreds}
+use Rattle.rules.specs.Action.{deleteAction, readAction, securityAction}
 use Rattle.rules.specs.States.{moveAllowed}
 use Rattle.rules.specs.Reading.{ownBody, rowBytes, contents, reads, replyOf, tooShort, rowsOfReply}
 use Rattle.rules.specs.Checks.{noRow, noCredential, badTarget, missing, full, checks, verdict}
@@ -24,15 +27,34 @@ use Rattle.rules.specs.Links.{ownRecord, permits, setOf, linkSet, linksOf}
 use Rattle.rules.specs.Places.{placesOf}
 use Rattle.rules.specs.Defaults.{Defaults, fresh}
 use Rattle.rules.specs.Outcome.{Told, Outcome, entered, effect, outcome, outcomeAt, outcomeOf, toldTo, tablesAfter}
-use Rattle.rules.proofs.Bools.{contradiction, and-left, and-right, and-false-right}
 use Rattle.rules.proofs.Answers.{table-parts}
 use Rattle.rules.proofs.TableLaws.{rows-with}
 use Rattle.rules.proofs.SoundKept.{SoundRows, Passed, passed-all, stored-sound, removed-sound}
 use Rattle.rules.proofs.ReadBack.{reply-is, owner-long, long-rows, read-rows}
 use Rattle.rules_order.specs.Reorder.{Reordered}
 use Rattle.rules_order.specs.Order.{OrderOnly, listsAccess, SameListed, SameBut}
-use Rattle.rules_order.proofs.FromAccess.{fromAccess, action-not}
 use Rattle.rules_order.proofs.ReorderLaws.{cond-both, order-refl, order-length, order-joined, order-union, order-some, order-stored, order-without}
+
+-- ---- a record that removes access rows is a DELETE of acl2: on any other resource the action is another
+
+abbrev isAccess : Table → Bool
+isAccess Creds = false
+isAccess Aces = true
+
+abbrev fromAccess : Action → Bool
+fromAccess = onRemove (λ k at. isAccess k) false
+
+-- it goes into a choice
+from-cond : (b : Bool) (x y : Action) → fromAccess (cond b x y) ≡ cond b (fromAccess x) (fromAccess y)
+from-cond true x y = refl
+from-cond false x y = refl
+
+never : (b : Bool) → cond b false false ≡ false
+never b = cond-cases (λ (c : Bool). c ≡ false) b (λ _. refl) (λ _. refl)
+
+action-not : (r : List ℕ) → eqb (resource r) acl2 ≡ false → fromAccess (action r) ≡ false
+unfolding action securityAction readAction updateAction updateDoxm updatePstat updateRows updateRoles storeRow deleteAction deleteCreds deleteNumber ifAllowed
+action-not r e = simp (from-cond, never, e)
 
 abbrev SameLength : List ℕ → List ℕ → Type 0
 SameLength x y = length x ≡ length y
@@ -119,19 +141,9 @@ module _ (t : Tables) (x : List ℕ) (o : Reordered (rows Aces t) (rows Aces (wi
   action-same b (SetOwner owned) = record { target = refl; missed = refl; filled = refl; gap = λ _. refl }
   action-same b (SetState target) = record { target = refl; missed = refl; filled = refl; gap = λ _. refl }
   action-same b (Store Creds) = record { target = refl; missed = refl; filled = refl; gap = λ _. refl }
-  action-same b (Store Aces) = record {
-    target = refl;
-    missed = refl;
-    filled = ap (λ (h : Bool). leb 32 (t .naces) && not h) (order-some (numberedAs (rowOf Aces b)) o);
-    gap = λ _. refl;
-  }
+  action-same b (Store Aces) = record { target = refl; missed = refl; filled = rw (order-some (numberedAs (rowOf Aces b)) o); gap = λ _. refl }
   action-same b (Remove Creds at) = record { target = refl; missed = refl; filled = refl; gap = λ _. refl }
-  action-same b (Remove Aces at) = record {
-    target = refl;
-    missed = ap (λ (h : Bool). not (eqb (length b) 0) && not h) (order-some (hasKey at b) o);
-    filled = refl;
-    gap = λ e. contradiction refl e;
-  }
+  action-same b (Remove Aces at) = record { target = refl; missed = rw (order-some (hasKey at b) o); filled = refl; gap = λ e. contradiction refl e }
   action-same b (Assert c) = record { target = refl; missed = refl; filled = refl; gap = λ _. refl }
   action-same b Malformed = record { target = refl; missed = refl; filled = refl; gap = λ _. refl }
 

@@ -1,10 +1,8 @@
 -- The row owners keep the length that the struct's type gives, whatever record is judged.
-use Rattle.rows.proofs.Prelude.{_≡_, refl, List, ℕ, _≤_, arith, length, length-append, length-drop, length-take, eqb}
+use Rattle.rows.proofs.Prelude.{_≡_, refl, List, ℕ, _≤_, arith, length, length-append, length-drop, length-take, eqb, cond-cases}
 use Rattle.rows.specs.Rows.{withRow}
 use Rattle.rules.specs.declared.Tables.{Tables}
 use Rattle.rules.specs.declared.Table.the-variants.{Creds, Aces}
-use Rattle.rules.specs.declared.Check.{Check}
-use Rattle.rules.specs.declared.Check.the-variants.{Pass, Refuse}
 use Rattle.rules.specs.declared.Action.{Action}
 use Rattle.rules.specs.declared.Action.the-variants.{Serve, Read, SetRowOwner, SetOwner, SetState, Store, Remove, Assert, Malformed}
 use Rattle.rules.specs.Record.{Request, connection, body}
@@ -14,9 +12,9 @@ use Rattle.rules.specs.Permission.{permission}
 use Rattle.rules.specs.Action.{action}
 use Rattle.rules.specs.Checks.{checks, verdict}
 use Rattle.rules.specs.Defaults.{Defaults, fresh}
-use Rattle.rules.specs.Outcome.{entered, effect, outcome, outcomeAt, outcomeOf, tablesAfter}
-use Rattle.rules.proofs.Bools.{cond-cases}
+use Rattle.rules.specs.Outcome.{entered, effect, outcome, outcomeAt, tablesAfter}
 use Rattle.rules.proofs.BodyLaws.{Valid, action-valid}
+use Rattle.rules.proofs.CheckLaws.{check-cases}
 
 owners-put : (n : ℕ) (b owners : List ℕ) → length b ≡ 16 → n ≤ 3 → length owners ≡ 64 → length (withRow 16 n b owners) ≡ 64
 unfolding withRow
@@ -39,11 +37,7 @@ effect-owners d clock t r Malformed v l = l
 
 pub owners-kept : (d : Defaults) (t : Tables) (q : Request) → length (t .rowners) ≡ 64 → length (tablesAfter d t q .rowners) ≡ 64
 unfolding outcome outcomeAt
-owners-kept d t q l = go (verdict (checks t p q))
-  where
-    p : ℕ
-    p = permission (q .clock) t (q .bytes)
-
-    go : (c : Check) → length (outcomeOf d t p q c .tables .rowners) ≡ 64
-    go Pass = effect-owners d (q .clock) t (q .bytes) (action (q .bytes)) (action-valid (q .bytes)) l
-    go (Refuse n) = l
+owners-kept d t q l =
+    check-cases (verdict (checks t (permission (q .clock) t (q .bytes)) q))
+    (λ e. rw (e, tablesAfter) (effect-owners d (q .clock) t (q .bytes) (action (q .bytes)) (action-valid (q .bytes)) l))
+    (λ n e. rw (e, tablesAfter) l)

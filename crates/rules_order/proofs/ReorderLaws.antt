@@ -1,13 +1,13 @@
 -- Rows in another order: tests and unions over all rows say the same, and storing or removing a row keeps that.
 -- Storing asks for distinct numbers: among rows with the same number, the first in order is replaced.
 use Rattle.rows.proofs.Prelude.{_≡_, refl, sym, ap, _∙_, Bool, true, false, not, _&&_, _||_, cond, List, [], _∷_, ℕ, suc, _+_, arith, length, take}
-use Rattle.rows.proofs.Prelude.{length-append, bitOr, not-true}
+use Rattle.rows.proofs.Prelude.{length-append, bitOr, not-true, cond-cases, bool-cases, and-false, contradiction, and-left, and-right, and-both, or-left}
+use mathlib.Core.Bool.{or-true}
 use lib.Bits.{or-comm}
 use Rattle.rows.specs.Rows.{Row, joined, same, numberedAs, some, every, without, distinctNumbers, stored, unionOf}
 use Rattle.rules_order.specs.Reorder.{Reordered, none, keep, swap, then, inserted, sorted, leads, ascending}
 use Rattle.rows.proofs.Kept.{same-true, same-refl, same-sym}
 use Rattle.rows.proofs.Union.{or-assoc}
-use Rattle.rules.proofs.Bools.{cond-cases, contradiction, and-left, and-right, and-both, or-left}
 
 -- picks by one test, on two sides
 pub cond-both : {A B : Type 0} (R : A → B → Type 0) (b : Bool) {x y : A} {v w : B} → (b ≡ true → R x v) → (b ≡ false → R y w) → R (cond b x y) (cond b v w)
@@ -46,16 +46,12 @@ order-union gives =
 
 -- a test of each
 or-either : (t u b : Bool) → (t || (u || b)) ≡ (u || (t || b))
-or-either true true b = refl
-or-either true false b = refl
-or-either false true b = refl
-or-either false false b = refl
+or-either true u b = sym (or-true u)
+or-either false u b = refl
 
 and-either : (t u b : Bool) → (t && (u && b)) ≡ (u && (t && b))
-and-either true true b = refl
-and-either true false b = refl
-and-either false true b = refl
-and-either false false b = refl
+and-either true u b = refl
+and-either false u b = sym (and-false u)
 
 pub order-some : (p : Row → Bool) {vs ws : List Row} → Reordered vs ws → some p vs ≡ some p ws
 unfolding some
@@ -73,10 +69,7 @@ numbered-sym v w = same-sym (take 2 w) (take 2 v)
 
 apart-either : (t u v d : Bool) → (not (t || u) && (not v && d)) ≡ (not (t || v) && (not u && d))
 apart-either true u v d = refl
-apart-either false true true d = refl
-apart-either false true false d = refl
-apart-either false false true d = refl
-apart-either false false false d = refl
+apart-either false u v d = and-either (not u) (not v) d
 
 pub order-distinct : {vs ws : List Row} → Reordered vs ws → distinctNumbers vs ≡ distinctNumbers ws
 unfolding distinctNumbers some
@@ -101,28 +94,20 @@ unfolding stored distinctNumbers
 order-stored new none d = keep none
 order-stored new (keep {w = w} {vs = vs} o) d =
     cond-both Reordered (numberedAs new w) (λ _. keep o) (λ _. keep (order-stored new o (and-right (not (some (numberedAs w) vs)) _ d)))
-order-stored new (swap {v = v} {w = w} {ws = ws}) d = go (numberedAs new v) refl (numberedAs new w) refl
-  where
-    go : (t : Bool) → numberedAs new v ≡ t → (u : Bool) → numberedAs new w ≡ u
-        → Reordered (cond t (new ∷ w ∷ ws) (v ∷ cond u (new ∷ ws) (w ∷ stored new ws))) (cond u (new ∷ v ∷ ws) (w ∷ cond t (new ∷ ws) (v ∷ stored new ws)))
-    go true e true f = absurd (one-numbered new v w ws d e f)
-    go true e false f = swap
-    go false e true f = swap
-    go false e false f = swap
+order-stored new (swap {v = v} {w = w} {ws = ws}) d =
+    bool-cases (numberedAs new v)
+    (λ e. bool-cases (numberedAs new w) (λ f. absurd (one-numbered new v w ws d e f)) (λ f. rw (e, f) swap))
+    (λ e. bool-cases (numberedAs new w) (λ f. rw (e, f) swap) (λ f. rw (e, f) swap))
 order-stored new (then o p) d = then (order-stored new o d) (order-stored new p (sym (order-distinct o) ∙ d))
 
 pub order-without : (goes : Row → Bool) {vs ws : List Row} → Reordered vs ws → Reordered (without goes vs) (without goes ws)
 unfolding without
 order-without goes none = none
 order-without goes (keep {w = w} o) = cond-both Reordered (goes w) (λ _. order-without goes o) (λ _. keep (order-without goes o))
-order-without goes (swap {v = v} {w = w} {ws = ws}) = go (goes v) (goes w) (without goes ws)
-  where
-    go : (t u : Bool) (rest : List Row)
-        → Reordered (cond t (cond u rest (w ∷ rest)) (v ∷ cond u rest (w ∷ rest))) (cond u (cond t rest (v ∷ rest)) (w ∷ cond t rest (v ∷ rest)))
-    go true true rest = order-refl rest
-    go true false rest = order-refl (w ∷ rest)
-    go false true rest = order-refl (v ∷ rest)
-    go false false rest = swap
+order-without goes (swap {v = v} {w = w} {ws = ws}) =
+    bool-cases (goes v)
+    (λ e. bool-cases (goes w) (λ f. rw (e, f) (order-refl _)) (λ f. rw (e, f) (order-refl _)))
+    (λ e. bool-cases (goes w) (λ f. rw (e, f) (order-refl _)) (λ f. rw (e, f) swap))
 order-without goes (then o p) = then (order-without goes o) (order-without goes p)
 
 -- ---- sorting

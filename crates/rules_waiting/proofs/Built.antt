@@ -3,25 +3,25 @@
 -- Takes and Judges, which these contracts cite), and of `payload` beside the last two,
 -- each on the tables and the memory handed back last.
 use Rattle.rows.proofs.Prelude.{_≡_, refl, sym, ap, ap₂, _∙_, Bool, true, false, _||_, cond, List, [], _∷_, _++_, map, ℕ, _-_, length, take, drop, replicate}
-use Rattle.rows.proofs.Prelude.{take-at, eqb, eqb-true, not-false}
-use Rattle.rules.specs.declared.Check.{Check}
-use Rattle.rules.specs.declared.Check.the-variants.{Pass, Refuse}
-use Rattle.rules.specs.Record.{Request, received, Sender}
+use Rattle.rows.proofs.Prelude.{take-at, eqb, eqb-true, not-false, or-false, cond-cases, bool-cases, contradiction, or-left, or-not-left}
+use Rattle.rules.specs.declared.Check.the-variants.{Refuse}
+use Rattle.rules.specs.Directory.{resourceOf}
+use Rattle.rules.specs.Bits.{bits, bit}
+use Rattle.rules.specs.Record.{Request, received, Sender, payloadOf}
 use Rattle.rules.specs.Defaults.{Defaults}
 use Rattle.rules.specs.Reading.{filled}
 use Rattle.rules.specs.Checks.{verdict}
 use Rattle.rules.specs.Outcome.{Told, Said, payloadAt, Passes, toldTo, tablesAfter}
 use Rattle.rules.specs.Run.{replies, final, Along, kept, keptOf}
 use Rattle.rules.specs.Isolation.{Premise, isOthers, compared}
-use Rattle.rules.proofs.Bools.{bool-cases, contradiction, or-left, or-not-left}
 use Rattle.rules.proofs.Answers.{passed}
 use Rattle.rules.proofs.Refusals.{payload-is}
 use Rattle.rules.proofs.Isolated.{isolation}
 use Rattle.rules_waiting.specs.Slots.{padded}
-use Rattle.rules_waiting.specs.Terminal.{Terminal, terminal, Answered, soundTerminal, takeChecks, due, takeOf}
-use Rattle.rules_waiting.specs.Terminal.{taken, directChecks, directOf, judged, said, HandedOut, handedOut}
+use Rattle.rules_waiting.specs.Terminal.{Terminal, terminal, Answered, soundTerminal, takeChecks, due, taken, directChecks, judged, said, HandedOut}
 use Rattle.rules_waiting.specs.Calls.{Leaves, HandsIn, Takes, Judges}
-use Rattle.rules_waiting.specs.Inputs.{Input, handIn, takeAt, direct, next, Turn, turnIf, judgedAt, allJudged, othersTurn}
+use Rattle.rules_waiting.specs.Inputs.{Input, handIn, takeAt, direct, next, Turn, judgedAt, allJudged, othersTurn}
+use Rattle.rules.proofs.CheckLaws.{check-cases}
 use Rattle.rules_waiting.proofs.Sound.{terminal-parts, take-passed}
 use Rattle.rules_waiting.proofs.Refused.{refused-among, no-such}
 use Rattle.rules_waiting.proofs.Isolated.{Premises, AsTheBook, isolated}
@@ -98,10 +98,6 @@ callTurns (i ∷ is) (c ∷ cs) = turnOf i c ++ callTurns is cs
 
 -- ---- each call
 
-filled-start : (buffer reply : List ℕ) → take (length reply) (filled buffer reply) ≡ reply
-unfolding filled
-filled-start buffer reply = take-at reply (drop (length reply) buffer) (length reply) refl
-
 pub padded-back : (r : List ℕ) → take (length r) (padded r) ≡ r
 unfolding padded
 padded-back r = take-at r (replicate (256 - length r) 0) (length r) refl
@@ -109,68 +105,66 @@ padded-back r = take-at r (replicate (256 - length r) 0) (length r) refl
 -- a call tells what the answer says, where its payload is the record's
 pub told-is : (a : Answered) (room : ℕ) (r : List ℕ) (c : Call) → c .judgement ≡ said a → Leaves a (c .lent) (c .memory) (c .buffer) → Lends room r c
     → payloadAt (a .told .answer) r ≡ a .told .payload → told c ≡ a .told
-told-is a room r c j f l p = rw (l .passes, f .fills, j, p, filled-start (c .lent) (a .told .contents))
+unfolding filled
+told-is a room r c j f l p =
+    let reply = a .told .contents in rw (l .passes, f .fills, j, p, take-at reply (drop (length reply) (c .lent)) (length reply) refl)
 
--- the number of a take's refusal, and of no record that is judged
+-- the number of a refusal: at a take, and at once
 refused-number : (x : Terminal) (n : ℕ) → verdict (takeChecks x) ≡ Refuse n → (eqb n 1 || eqb n 27) ≡ true
 refused-number x n e =
-    let f = refused-among (takeChecks x) n e in
     bool-cases (eqb 1 n)
     (λ g. rw (sym (eqb-true 1 n g)))
-    (λ g. let h : eqb 27 n ≡ true = or-false (eqb 27 n) (or-not-left (eqb 1 n) _ f g) in rw (sym (eqb-true 27 n h)))
-  where
-    or-false : (b : Bool) → (b || false) ≡ true → b ≡ true
-    or-false true e = e
-    or-false false e = e
+    (λ g. rw (sym (eqb-true 27 n (sym (or-false (eqb 27 n)) ∙ or-not-left (eqb 1 n) _ (refused-among (takeChecks x) n e) g))))
 
 direct-number : (x : Terminal) (n : ℕ) → verdict (directChecks x) ≡ Refuse n → eqb n 1 ≡ true
 direct-number x n e =
     let f = refused-among (directChecks x) n e in
     bool-cases (eqb 1 n) (λ g. rw (sym (eqb-true 1 n g))) (λ g. contradiction (or-not-left (eqb 1 n) _ f g) refl)
 
-neither : (n : ℕ) → ((eqb n 1 || eqb n 27) ≡ true → ⊥) → (eqb n 1 || eqb n 27) ≡ false
-neither n never = bool-cases (eqb n 1 || eqb n 27) (λ e. absurd (never e)) (λ e. e)
-
-no-payload : (r : List ℕ) → payloadAt 1 r ≡ []
-unfolding payloadAt
-no-payload r = refl
+-- a refused take hands out no record, so there is no payload
+no-record : (n : ℕ) → payloadAt n [] ≡ []
+unfolding payloadAt payloadOf resourceOf bits bit
+no-record n = cond-cases (λ (l : List ℕ). l ≡ []) (eqb n 0) (λ _. refl) (λ _. refl)
 
 module _ (d : Defaults) (x : Terminal) where
-  -- of a record judged on a sound terminal
+  -- neither is the number of a record judged on a sound terminal
   judged-number : (q : Request) → soundTerminal x ≡ true → (eqb (toldTo d (x .tables) q .answer) 1 || eqb (toldTo d (x .tables) q .answer) 27) ≡ false
-  judged-number q h = neither (toldTo d (x .tables) q .answer) (λ e. no-such d (x .tables) q _ (terminal-parts x h .tables) e refl)
+  judged-number q h =
+      let n = toldTo d (x .tables) q .answer in
+      bool-cases (eqb n 1 || eqb n 27) (λ e. absurd (no-such d (x .tables) q n (terminal-parts x h .tables) e refl)) (λ e. e)
 
-  take-turn : (clock room : ℕ) (c : Call) (v : Check) → verdict (takeChecks x) ≡ v
-      → let q = received clock (due x) room in
-      record { judgement = c .judgement; size = c .size; bytes = c .bytes } ≡ handedOut (takeOf d x q v)
-      → Leaves (takeOf d x q v) (c .lent) (c .memory) (c .buffer)
-      → Lends room (recordGiven c) c
-      → turnOf (takeAt clock room) c ≡ turnIf d x q v
-  take-turn clock room c Pass e o f l =
+  -- a take shows the record that it hands out, and what is told of it
+  pub take-told : (clock room : ℕ) (c : Call) → Meets d x (takeAt clock room) c
+      → (recordGiven c ≡ taken d x clock room .bytes) × (told c ≡ taken d x clock room .told)
+  unfolding taken
+  take-told clock room c m =
       let q = received clock (due x) room in
-      let j = ap (λ (t : HandedOut). t .judgement) o in
-      let r : recordGiven c ≡ due x = ap (λ (t : HandedOut). take (t .size) (t .bytes)) o ∙ padded-back (due x) in
-      rw (ap (λ (y : Said). eqb (y .answer) 1 || eqb (y .answer) 27) j, judged-number q (take-passed x e .0))
-      (ap₂ (λ (b : List ℕ) (y : Told). record { request = received clock b room; told = y } ∷ []) r
-      (told-is (takeOf d x q Pass) room (recordGiven c) c j f l (ap (payloadAt (toldTo d (x .tables) q .answer)) r ∙ payload-is d (x .tables) q)))
-  take-turn clock room c (Refuse n) e o f l =
-      rw (ap (λ (t : HandedOut). eqb (t .judgement .answer) 1 || eqb (t .judgement .answer) 27) o ∙ refused-number x n e)
+      let a = taken d x clock room in
+      let r : recordGiven c ≡ a .bytes = ap (λ (t : HandedOut). take (t .size) (t .bytes)) (m .0 .hands) ∙ padded-back (a .bytes) in (
+        r,
+        told-is a room (recordGiven c) c (ap (λ (t : HandedOut). t .judgement) (m .0 .hands)) (m .0 .leaves) (m .1)
+            (rw r (check-cases (verdict (takeChecks x)) (λ e. rw e (payload-is d (x .tables) q)) (λ n e. rw e (no-record n)))),
+      )
 
-  direct-turn : (q : Request) (c : Call) (v : Check) → verdict (directChecks x) ≡ v
-      → c .judgement ≡ said (directOf d x q v)
-      → Leaves (directOf d x q v) (c .lent) (c .memory) (c .buffer)
-      → Lends (q .room) (q .bytes) c
-      → turnOf (direct q) c ≡ turnIf d x q v
-  direct-turn q c Pass e j f l =
-      rw (ap (λ (y : Said). eqb (y .answer) 1) j ∙ or-left _ _ (judged-number q (not-false _ (passed (directChecks x) e 1))))
-      (ap (λ (y : Told). record { request = q; told = y } ∷ []) (told-is (directOf d x q Pass) (q .room) (q .bytes) c j f l (payload-is d (x .tables) q)))
-  direct-turn q c (Refuse n) e j f l = rw (ap (λ (y : Said). eqb (y .answer) 1) j ∙ direct-number x n e)
+  pub direct-told : (q : Request) (c : Call) → Meets d x (direct q) c → told c ≡ judged d x q .told
+  unfolding judged payloadAt
+  direct-told q c m =
+      told-is (judged d x q) (q .room) (q .bytes) c (m .0 .says) (m .0 .leaves) (m .1)
+      (check-cases (verdict (directChecks x)) (λ e. rw e (payload-is d (x .tables) q)) (λ n e. rw (e, eqb-true n 1 (direct-number x n e))))
 
   call-turn : (i : Input) (c : Call) → Meets d x i c → turnOf i c ≡ judgedAt d x i
   unfolding taken judged
   call-turn (handIn r) c m = refl
-  call-turn (takeAt clock room) c m = take-turn clock room c (verdict (takeChecks x)) refl (m .0 .hands) (m .0 .leaves) (m .1)
-  call-turn (direct q) c m = direct-turn q c (verdict (directChecks x)) refl (m .0 .says) (m .0 .leaves) (m .1)
+  call-turn (takeAt clock room) c m =
+      let s = take-told clock room c m in
+      rw (s .0, s .1, ap (λ (y : Told). y .answer) (s .1))
+      (check-cases (verdict (takeChecks x)) (λ e. rw (e, judged-number _ (take-passed x e .0))) (λ n e. rw (e, refused-number x n e)))
+  call-turn (direct q) c m =
+      let s = direct-told q c m in
+      rw (s, ap (λ (y : Told). y .answer) s)
+      (check-cases (verdict (directChecks x))
+      (λ e. rw (e, or-left (eqb (toldTo d (x .tables) q .answer) 1) _ (judged-number q (not-false _ (passed (directChecks x) e 1)))))
+      (λ n e. rw (e, direct-number x n e)))
 
   pub call-left : (i : Input) (c : Call) → Meets d x i c → left c ≡ next d x i
   call-left (handIn r) c m = ap₂ (λ (j : Said) (b : List ℕ). terminal (j .tables) b) (m .says) (m .keeps)
@@ -186,10 +180,8 @@ built-same d x [] (c ∷ cs) b = absurd b
 built-same d x (i ∷ is) [] b = absurd b
 built-same d x (i ∷ is) (c ∷ cs) b =
     let l = call-left d x i c (b .0) in
-    let more = built-same d (left c) is cs (b .1) in (
-      ap₂ (λ (u us : List Turn). u ++ us) (call-turn d x i c (b .0)) (more .0 ∙ ap (λ (y : Terminal). allJudged d y is) l),
-      more .1 ∙ ap (λ (y : Terminal). final (next d) y is) l,
-    )
+    let more = built-same d (left c) is cs (b .1) in
+    (rw (call-turn d x i c (b .0), more .0, l), rw (more .1, l))
 
 -- demand 3: what the others' records are told that the calls show as judged, and the tables handed back last
 pub built-isolation :
@@ -203,15 +195,6 @@ built-isolation d chosen x is cs built =
 
 -- ---- lists of records judged at once alone: each of the others' is told what the book answers, 1 included
 
-direct-told : (d : Defaults) (x : Terminal) (q : Request) (c : Call) → Meets d x (direct q) c → told c ≡ judged d x q .told
-unfolding judged
-direct-told d x q c m = go (verdict (directChecks x)) refl (m .0 .says) (m .0 .leaves) (m .1)
-  where
-    go : (v : Check) → verdict (directChecks x) ≡ v → c .judgement ≡ said (directOf d x q v)
-        → Leaves (directOf d x q v) (c .lent) (c .memory) (c .buffer) → Lends (q .room) (q .bytes) c → told c ≡ directOf d x q v .told
-    go Pass e j f l = told-is (directOf d x q Pass) (q .room) (q .bytes) c j f l (payload-is d (x .tables) q)
-    go (Refuse n) e j f l = told-is (directOf d x q (Refuse n)) (q .room) (q .bytes) c j f l (rw (eqb-true n 1 (direct-number x n e)) (no-payload (q .bytes)))
-
 directs-built : (d : Defaults) (x : Terminal) (qs : List Request) (cs : List Call) → Built d x (map direct qs) cs
     → (map told cs ≡ directReplies d x qs) × (handedBack x cs ≡ directEnd d x qs)
 directs-built d x [] [] b = (refl, refl)
@@ -219,18 +202,14 @@ directs-built d x [] (c ∷ cs) b = absurd b
 directs-built d x (q ∷ qs) [] b = absurd b
 directs-built d x (q ∷ qs) (c ∷ cs) b =
     let l = call-left d x (direct q) c (b .0) in
-    let more = directs-built d (left c) qs cs (b .1) in (
-      ap₂ (λ (y : Told) (ys : List Told). y ∷ ys) (direct-told d x q c (b .0)) (more .0 ∙ ap (λ (y : Terminal). directReplies d y qs) l),
-      more .1 ∙ ap (λ (y : Terminal). directEnd d y qs) l,
-    )
+    let more = directs-built d (left c) qs cs (b .1) in
+    (rw (direct-told d x q c (b .0), more .0, l), rw (more .1, l))
 
 -- so are the tables handed back, beside memory that is sound where the tables are
 pub directs-told : (d : Defaults) (x : Terminal) (qs : List Request) (cs : List Call) → Built d x (map direct qs) cs → Whole x
     → (map told cs ≡ replies (toldTo d) (tablesAfter d) (x .tables) qs) × (handedBack x cs .tables ≡ final (tablesAfter d) (x .tables) qs)
 directs-told d x qs cs built whole =
-    let calls = directs-built d x qs cs built in
-    let same = directs-same d x qs whole in
-    (calls .0 ∙ same .0, ap (λ (y : Terminal). y .tables) (calls .1) ∙ same .1)
+    let calls = directs-built d x qs cs built in rw (calls .0, calls .1) (directs-same d x qs whole)
 
 pub direct-isolation :
     (d : Defaults) (chosen : Sender → Bool) (x : Terminal) (qs : List Request) (cs : List Call)
@@ -240,6 +219,4 @@ pub direct-isolation :
     → (keptOf (isOthers chosen) qs (map told cs) ≡ replies (toldTo d) (tablesAfter d) (x .tables) (kept (isOthers chosen) qs))
     × (compared chosen (handedBack x cs .tables) ≡ compared chosen (final (tablesAfter d) (x .tables) (kept (isOthers chosen) qs)))
 direct-isolation d chosen x qs cs built whole premise =
-    let same = directs-told d x qs cs built whole in
-    let apart = isolation d chosen (x .tables) qs premise in
-    (ap (keptOf (isOthers chosen) qs) (same .0) ∙ apart .0, ap (compared chosen) (same .1) ∙ apart .1)
+    let same = directs-told d x qs cs built whole in rw (same .0, same .1) (isolation d chosen (x .tables) qs premise)

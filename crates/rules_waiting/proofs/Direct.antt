@@ -1,18 +1,18 @@
 -- Lists of records that are judged at once, beside memory that is sound wherever the tables are.
 -- Such a record gets the outcome of the rules over the tables, 1 included; so fresh memory changes nothing for a run without hand-ins.
-use Rattle.rows.proofs.Prelude.{_≡_, refl, sym, ap, ap₂, _∙_, true, false, List, [], _∷_}
+use Rattle.rows.proofs.Prelude.{_≡_, refl, true, false, List, [], _∷_, bool-cases, contradiction}
 use Rattle.rules.specs.declared.Tables.{Tables}
 use Rattle.rules.specs.Record.{Request}
 use Rattle.rules.specs.Tables.{sound}
 use Rattle.rules.specs.Defaults.{Defaults}
 use Rattle.rules.specs.Checks.{verdict}
-use Rattle.rules.specs.Outcome.{Told, Outcome, toldTo, tablesAfter}
+use Rattle.rules.specs.Outcome.{Told, toldTo, tablesAfter}
 use Rattle.rules.specs.Run.{replies, final}
-use Rattle.rules.proofs.Bools.{bool-cases, contradiction}
 use Rattle.rules.proofs.Refusals.{unsound-refused}
 use Rattle.rules_waiting.specs.Slots.{freshMemory}
-use Rattle.rules_waiting.specs.Terminal.{Terminal, terminal, Answered, numberAlone, soundTerminal, judged}
-use Rattle.rules_waiting.proofs.Sound.{terminal-whole, fresh-memory, sound-judged}
+use Rattle.rules_waiting.specs.Terminal.{Terminal, terminal, numberAlone, soundTerminal, judged}
+use Rattle.rules_waiting.specs.Inputs.{direct}
+use Rattle.rules_waiting.proofs.Sound.{terminal-whole, fresh-memory, sound-next}
 use Rattle.rules_waiting.proofs.Stays.{judged-is}
 
 -- the memory is sound where the tables are
@@ -35,20 +35,12 @@ pub record AsOutcome (d : Defaults) (x : Terminal) (q : Request) : Type 0 where
 pub as-outcome : (d : Defaults) (x : Terminal) (q : Request) → Whole x → AsOutcome d x q
 as-outcome d x q w =
     bool-cases (soundTerminal x)
-    (λ h. record {
-      told = ap (λ (a : Answered). a .told) (judged-is d x q h);
-      tables = ap (λ (a : Answered). a .terminal .tables) (judged-is d x q h);
-      whole = λ _. sound-judged d x q h;
-    })
+    (λ h. let j = judged-is d x q h in record { told = rw j; tables = rw j; whole = λ _. sound-next d x (direct q) h })
     (λ e.
     let u : sound (x .tables) ≡ false = bool-cases (sound (x .tables)) (λ s. contradiction (w s) e) (λ f. f) in
     let o = unsound-refused d (x .tables) q u in
     let j = judged-unsound d x q e in
-    record {
-      told = ap (λ (a : Answered). a .told) j ∙ sym (ap (λ (y : Outcome). y .told) o);
-      tables = ap (λ (a : Answered). a .terminal .tables) j ∙ sym (ap (λ (y : Outcome). y .tables) o);
-      whole = rw j w;
-    })
+    record { told = rw (j, o, toldTo); tables = rw (j, o, tablesAfter); whole = rw j w })
 
 -- what a list of them is told, and the tables at the end
 abbrev pub directReplies : Defaults → Terminal → List Request → List Told
@@ -62,7 +54,5 @@ pub directs-same : (d : Defaults) (x : Terminal) (qs : List Request) → Whole x
 directs-same d x [] w = (refl, refl)
 directs-same d x (q ∷ qs) w =
     let a = as-outcome d x q w in
-    let more = directs-same d (judged d x q .terminal) qs (a .whole) in (
-      ap₂ (λ (y : Told) (ys : List Told). y ∷ ys) (a .told) (more .0 ∙ ap (λ (t : Tables). replies (toldTo d) (tablesAfter d) t qs) (a .tables)),
-      more .1 ∙ ap (λ (t : Tables). final (tablesAfter d) t qs) (a .tables),
-    )
+    let more = directs-same d (judged d x q .terminal) qs (a .whole) in
+    (rw (a .told, more .0, a .tables), rw (more .1, a .tables))

@@ -2,22 +2,20 @@
 -- the others' records that are judged get what the book of 01 gives them, fed byte for byte in the
 -- order of their takes, each at its take's clock and with its reply buffer's length.
 -- The book holds tables only, so seats and round are left out of what is compared.
-use Rattle.rows.proofs.Prelude.{_≡_, refl, ap, Bool, true, false≢true, List, [], _∷_, _++_, map, ℕ}
+use Rattle.rows.proofs.Prelude.{_≡_, refl, ap, Bool, true, false≢true, List, [], _∷_, _++_, map, cond-cases, bool-cases}
 use Rattle.rules.specs.declared.Tables.{Tables}
-use Rattle.rules.specs.declared.Check.{Check}
-use Rattle.rules.specs.declared.Check.the-variants.{Pass, Refuse}
+use Rattle.rules.specs.declared.Check.the-variants.{Pass}
 use Rattle.rules.specs.Record.{Request, received, Sender}
 use Rattle.rules.specs.Defaults.{Defaults}
 use Rattle.rules.specs.Checks.{verdict}
 use Rattle.rules.specs.Outcome.{Told, toldTo, tablesAfter}
 use Rattle.rules.specs.Run.{replies, final, Along, kept}
 use Rattle.rules.specs.Isolation.{Premise, isOthers, compared}
-use Rattle.rules.proofs.Bools.{cond-cases, bool-cases}
 use Rattle.rules.proofs.Isolated.{Related, silent, alike}
-use Rattle.rules_waiting.specs.Terminal.{Terminal, soundTerminal, handInChecks, handInOf, handedIn}
-use Rattle.rules_waiting.specs.Terminal.{takeChecks, due, takeOf, taken, directChecks, directOf, judged}
-use Rattle.rules_waiting.specs.Inputs.{Input, handIn, takeAt, direct, next, Turn, turnIf, turns, judgedAt}
-use Rattle.rules_waiting.specs.Inputs.{allJudged, othersTurn, requestOf, turnTold, noneDirect}
+use Rattle.rules_waiting.specs.Terminal.{Terminal, soundTerminal, handInChecks, handedIn, takeChecks, due, taken, directChecks, judged}
+use Rattle.rules_waiting.specs.Inputs.{Input, handIn, takeAt, direct, next, Turn, turnIf, turns, judgedAt, allJudged, othersTurn, requestOf, turnTold}
+use Rattle.rules_waiting.specs.Inputs.{noneDirect}
+use Rattle.rules.proofs.CheckLaws.{check-cases}
 use Rattle.rules_waiting.proofs.Refused.{unsound-run}
 use Rattle.rules_waiting.proofs.Lockstep.{along-first, collected-through, mapped-append, lockstep}
 
@@ -44,27 +42,18 @@ module _ (d : Defaults) (chosen : Sender → Bool) where
   abbrev told : Terminal → Input → List Told
   told x i = map turnTold (kept (othersTurn chosen) (judgedAt d x i))
 
-  handed-tables : (x : Terminal) (b : Tables) (r : List ℕ) (c : Check) → Related d chosen (x .tables) b → Related d chosen (handInOf x r c .terminal .tables) b
-  handed-tables x b r Pass e = e
-  handed-tables x b r (Refuse n) e = e
-
-  take-step : (x : Terminal) (b : Tables) (q : Request) (c : Check) → Premise chosen b → Related d chosen (x .tables) b
-      → Step (takeOf d x q c .terminal .tables) b (kept (othersTurn chosen) (turnIf d x q c))
-  take-step x b q Pass p e = turn-step x b q p e
-  take-step x b q (Refuse n) p e = (refl, e)
-
-  direct-step : (x : Terminal) (b : Tables) (q : Request) (c : Check) → Premise chosen b → Related d chosen (x .tables) b
-      → Step (directOf d x q c .terminal .tables) b (kept (othersTurn chosen) (turnIf d x q c))
-  direct-step x b q Pass p e = turn-step x b q p e
-  direct-step x b q (Refuse n) p e = (refl, e)
-
   one : (x : Terminal) (b : Tables) (i : Input) → Along (tablesAfter d) (Premise chosen) b (fed x i) → Related d chosen (x .tables) b
       → (told x i ≡ replies (toldTo d) (tablesAfter d) b (fed x i)) × Related d chosen (next d x i .tables) (final (tablesAfter d) b (fed x i))
   unfolding handedIn taken judged
-  one x b (handIn r) a e = (refl, handed-tables x b r (verdict (handInChecks x r)) e)
+  one x b (handIn r) a e = (refl, check-cases (verdict (handInChecks x r)) (λ f. rw (f, next) e) (λ n f. rw (f, next) e))
   one x b (takeAt clock room) a e =
-      take-step x b (received clock (due x) room) (verdict (takeChecks x)) (along-first (tablesAfter d) (Premise chosen) b (fed x (takeAt clock room)) a) e
-  one x b (direct q) a e = direct-step x b q (verdict (directChecks x)) (along-first (tablesAfter d) (Premise chosen) b (fed x (direct q)) a) e
+      check-cases (verdict (takeChecks x))
+      (λ f. rw (f, next) (turn-step x b (received clock (due x) room) (along-first (tablesAfter d) (Premise chosen) b (fed x (takeAt clock room)) a) e))
+      (λ n f. rw (f, next) (refl, e))
+  one x b (direct q) a e =
+      check-cases (verdict (directChecks x))
+      (λ f. rw (f, next) (turn-step x b q (along-first (tablesAfter d) (Premise chosen) b (fed x (direct q)) a) e))
+      (λ n f. rw (f, next) (refl, e))
 
   -- ---- the whole list
 

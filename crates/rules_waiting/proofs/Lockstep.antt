@@ -1,6 +1,6 @@
 -- Two machines in step: each input of the first feeds some inputs, perhaps none, to the second, whose replies are what the first shows.
 -- The first may hold more than the second (waiting records); R relates their states.
-use Rattle.rows.proofs.Prelude.{_≡_, refl, sym, ap, ap₂, _∙_, Bool, true, false, cond, List, [], _∷_, _++_, map}
+use Rattle.rows.proofs.Prelude.{_≡_, refl, sym, ap, ap₂, _∙_, Bool, List, [], _∷_, _++_, map, bool-cases}
 use Rattle.rules.specs.Run.{replies, final, Along, kept}
 use Rattle.rules_waiting.specs.Inputs.{collected}
 
@@ -27,19 +27,13 @@ module _ {S I A C : Type 0} (next : S → I → S) (out : S → I → List A) (h
   -- a function that goes through joined lists goes through what is collected
   pub collected-through : (s : S) (is : List I) → collected next (λ s i. h (out s i)) s is ≡ h (collected next out s is)
   collected-through s [] = sym none
-  collected-through s (i ∷ is) =
-      ap (λ (l : List C). h (out s i) ++ l) (collected-through (next s i) is) ∙ sym (both (out s i) (collected next out (next s i) is))
+  collected-through s (i ∷ is) = rw (collected-through (next s i) is) (sym (both (out s i) (collected next out (next s i) is)))
 
 module _ {A : Type 0} (keep : A → Bool) where
   -- kept, then each through a function
   pub mapped-append : {B : Type 0} (f : A → B) (xs ys : List A) → map f (kept keep (xs ++ ys)) ≡ map f (kept keep xs) ++ map f (kept keep ys)
   mapped-append f [] ys = refl
-  mapped-append {B} f (x ∷ xs) ys = go (keep x) (mapped-append f xs ys)
-    where
-      go : (k : Bool) → map f (kept keep (xs ++ ys)) ≡ map f (kept keep xs) ++ map f (kept keep ys)
-          → map f (cond k (x ∷ kept keep (xs ++ ys)) (kept keep (xs ++ ys))) ≡ map f (cond k (x ∷ kept keep xs) (kept keep xs)) ++ map f (kept keep ys)
-      go true e = ap (λ (l : List B). f x ∷ l) e
-      go false e = e
+  mapped-append f (x ∷ xs) ys = bool-cases (keep x) (λ e. rw (e, mapped-append f xs ys)) (λ e. rw (e, mapped-append f xs ys))
 
 module _ {S I B J O : Type 0} (next : S → I → S) (shown : S → I → List O) (fed : S → I → List J)
     (reply : B → J → O) (step : B → J → B) (P : B → Type 0) (R : S → B → Type 0) where

@@ -1,7 +1,7 @@
 -- Laws of slots and of the lent memory: what is put in is read back.
-use Rattle.rows.proofs.Prelude.{_≡_, refl, sym, ap, _∙_, Bool, true, false, cond, List, [], _∷_, _++_, ℕ, _-_, _*_, _≤_, min, min-eq-left, arith, length, take}
-use Rattle.rows.proofs.Prelude.{drop, getD, replicate, length-append, length-drop, length-replicate, drop-at, length-take-le, take-at, eqb, leb, ltb, eq-eqb}
-use Rattle.rows.proofs.Prelude.{eqb-true, le-leb, leb-true, ltb-false}
+use Rattle.rows.proofs.Prelude.{_≡_, refl, sym, ap, _∙_, true, List, [], _∷_, _++_, ℕ, _-_, _*_, _≤_, min, min-eq-left, arith, length, take, drop, getD}
+use Rattle.rows.proofs.Prelude.{replicate, length-append, length-drop, length-replicate, drop-at, length-take-le, take-at, eqb, leb, ltb, eq-eqb, eqb-true}
+use Rattle.rows.proofs.Prelude.{le-leb, leb-true, ltb-false, cond-cases, take-append-drop, contradiction, and-left, and-right, and-both, or-right}
 use Rattle.rows.specs.Rows.{Row, rowsOf, packed, allZero, same, every, distinctNumbers}
 use Rattle.rows.specs.Contracts.{IsTable}
 use Rattle.rows.proofs.Laws.{length-rowsOf, kept as table-kept}
@@ -11,11 +11,10 @@ use Rattle.rules.specs.declared.Check.{Check}
 use Rattle.rules.specs.declared.Check.the-variants.{Pass, Refuse}
 use Rattle.rules.specs.Bits.{bits, word}
 use Rattle.rules.specs.Checks.{senderChecks, verdict, isPass, badLength}
-use Rattle.rules.proofs.Bools.{contradiction, and-left, and-right, and-both, or-right}
 use Rattle.rules.proofs.BitLaws.{bits-word}
 use Rattle.rules.proofs.Answers.{passed}
-use Rattle.rules_waiting.specs.Slots.{Seat, Round, anew, after, slotLong, slotsMost, slotsLong, memoryLong, seatOf}
-use Rattle.rules_waiting.specs.Slots.{padded, slotOf, recordOf, roundBytes, roundOf, waiting, memoryOf}
+use Rattle.rules_waiting.specs.Slots.{Seat, Round, anew, after, slotLong, slotsMost, slotsLong, memoryLong, seatOf, padded, slotOf, recordOf, roundBytes}
+use Rattle.rules_waiting.specs.Slots.{roundOf, waiting, memoryOf}
 use Rattle.rules_waiting.specs.Terminal.{slotSound, memorySound}
 
 -- ---- slots
@@ -30,9 +29,7 @@ module _ (r : List ℕ) where
 
   pub slot-long : length r ≤ 256 → length (slotOf r) ≡ 260
   unfolding slotOf padded seatOf word
-  slot-long h =
-      let e = length-append r (replicate (256 - length r) 0) in
-      let f : length (replicate {A = ℕ} (256 - length r) 0) ≡ 256 - length r = length-replicate (256 - length r) 0 in omega arith
+  slot-long h = simp (length-append, length-replicate) (omega arith)
 
   pub slot-seat : take 2 (slotOf r) ≡ seatOf r
   unfolding slotOf padded seatOf word
@@ -97,28 +94,13 @@ module _ (k : Round) (ws : List Row) (two : TwoLong k) where
 
   pub waiting-back : length ws ≤ 25 → AllLong 260 ws → waiting (memoryOf k ws) ≡ ws
   unfolding waiting memoryOf
-  waiting-back few long =
-      ap (λ (b : List ℕ). rowsOf slotLong (min (length ws) slotsMost) b) slots-behind
-      ∙ ap (λ (n : ℕ). rowsOf slotLong n (packed slotsLong ws)) (min-eq-left few)
-      ∙ rowsOf-packed 260 slotsLong ws long
+  waiting-back few long = rw (slots-behind, min-eq-left few) (rowsOf-packed 260 slotsLong ws long)
 
 -- two bytes of a list at its start
 pub round-back : (k : Round) (ws : List Row) → TwoLong k → roundOf (memoryOf k ws) ≡ k
 unfolding roundOf memoryOf
 round-back anew ws two = refl
 round-back (after p) ws two = ap (λ (q : Seat). after q) (take-at p (packed slotsLong ws) 2 two)
-
-round-told : (k : Round) (ws : List Row) → TwoLong k → take 3 (drop 1 (memoryOf k ws)) ≡ roundBytes k
-unfolding memoryOf
-round-told k ws two = take-at (roundBytes k) (packed slotsLong ws) 3 (round-long k two)
-
-memory-length : (k : Round) (ws : List Row) → TwoLong k → length ws ≤ 25 → AllLong 260 ws → length (memoryOf k ws) ≡ 6504
-unfolding memoryOf
-memory-length k ws two few long =
-    let a = length-append (roundBytes k) (packed slotsLong ws) in
-    let b = round-long k two in
-    let c : length (packed slotsLong ws) ≡ 6500 = length-packed 260 slotsLong ws long (omega arith) in
-    omega arith
 
 -- the parts of the memory's soundness
 pub record SoundMemory (t : Tables) (m : List ℕ) : Type 0 where
@@ -144,36 +126,26 @@ unfolding memoryOf
 memory-sound t k ws two few all apart =
     let long = slots-long t ws all in
     let back = waiting-back k ws two few long in
+    let size : length (packed slotsLong ws) ≡ 6500 = length-packed 260 slotsLong ws long (omega arith) in
     memory-whole t (memoryOf k ws) (record {
-      long = eq-eqb (length (memoryOf k ws)) memoryLong (memory-length k ws two few long);
+      long = eq-eqb (length (memoryOf k ws)) memoryLong (omega (arith, length-append (roundBytes k) (packed slotsLong ws), round-long k two));
       few = le-leb (length ws) 25 few;
-      round = ap (λ (b : List ℕ). same b (roundBytes (roundOf (memoryOf k ws)))) (round-told k ws two)
-          ∙ ap (λ (j : Round). same (roundBytes k) (roundBytes j)) (round-back k ws two)
-          ∙ same-refl (roundBytes k);
-      unused = ap (λ (b : List ℕ). allZero (drop (length ws * slotLong) b)) (slots-behind k ws two)
-          ∙ packed-table 260 slotsLong ws (omega arith) long (omega arith) .zeros;
-      keeps = ap (every (slotSound t)) back ∙ all;
-      apart = ap distinctNumbers back ∙ apart;
+      round = rw (take-at (roundBytes k) (packed slotsLong ws) 3 (round-long k two), round-back k ws two) (same-refl (roundBytes k));
+      unused = rw (slots-behind k ws two) (packed-table 260 slotsLong ws (omega arith) long (omega arith) .zeros);
+      keeps = rw back all;
+      apart = rw back apart;
     })
 
 -- the round of sound memory
 pub round-two : (t : Tables) (m : List ℕ) → memorySound t m ≡ true → TwoLong (roundOf m)
 unfolding roundOf
-round-two t m h = go (eqb (getD m 1 0) 0)
-  where
-    six : length m ≡ 6504
-    six = eqb-true _ _ (memory-parts t m h .long)
-
-    go : (b : Bool) → TwoLong (cond b anew (after (take 2 (drop 2 m))))
-    go true = tt
-    go false = length-take-le 2 (drop 2 m) (omega (arith, six, length-drop 2 m))
+round-two t m h =
+    cond-cases TwoLong (eqb (getD m 1 0) 0) (λ _. tt)
+    (λ _. length-take-le 2 (drop 2 m) (omega (arith, eqb-true (length m) 6504 (memory-parts t m h .long), length-drop 2 m)))
 
 four-bytes : (m : List ℕ) → 4 ≤ length m → m ≡ getD m 0 0 ∷ (take 3 (drop 1 m) ++ drop 4 m)
 four-bytes [] h = absurd (omega arith)
-four-bytes (a ∷ []) h = absurd (omega arith)
-four-bytes (a ∷ b ∷ []) h = absurd (omega arith)
-four-bytes (a ∷ b ∷ c ∷ []) h = absurd (omega arith)
-four-bytes (a ∷ b ∷ c ∷ d ∷ m) h = refl
+four-bytes (a ∷ m) h = ap (λ (b : List ℕ). a ∷ b) (sym (take-append-drop 3 m))
 
 -- memory that is sound is what its round and slots make
 pub memory-is : (t : Tables) (m : List ℕ) → memorySound t m ≡ true → memoryOf (roundOf m) (waiting m) ≡ m

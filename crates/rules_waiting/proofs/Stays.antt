@@ -13,8 +13,8 @@ use Rattle.rules.proofs.Refusals.{refusal-is}
 use Rattle.rules.proofs.SoundKept.{sound-kept}
 use Rattle.rules_waiting.specs.Slots.{Round, anew, roundOf, waiting, memoryOf, freshMemory}
 use Rattle.rules_waiting.specs.Round.{seats, heldRound}
-use Rattle.rules_waiting.specs.Terminal.{Terminal, terminal, Answered, soundTerminal, clears, asMany}
-use Rattle.rules_waiting.specs.Terminal.{memoryAfter, terminalAfter, directChecks, directOf, judged}
+use Rattle.rules_waiting.specs.Terminal.{Terminal, terminal, Answered, soundTerminal, clears, asMany, memoryAfter, terminalAfter, directChecks, directOf}
+use Rattle.rules_waiting.specs.Terminal.{judged}
 use Rattle.rules_waiting.proofs.SlotLaws.{memory-is, round-back}
 use Rattle.rules_waiting.proofs.RowsMoved.{as-many}
 use Rattle.rules_waiting.proofs.Sound.{terminal-parts}
@@ -25,12 +25,9 @@ unfolding verdict
 direct-ready x h = rw h
 
 -- a refusal leaves the tables, and of the queue what stood there
-not-zero : (m n : ℕ) → m ≡ suc n → eqb m 0 ≡ false
-not-zero m n e = ne-eqb m 0 (λ z. absurd (omega arith))
-
 pub never-clears : (d : Defaults) (t : Tables) (q : Request) (n : ℕ) → toldTo d t q .answer ≡ suc n → clears d t q ≡ false
 unfolding clears
-never-clears d t q n a = rw (not-zero _ n a)
+never-clears d t q n a = rw (ne-eqb (toldTo d t q .answer) 0 (omega arith))
 
 pub refused-after : (d : Defaults) (t : Tables) (q : Request) (k : Round) (ws : List Row) (n : ℕ) → toldTo d t q .answer ≡ suc n
     → terminalAfter d t q k ws ≡ terminal t (memoryOf k ws)

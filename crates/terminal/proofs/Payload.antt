@@ -1,15 +1,15 @@
 -- Theorem: the start and the length that C gets are those of the outcome's payload within the record.
-use Rattle.rows.proofs.Prelude.{_≡_, refl, sym, ap, _∙_, Bool, true, false, cond, true≢false, List, [], _∷_, ℕ, arith, length, take, drop, take-all, eqb}
-use Rattle.rows.proofs.Prelude.{ne-eqb}
-use Rattle.rules.specs.declared.Check.{Check}
-use Rattle.rules.specs.declared.Check.the-variants.{Pass, Refuse}
+use Rattle.rows.proofs.Prelude.{_≡_, refl, sym, ap, _∙_, Bool, false, cond, true≢false, List, [], _∷_, ℕ, arith, length, take, drop, take-all, eqb, ne-eqb}
+use Rattle.rows.proofs.Prelude.{cond-cases}
+use Rattle.rules.specs.declared.Check.the-variants.{Refuse}
 use Rattle.rules.specs.Directory.{isSecurity}
 use Rattle.rules.specs.Record.{Request, received, resource, payloadOf}
 use Rattle.rules.specs.Defaults.{Defaults}
 use Rattle.rules.specs.Checks.{verdict}
 use Rattle.rules.specs.Outcome.{payloadAt}
+use Rattle.rules.proofs.CheckLaws.{check-cases}
 use Rattle.rules.proofs.Refusals.{payload-is}
-use Rattle.rules_waiting.specs.Terminal.{Terminal, takeChecks, due, takeOf, taken, directChecks, directOf, judged}
+use Rattle.rules_waiting.specs.Terminal.{Terminal, takeChecks, due, taken, directChecks, judged}
 use Rattle.rules_waiting.proofs.Refused.{among, refused-among}
 use Rattle.terminal.specs.Interface.{startOf, exported}
 
@@ -26,44 +26,28 @@ module _ (r : List ℕ) where
   abbrev Found : List ℕ → Type 0
   Found p = partAt (startOf (length p)) (length p) r ≡ p
 
-  none : Found []
-  none = refl
-
   rest : (p : List ℕ) → p ≡ drop 4 r → Found p
   unfolding startOf
   rest [] e = refl
   rest (x ∷ p) e = rw (ne-eqb (length (x ∷ p)) 0 (λ z. omega arith), ← e) (take-all (length (x ∷ p)) (x ∷ p) (omega arith))
 
-  of-record : (b : Bool) → Found (cond b [] (drop 4 r))
-  of-record true = none
-  of-record false = rest (drop 4 r) refl
-
   of-answer : (b : Bool) → Found (cond b (payloadOf r) [])
   unfolding payloadOf
-  of-answer true = of-record (isSecurity (resource r))
-  of-answer false = none
+  of-answer b = cond-cases Found b (λ _. cond-cases Found (isSecurity (resource r)) (λ _. refl) (λ _. rest (drop 4 r) refl)) (λ _. refl)
 
 -- ---- the payload goes with the answer
 
 pub judged-payload : (d : Defaults) (x : Terminal) (q : Request) → payloadAt (judged d x q .told .answer) (q .bytes) ≡ judged d x q .told .payload
 unfolding judged payloadAt
-judged-payload d x q = go (verdict (directChecks x)) refl
-  where
-    go : (c : Check) → verdict (directChecks x) ≡ c → payloadAt (directOf d x q c .told .answer) (q .bytes) ≡ directOf d x q c .told .payload
-    go Pass e = payload-is d (x .tables) q
-    go (Refuse n) e = rw (not-0 (directChecks x) n refl e)
+judged-payload d x q =
+    check-cases (verdict (directChecks x)) (λ e. rw e (payload-is d (x .tables) q)) (λ n e. rw (e, not-0 (directChecks x) n refl e))
 
 pub taken-payload : (d : Defaults) (x : Terminal) (clock room : ℕ)
     → payloadAt (taken d x clock room .told .answer) (taken d x clock room .bytes) ≡ taken d x clock room .told .payload
 unfolding taken payloadAt
-taken-payload d x clock room = go (verdict (takeChecks x)) refl
-  where
-    q : Request
-    q = received clock (due x) room
-
-    go : (c : Check) → verdict (takeChecks x) ≡ c → payloadAt (takeOf d x q c .told .answer) (takeOf d x q c .bytes) ≡ takeOf d x q c .told .payload
-    go Pass e = payload-is d (x .tables) q
-    go (Refuse n) e = rw (not-0 (takeChecks x) n refl e)
+taken-payload d x clock room =
+    check-cases (verdict (takeChecks x))
+    (λ e. rw e (payload-is d (x .tables) (received clock (due x) room))) (λ n e. rw (e, not-0 (takeChecks x) n refl e))
 
 -- ---- so it is found: of a record judged at once, and of a record taken in the bytes that are handed out
 

@@ -89,12 +89,11 @@ writing-step s t w e q = record {
   bound = w .bound;
   done = w .done ++ s;
   puts = puts-then (w .bound) (w .puts) q;
-  parts = append-assoc (w .done) s t ∙ ap (λ (l : List ℕ). w .done ++ l) (sym e) ∙ w .parts;
+  parts = rw (append-assoc, ← e) (w .parts);
 }
 
 pub writing-end : {o whole rest out : List ℕ} {at p : ℕ} → Writing o at whole rest out p → rest ≡ [] → Puts o at whole out p
-writing-end {o} {whole} {rest} {out} {at} {p} w e =
-    rw (sym (w .parts) ∙ ap (λ (l : List ℕ). w .done ++ l) e ∙ append-nil (w .done)) (w .puts)
+writing-end w e = rw (← w .parts, e, append-nil) (w .puts)
 
 pub writing-length : {o whole rest out : List ℕ} {at p : ℕ} → Writing o at whole rest out p → length out ≡ length o
 writing-length w = puts-length (w .puts)

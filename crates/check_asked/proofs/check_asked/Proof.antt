@@ -5,7 +5,6 @@ use Rattle.rules.proofs.CheckLaws.{stop, skip, last, stop-all, skip-all}
 use Rattle.rules.specs.Checks.{verdict, requestChecks, stateChecks, rowChecks}
 use Rattle.rules.specs.declared.Tables.{Tables}
 use Rattle.rules.specs.Tables.{tablesOf}
-use Rattle.check_asked.proofs.check_asked.Statement.{statement}
 use Rattle.check_asked.proofs.check_asked.Tie as tie
 
 -- the tables, lent in parts
@@ -31,41 +30,29 @@ start c = c .before .before .before .before .before
 past : (c : tie.After-enum-told) {out : Check} → out ≡ verdict (ofStates (start c) ++ ofRows (start c)) → out ≡ verdict (all (start c))
 past c h = skip-all (requests (start c)) _ (c .before .before .check-request .ensures) (c .enum-told .given .1) h
 
-abbrev start2 : tie.After-enum-told3 → tie.Start
-start2 c = start (c .before .before .before)
+past2 : (c : tie.After-enum-told3) {out : Check} → let s = start (c .before .before .before) in out ≡ verdict (ofRows s) → out ≡ verdict (all s)
+past2 c h = let p = c .before .before .before in past p (skip-all (ofStates (start p)) _ (c .before .before .check-states .ensures) (c .enum-told3 .given .1) h)
 
-past2 : (c : tie.After-enum-told3) {out : Check} → out ≡ verdict (ofRows (start2 c)) → out ≡ verdict (all (start2 c))
-past2 c h = past (c .before .before .before) (skip-all (ofStates (start2 c)) _ (c .before .before .check-states .ensures) (c .enum-told3 .given .1) h)
-
-abbrev start3 : tie.After-enum-told5 → tie.Start
-start3 c = start2 (c .before .before .before)
-
-past3 : (c : tie.After-enum-told5) {out : Check} → out ≡ verdict (drop 1 (ofRows (start3 c))) → out ≡ verdict (all (start3 c))
+past3 : (c : tie.After-enum-told5) {out : Check} → let s = start (c .before .before .before .before .before .before) in
+    out ≡ verdict (drop 1 (ofRows s)) → out ≡ verdict (all s)
 past3 c h = past2 (c .before .before .before) (skip _ _ _ (c .before .before .check-missing .ensures) (c .enum-told5 .given .1) h)
-
-returns : tie.Need-returns
-returns c = stop-all (requests (c .before .before .before .before .before)) _ _ (c .before .before .check-request .ensures) (c .enum-told2 .given .1)
 
 returns-2 : tie.Need-returns-2
 returns-2 c =
     past (c .before .before .before)
     (stop-all (ofStates (start (c .before .before .before))) _ _ (c .before .before .check-states .ensures) (c .enum-told4 .given .1))
 
-returns-3 : tie.Need-returns-3
-returns-3 c = past2 (c .before .before .before) (stop _ _ _ _ (c .before .before .check-missing .ensures) (c .enum-told6 .given .1))
-
-returns-4 : tie.Need-returns-4
-returns-4 c = past3 (c .before .before .before) (stop _ _ _ _ (c .before .before .check-full .ensures) (c .enum-told8 .given .1))
-
 returns-5 : tie.Need-returns-5
 returns-5 c =
     past3 (c .before .before .before .before)
     (skip _ _ _ (c .before .before .before .check-full .ensures) (c .before .enum-told7 .given .1) (last _ _ (c .check-roles .ensures)))
 
-pub check-asked-spec : {M : Type 1} → statement M
+pub check-asked-spec : {M : Type 1} → Rattle.check_asked.proofs.check_asked.Statement.statement M
 check-asked-spec = tie.close (tie.spec
-    (λ c κs. search needs) (λ c. search needs) (λ c. search needs) returns
-    (λ c κs. search needs) (λ c. search needs) (λ c. search needs) returns-2
-    (λ c κs. search needs) (λ c. search needs) (λ c. search needs) returns-3
-    (λ c κs. search needs) (λ c. search needs) (λ c. search needs) returns-4
+    (λ c κs. search needs) (λ c. search needs) (λ c. search needs)
+    (λ c. stop-all (requests (c .before .before .before .before .before)) _ _ (c .before .before .check-request .ensures) (c .enum-told2 .given .1))
+    (λ c κs. search needs) (λ c. search needs) (λ c. search needs) returns-2 (λ c κs. search needs) (λ c. search needs) (λ c. search needs)
+    (λ c. past2 (c .before .before .before) (stop _ _ _ _ (c .before .before .check-missing .ensures) (c .enum-told6 .given .1)))
+    (λ c κs. search needs) (λ c. search needs) (λ c. search needs)
+    (λ c. past3 (c .before .before .before) (stop _ _ _ _ (c .before .before .check-full .ensures) (c .enum-told8 .given .1)))
     (λ c κs. search needs) returns-5)

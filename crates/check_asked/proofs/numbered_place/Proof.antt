@@ -1,16 +1,12 @@
 -- `numbered_place`: by the table; the key is the number of the row that the body stores.
-use Rattle.rows.proofs.Prelude.{_≡_, ap, _∙_, Bool, List, ℕ, _≤_, arith, length, take, needs}
+use Rattle.rows.proofs.Prelude.{_≡_, _∙_, List, ℕ, _≤_, arith, length, take, needs}
 use Rattle.rows.specs.Rows.{Row, hasKey, numberedAs}
 use Rattle.rows.specs.Contracts.{placeOf}
 use Rattle.rows.proofs.Laws.{numbered-key}
-use Rattle.check_asked.proofs.numbered_place.Statement.{statement}
 use Rattle.check_asked.proofs.numbered_place.Tie as tie
 
 by-number : (w v : Row) (ws : List Row) (key : List ℕ) → 2 ≤ length v → key ≡ take 2 v → v ≡ w → placeOf (hasKey 0 key) ws ≡ placeOf (numberedAs w) ws
-by-number w v ws key h e is =
-    ap (λ (k : List ℕ). placeOf (hasKey 0 k) ws) e
-    ∙ ap (λ (p : Row → Bool). placeOf p ws) (numbered-key v h)
-    ∙ ap (λ (x : Row). placeOf (numberedAs x) ws) is
+by-number w v ws key h e is = rw (e, numbered-key v h, is)
 
 returns : tie.Need-returns
 returns c =
@@ -26,8 +22,7 @@ returns-2 c =
     let told = made .before .enum-told2 .given .1 in
     rw told ((rw told at (c .place2 .ensures)) ∙ by-number _ _ _ _ (omega arith) (c .before .part2 .ensures) (made .ace-row .ensures))
 
-pub numbered-place-spec : {M : Type 1} → statement M
+pub numbered-place-spec : {M : Type 1} → Rattle.check_asked.proofs.numbered_place.Statement.statement M
 numbered-place-spec = tie.close (tie.spec
-    (λ c. search needs) (λ c κs. search needs) (λ c. search needs) (λ c κs. search needs) (λ c κs. search needs)
-    (λ c. search needs) (λ c κs. search needs) (λ c. search needs) (λ c κs. search needs) (λ c κs. search needs) returns
-    returns-2)
+    (λ c. search needs) (λ c κs. search needs) (λ c. search needs) (λ c κs. search needs) (λ c κs. search needs) (λ c. search needs)
+    (λ c κs. search needs) (λ c. search needs) (λ c κs. search needs) (λ c κs. search needs) returns returns-2)

@@ -1,10 +1,9 @@
 -- `move_listed` meets its contract: each arm rewrites by the numbers that it was reached by.
 use borrow.Author.Tests.{ne-eqb}
 use Rattle.rules.specs.States.{moveListed}
-use Rattle.check_state.proofs.move_listed.Statement.{statement}
 use Rattle.check_state.proofs.move_listed.Tie as tie
 
-pub move-listed-spec : {M : Type 1} → statement M
+pub move-listed-spec : {M : Type 1} → Rattle.check_state.proofs.move_listed.Statement.statement M
 unfolding moveListed
 move-listed-spec = tie.close (tie.spec
     (λ c. simp (c .before .match .keys1, c .match2 .keys1))
@@ -21,5 +20,4 @@ move-listed-spec = tie.close (tie.spec
     (λ c. simp (c .before .match .keys4, c .match5 .keys1))
     (λ c. simp (c .before .match .keys4, c .match5 .keys2))
     (λ c. simp (c .before .match .keys4, ne-eqb _ 0 (c .match5 .rest .0 .1), ne-eqb _ 2 (c .match5 .rest .1)))
-    (λ c. simp
-    (ne-eqb _ 1 (c .match .rest .0 .0 .0 .1), ne-eqb _ 2 (c .match .rest .0 .0 .1), ne-eqb _ 3 (c .match .rest .0 .1), ne-eqb _ 4 (c .match .rest .1))))
+    (λ c. let none = c .match .rest in simp (ne-eqb _ 1 (none .0 .0 .0 .1), ne-eqb _ 2 (none .0 .0 .1), ne-eqb _ 3 (none .0 .1), ne-eqb _ 4 (none .1))))

@@ -2,7 +2,6 @@
 use Rattle.rows.proofs.Prelude.{_≡_, sym, ap, _∙_, Bool, false, List, [], ℕ, _+_, _-_, _<_, arith, getD, needs}
 use lib.Seq.{getD-append-add}
 use Rattle.rules.specs.States.{writes, writeAllowed}
-use Rattle.check_state.proofs.write_allowed.Statement.{statement}
 use Rattle.check_state.proofs.write_allowed.Tie as tie
 
 no-row : (state : ℕ) → 4 < state → getD writes state [] ≡ []
@@ -10,13 +9,8 @@ no-row state h =
     let e : state ≡ 5 + (state - 5) = omega arith in
     ap (λ (n : ℕ). getD writes n []) e ∙ getD-append-add writes [] (state - 5) []
 
-returns : tie.Need-returns
+pub write-allowed-spec : {M : Type 1} → Rattle.check_state.proofs.write_allowed.Statement.statement M
 unfolding writeAllowed
-returns c = sym (ap (λ (row : List Bool). getD row (c .before .args .kind) false) (no-row _ (c .if1 .taken)))
-
-returns-2 : tie.Need-returns-2
-unfolding writeAllowed
-returns-2 c = search needs
-
-pub write-allowed-spec : {M : Type 1} → statement M
-write-allowed-spec = tie.close (tie.spec returns (λ c. search needs) (λ c. search needs) (λ c. search needs) returns-2)
+write-allowed-spec = tie.close (tie.spec
+    (λ c. sym (ap (λ (row : List Bool). getD row (c .before .args .kind) false) (no-row _ (c .if1 .taken))))
+    (λ c. search needs) (λ c. search needs) (λ c. search needs) (λ c. search needs))

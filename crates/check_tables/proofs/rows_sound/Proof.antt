@@ -3,7 +3,6 @@ use Rattle.rows.proofs.Prelude.{_*_, _≤_, mul-le-mul-right, arith, length, no
 use Rattle.rules.proofs.Answers.{rows-counted}
 use Rattle.rules.proofs.BodyLaws.{two-long}
 use Rattle.rules.specs.Tables.{stride, capacity, rowsSound}
-use Rattle.check_tables.proofs.rows_sound.Statement.{statement}
 use Rattle.check_tables.proofs.rows_sound.Tie as tie
 
 few : (c : tie.After-stride-of) → let a = c .before .before .before .before .args in a .count ≤ capacity (a .table)
@@ -12,18 +11,6 @@ few c = rw (c .before .before .capacity-of .ensures) at (c .before .if1 .left)
 -- the rows lie within the bytes
 fits : (c : tie.After-stride-of) → let a = c .before .before .before .before .args in a .count * stride (a .table) ≤ length (now (a .bytes))
 fits c = let a = c .before .before .before .before in rw (a .pre) (mul-le-mul-right (stride (a .args .table)) (few c))
-
-returns : tie.Need-returns
-unfolding rowsSound
-returns c =
-    let a = c .before .before .before .args in
-    rw (lt-leb (a .count) (capacity (a .table)) (rw (c .before .capacity-of .ensures) at (c .if1 .taken)))
-
-mul-end : tie.Need-mul-end
-mul-end c = rw (c .stride-of .ensures) (omega (arith, fits c, c .before .before .before .before .good))
-
-distinct-requires : tie.Need-distinct-requires
-distinct-requires c κs = let at = c .before .before in rw (at .stride-of .ensures) (two-long (at .before .before .before .before .args .table), fits at)
 
 returns-2 : tie.Need-returns-2
 unfolding rowsSound
@@ -39,9 +26,11 @@ returns-2 c =
       c .before .before .before .stride-of .ensures,
     )
 
-pub rows-sound-spec : {M : Type 1} → statement M
+pub rows-sound-spec : {M : Type 1} → Rattle.check_tables.proofs.rows_sound.Statement.statement M
+unfolding rowsSound
 rows-sound-spec = tie.close (tie.spec
-    (λ c κs. search needs) returns
-    (λ c κs. search needs) mul-end
-    (λ c κs. search needs) (λ c κs. search needs) distinct-requires
+    (λ c κs. search needs) (λ c. rw (lt-leb _ _ (rw (c .before .capacity-of .ensures) at (c .if1 .taken)))) (λ c κs. search needs)
+    (λ c. rw (c .stride-of .ensures) (omega (arith, fits c, c .before .before .before .before .good)))
+    (λ c κs. search needs) (λ c κs. search needs)
+    (λ c κs. let at = c .before .before in rw (at .stride-of .ensures) (two-long (at .before .before .before .before .args .table), fits at))
     returns-2)

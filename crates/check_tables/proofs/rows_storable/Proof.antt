@@ -1,13 +1,11 @@
 -- `rows_storable`: by the law of a loop that tests each row; a row that is cut short is none.
 use Rattle.rows.proofs.Prelude.{_≡_, refl, sym, ap, _∙_, Bool, false, List, ℕ, _<_, arith, length, take, length-take-le, take-all, now, needs, not-false}
-use Rattle.rows.proofs.Prelude.{not-true}
+use Rattle.rows.proofs.Prelude.{not-true, bool-cases}
 use Rattle.rows.specs.Rows.{every, rowsOf}
 use Rattle.rows.proofs.Laws.{EveryInv, every-fails, every-turn, every-end}
 use Rattle.rules.specs.declared.Table.{Table}
 use Rattle.rules.specs.Tables.{stride, storable}
-use Rattle.rules.proofs.Bools.{bool-cases}
 use Rattle.rules.proofs.BodyLaws.{sized}
-use Rattle.check_tables.proofs.rows_storable.Statement.{statement}
 use Rattle.check_tables.proofs.rows_storable.Tie as tie
 
 abbrev Inv-loop : tie.InvT-loop
@@ -48,16 +46,11 @@ loop-again c =
     let turn = test .before .before .before .before in
     every-turn _ _ _ _ _ _ (turn .before .loop .inv) (turn .loop-test .taken) (sym (test .before .row-storable .ensures) ∙ not-false _ (test .if2 .left))
 
-returns-3 : tie.Need-returns-3 Inv-loop μ-loop
-returns-3 c = at-stride (c .before .before) _ (every-end _ _ _ _ _ _ (c .before .loop .inv) (c .loop-test .left))
-
-pub rows-storable-spec : {M : Type 1} → statement M
+pub rows-storable-spec : {M : Type 1} → Rattle.check_tables.proofs.rows_storable.Statement.statement M
 rows-storable-spec = tie.close (tie.spec
-    Inv-loop
-    μ-loop
-    (λ c κs. search needs) (λ c. refl) returns
-    (λ c. sym (length-take-le _ (c .before .before .before .loop .rest .now) (c .before .if1 .left)))
-    (λ c κs. search needs) returns-2
-    (λ c. c .before .before .before .if1 .left) (λ c. c .before .before .before .if1 .left)
+    Inv-loop μ-loop (λ c κs. search needs) (λ c. refl)
+    returns (λ c. sym (length-take-le _ (c .before .before .before .loop .rest .now) (c .before .if1 .left)))
+    (λ c κs. search needs) returns-2 (λ c. c .before .before .before .if1 .left)
+    (λ c. c .before .before .before .if1 .left)
     (λ c. search needs) (λ c. search needs) (λ c. search needs) loop-again
-    returns-3)
+    (λ c. at-stride (c .before .before) _ (every-end _ _ _ _ _ _ (c .before .loop .inv) (c .loop-test .left))))

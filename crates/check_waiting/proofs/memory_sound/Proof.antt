@@ -1,15 +1,7 @@
 -- `memory_sound`: test by test.
-use denote.Ref.{now}
-use borrow.Author.Needs.{needs}
+use Rattle.rows.proofs.Prelude.{now, needs}
 use Rattle.check_waiting.proofs.Laws.{too-many, tested}
-use Rattle.check_waiting.proofs.memory_sound.Statement.{statement}
 use Rattle.check_waiting.proofs.memory_sound.Tie as tie
-
-cast-count : tie.Need-cast-count
-cast-count c = search (needs, c .shared-slice-known .given 0)
-
-returns : tie.Need-returns
-returns c = too-many _ (now (c .before .before .before .args .memory)) (c .if1 .taken)
 
 returns-2 : tie.Need-returns-2
 returns-2 c =
@@ -18,7 +10,9 @@ returns-2 c =
     tested _ (now (s .args .memory)) (search needs) (test .if1 .left) _ _ _ _ (c .before .before .before .round-sound .ensures)
     (c .before .before .all-zero .ensures) (c .before .slots-sound .ensures) (c .distinct .ensures)
 
-pub memory-sound-spec : {M : Type 1} → statement M
+pub memory-sound-spec : {M : Type 1} → Rattle.check_waiting.proofs.memory_sound.Statement.statement M
 memory-sound-spec = tie.close (tie.spec
-    (λ c. search needs) cast-count returns (λ c. search needs) (λ c. search needs) (λ c. search needs) (λ c. search needs)
-    (λ c κs. search needs) (λ c κs. search needs) (λ c κs. search needs) (λ c κs. search needs) returns-2)
+    (λ c. search needs) (λ c. search (needs, c .shared-slice-known .given 0))
+    (λ c. too-many _ (now (c .before .before .before .args .memory)) (c .if1 .taken))
+    (λ c. search needs) (λ c. search needs) (λ c. search needs) (λ c. search needs) (λ c κs. search needs) (λ c κs. search needs)
+    (λ c κs. search needs) (λ c κs. search needs) returns-2)

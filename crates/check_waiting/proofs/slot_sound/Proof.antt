@@ -1,7 +1,6 @@
 -- `slot_sound`: by the checks of its record, then by the slot's other bytes.
 use borrow.Author.Needs.{needs}
 use Rattle.check_waiting.proofs.Laws.{not-kept, fits, kept-is}
-use Rattle.check_waiting.proofs.slot_sound.Statement.{statement}
 use Rattle.check_waiting.proofs.slot_sound.Tie as tie
 
 returns : tie.Need-returns
@@ -19,7 +18,6 @@ returns-2 c =
     let call = told .before .before in
     kept-is _ _ _ (call .before .record-in .ensures) _ (call .check-sender .ensures) (told .enum-told .given .1) _ (c .is-slot-of .ensures)
 
-pub slot-sound-spec : {M : Type 1} → statement M
+pub slot-sound-spec : {M : Type 1} → Rattle.check_waiting.proofs.slot_sound.Statement.statement M
 slot-sound-spec = tie.close (tie.spec
-    (λ c κs. search needs) (λ c κs. search needs) (λ c. search needs) (λ c. search needs) returns
-    is-slot-of-requires returns-2)
+    (λ c κs. search needs) (λ c κs. search needs) (λ c. search needs) (λ c. search needs) returns is-slot-of-requires returns-2)

@@ -10,7 +10,6 @@ use Rattle.rules.specs.Checks.{verdict, headerChecks, senderChecks}
 use Rattle.rules.specs.Decision.{grantChecks, decisionBy, granted, decided}
 use Rattle.rules.proofs.CheckLaws.{last, stop-all, skip-all}
 use Rattle.decision.proofs.Laws.{turned}
-use Rattle.decision.proofs.decide.Statement.{statement}
 use Rattle.decision.proofs.decide.Tie as tie
 
 abbrev start : tie.After-check-header → tie.Start
@@ -21,10 +20,6 @@ tables s = tablesOf (s .args .h) (now (s .args .creds)) (now (s .args .aces))
 
 abbrev request : tie.Start → Request
 request s = received (s .args .clock) (now (s .args .«record»)) (s .args .room)
-
--- the row found is the resource's
-check-header-requires : tie.Need-check-header-requires
-check-header-requires c κs = c .resource-row .ensures ∙ ap resourceOf (c .before .resource-of .ensures)
 
 returns : tie.Need-returns
 unfolding decided
@@ -75,10 +70,10 @@ returns-3 c =
     let s = start (headed call .before .before) in
     c .grant .ensures ∙ rest-decides (tables s) (request s) _ (sender-checked call) (p .enum-told3 .given .1)
 
-pub decide-spec : {M : Type 1} → statement M
+pub decide-spec : {M : Type 1} → Rattle.decision.proofs.decide.Statement.statement M
 decide-spec = tie.close (tie.spec
-    (λ c κs. search needs) (λ c. search needs) (λ c κs. search needs) check-header-requires
-    (λ c. search needs) (λ c. search needs) (λ c κs. search needs) returns
-    (λ c κs. search needs) (λ c κs. c .own-row .ensures)
-    (λ c. search needs) (λ c. search needs) (λ c κs. search needs) returns-2
-    grant-requires returns-3)
+    (λ c κs. search needs) (λ c. search needs) (λ c κs. search needs)
+    -- the row found is the resource's
+    (λ c κs. c .resource-row .ensures ∙ ap resourceOf (c .before .resource-of .ensures))
+    (λ c. search needs) (λ c. search needs) (λ c κs. search needs) returns (λ c κs. search needs) (λ c κs. c .own-row .ensures)
+    (λ c. search needs) (λ c. search needs) (λ c κs. search needs) returns-2 grant-requires returns-3)

@@ -13,7 +13,6 @@ use Rattle.rules.specs.Checks.{verdict, askedChecks, roomChecks}
 use Rattle.rules.specs.Decision.{grantChecks, decisionBy, granted}
 use Rattle.rules.proofs.CheckLaws.{stop-all, skip-all, last}
 use Rattle.decision.proofs.Laws.{turned}
-use Rattle.decision.proofs.grant.Statement.{statement}
 use Rattle.decision.proofs.grant.Tie as tie
 
 -- a record that passes
@@ -79,8 +78,7 @@ returns-3 c =
     let-through (tables s) (request s) _ _ _ _ (c .enum-told3 .given .1) (whole room)
     (called call .effective .ensures) (call .before .action-of .ensures) (room .before .reply-length .ensures)
 
-pub grant-spec : {M : Type 1} → statement M
+pub grant-spec : {M : Type 1} → Rattle.decision.proofs.grant.Statement.statement M
 grant-spec = tie.close (tie.spec
     (λ c κs. search needs) (λ c κs. search needs) (λ c κs. search needs) (λ c. search needs) (λ c. search needs) (λ c κs. search needs) returns
-    (λ c κs. search needs) (λ c κs. search needs) (λ c. search needs) (λ c. search needs) (λ c κs. search needs) returns-2
-    returns-3)
+    (λ c κs. search needs) (λ c κs. search needs) (λ c. search needs) (λ c. search needs) (λ c κs. search needs) returns-2 returns-3)

@@ -11,7 +11,6 @@ use Rattle.rules.specs.Decision.{grantChecks}
 use Rattle.rules.specs.Links.{permits}
 use Rattle.rules.proofs.CheckLaws.{skip-all}
 use Rattle.decision.proofs.Laws.{check-granted}
-use Rattle.decision_links.proofs.is_permitted.Statement.{statement}
 use Rattle.decision_links.proofs.is_permitted.Tie as tie
 
 -- the tables, lent in parts
@@ -31,19 +30,11 @@ answered c d e =
     let v : c .grant .result .check ≡ verdict (grantChecks (tables s) q) = ap (λ (x : Decision). x .check) (c .grant .ensures) ∙ check-granted (tables s) q in
     sym (ap isPass (sym (skip-all (formChecks (tables s) (now (s .args .«record»))) (grantChecks (tables s) q) refl (s .pre .0) v) ∙ e))
 
--- the row found is the resource's
-grant-requires : tie.Need-grant-requires
-grant-requires c κs =
-    let number = c .before in
-    (number .before .before .before .pre .1, c .resource-row .ensures ∙ ap resourceOf (number .resource-of .ensures))
-
-returns : tie.Need-returns
-returns c = answered (c .before .before) _ (c .enum-told2 .given .1)
-
-returns-2 : tie.Need-returns-2
-returns-2 c = answered (c .before .before) _ (c .enum-told .given .1)
-
-pub is-permitted-spec : {M : Type 1} → statement M
+pub is-permitted-spec : {M : Type 1} → Rattle.decision_links.proofs.is_permitted.Statement.statement M
 is-permitted-spec = tie.close (tie.spec
-    (λ c κs. search needs) (λ c. search needs) (λ c κs. search needs) grant-requires (λ c. search needs) (λ c. search needs) returns
-    returns-2)
+    (λ c κs. search needs) (λ c. search needs) (λ c κs. search needs)
+    -- the row found is the resource's
+    (λ c κs. (c .before .before .before .before .pre .1, c .resource-row .ensures ∙ ap resourceOf (c .before .resource-of .ensures)))
+    (λ c. search needs) (λ c. search needs)
+    (λ c. answered (c .before .before) _ (c .enum-told2 .given .1))
+    (λ c. answered (c .before .before) _ (c .enum-told .given .1)))

@@ -1,10 +1,8 @@
 -- `link_set`: the bits so far and those of the links left are the set.
-use native.Mathlib.Omega.{arith}
-use Prim.Native.Nat.{_-_}
+use Rattle.rows.proofs.Prelude.{_-_, arith}
 use Rattle.rules.specs.Tables.{tablesOf}
 use Rattle.rules.specs.Links.{ownRecord, permits}
 use Rattle.decision_links.proofs.Halves.{Halves, at-first, next, at-last, link-known}
-use Rattle.decision_links.proofs.link_set.Statement.{statement}
 use Rattle.decision_links.proofs.link_set.Tie as tie
 
 abbrev Inv-loop : tie.InvT-loop
@@ -19,22 +17,10 @@ link-bit-requires c κs =
     let p = turn .before .before .before .pre in
     (omega (arith, c .loop-test .taken), link-known _ (turn .loop .inv .low) (c .loop-test .taken), p .0, p .1)
 
-add-set : tie.Need-add-set Inv-loop μ-loop
-add-set c = omega (arith, c .before .before .loop .inv .room, c .link-bit .ensures .1)
-
-add-n : tie.Need-add-n Inv-loop μ-loop
-add-n c = omega (arith, c .before .loop-test .taken)
-
-loop-less : tie.Need-loop-less Inv-loop μ-loop
-loop-less c = omega (arith, c .before .loop-test .taken)
-
-loop-again : tie.Need-loop-again Inv-loop μ-loop
-loop-again c = next _ _ _ _ (c .before .before .loop .inv) (c .before .loop-test .taken) _ (c .link-bit .ensures .0) (c .link-bit .ensures .1)
-
-returns : tie.Need-returns Inv-loop μ-loop
-returns c = at-last _ _ _ _ (c .before .loop .inv) (c .loop-test .left)
-
-pub link-set-spec : {M : Type 1} → statement M
+pub link-set-spec : {M : Type 1} → Rattle.decision_links.proofs.link_set.Statement.statement M
 link-set-spec = tie.close (tie.spec
     Inv-loop μ-loop (λ c. at-first _) link-bit-requires
-    add-set add-n loop-less loop-again returns)
+    (λ c. omega (arith, c .before .before .loop .inv .room, c .link-bit .ensures .1))
+    (λ c. omega (arith, c .before .loop-test .taken)) (λ c. omega (arith, c .before .loop-test .taken))
+    (λ c. next _ _ _ _ (c .before .before .loop .inv) (c .before .loop-test .taken) _ (c .link-bit .ensures .0) (c .link-bit .ensures .1))
+    (λ c. at-last _ _ _ _ (c .before .loop .inv) (c .loop-test .left)))

@@ -6,7 +6,6 @@ use Rattle.rules.specs.Record.{Request, received}
 use Rattle.rules.specs.Tables.{tablesOf}
 use Rattle.rules.specs.Defaults.{Defaults, defaults}
 use Rattle.execute.proofs.Laws.{action-is, length-is, rows-pass, form-passes, says, fills}
-use Rattle.execute.proofs.execute.Statement.{statement}
 use Rattle.execute.proofs.execute.Tie as tie
 
 abbrev start : tie.After-put-reply → tie.Start
@@ -33,11 +32,6 @@ put-reply-requires c κs =
     let s = c .before .before .before .before .before .before .before in
     length-is (tables s) (request s) (s .args .d) (s .pre .1) (s .pre .2)
 
-links-of-requires : tie.Need-links-of-requires
-links-of-requires c κs =
-    let s = start (wrote (c .before .before)) in
-    form-passes (tables s) (request s) (s .args .d) (s .pre .1) (s .pre .2) (s .pre .0)
-
 apply-requires : tie.Need-apply-requires
 apply-requires c κs =
     let s = start (wrote (placed (c .before .before))) in (
@@ -45,9 +39,6 @@ apply-requires c κs =
       form-passes (tables s) (request s) (s .args .d) (s .pre .1) (s .pre .2) (s .pre .0),
       rows-pass (tables s) (request s) (s .args .d) (s .pre .1) (s .pre .2),
     )
-
-same-length : tie.Need-same-length
-same-length c = puts-length (wrote (placed (c .before .before .before)) .put-reply .ensures)
 
 returns : tie.Need-returns
 returns c =
@@ -60,9 +51,10 @@ returns c =
       fills = fills (tables s) (request s) (s .args .d) (s .pre .1) (s .pre .2) (s .pre .0) (lists s) _ _ _ refl (put .put-reply .ensures);
     }
 
-pub execute-spec : {M : Type 1} → statement M
+pub execute-spec : {M : Type 1} → Rattle.execute.proofs.execute.Statement.statement M
 execute-spec = tie.close (tie.spec
-    put-reply-requires (λ c κs. search needs) links-of-requires
+    put-reply-requires (λ c κs. search needs)
+    (λ c κs. let s = start (wrote (c .before .before)) in form-passes (tables s) (request s) (s .args .d) (s .pre .1) (s .pre .2) (s .pre .0))
     apply-requires
-    same-length
+    (λ c. puts-length (wrote (placed (c .before .before .before)) .put-reply .ensures))
     returns)

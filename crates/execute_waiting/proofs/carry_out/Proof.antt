@@ -6,7 +6,6 @@ use Rattle.rules.specs.Tables.{tablesOf}
 use Rattle.rules.specs.Defaults.{Defaults, defaults}
 use Rattle.rules_waiting.specs.Terminal.{isReset}
 use Rattle.execute_waiting.proofs.Laws.{served, same-memory}
-use Rattle.execute_waiting.proofs.carry_out.Statement.{statement}
 use Rattle.execute_waiting.proofs.carry_out.Tie as tie
 
 abbrev start : tie.After-enum-told → tie.Start
@@ -34,7 +33,6 @@ returns-2 c =
           (s .pre .0 .0) (lists s) _ (sym (ap isReset serves)) (tables s) same _ _ refl refl,
     )
 
-pub carry-out-spec : {M : Type 1} → statement M
+pub carry-out-spec : {M : Type 1} → Rattle.execute_waiting.proofs.carry_out.Statement.statement M
 carry-out-spec = tie.close (tie.spec
-    (λ c. search needs) (λ c κs. search needs) (λ c. search needs) (λ c. search needs)
-    (λ c κs. search needs) (λ c. search needs) returns-2)
+    (λ c. search needs) (λ c κs. search needs) (λ c. search needs) (λ c. search needs) (λ c κs. search needs) (λ c. search needs) returns-2)

@@ -9,7 +9,6 @@ use Rattle.rows.specs.Rows.{without}
 use Rattle.rules_waiting.specs.Slots.{Round, waiting, memoryOf}
 use Rattle.rules_waiting.specs.Round.{seats, gone, heldRound}
 use Rattle.execute_waiting.proofs.Laws.{cleared-memory, same-memory, moved-memory}
-use Rattle.execute_waiting.proofs.change.Statement.{statement}
 use Rattle.execute_waiting.proofs.change.Tie as tie
 
 -- back from the rows that changed to the round that was held, and to the start
@@ -65,9 +64,6 @@ returns-2 c =
           (reset .is-reset .ensures) (left call) (left-is call) _ _ (c .before .before .before .before .if1 .left) (c .if2 .taken),
     )
 
-settle-requires : tie.Need-settle-requires
-settle-requires c κs = start (ran (tested (c .before .before .before))) .pre .1 .0
-
 returns-3 : tie.Need-returns-3
 unfolding seats
 returns-3 c =
@@ -83,9 +79,9 @@ returns-3 c =
           (reset .is-reset .ensures) (left call) (left-is call) _ _ (count .before .before .before .before .if1 .left) (count .if2 .left),
     )
 
-pub change-spec : {M : Type 1} → statement M
+pub change-spec : {M : Type 1} → Rattle.execute_waiting.proofs.change.Statement.statement M
 change-spec = tie.close (tie.spec
     (λ c κs. search needs) (λ c κs. search needs) (λ c κs. search needs) (λ c κs. search needs) (λ c. search needs) returns
     (λ c. search needs) returns-2
-    settle-requires
+    (λ c κs. start (ran (tested (c .before .before .before))) .pre .1 .0)
     (λ c. search needs) returns-3)

@@ -10,7 +10,6 @@ use Rattle.rules_waiting.proofs.Sound.{terminal-parts}
 use Rattle.queue.specs.Queue.{IsQueue}
 use Rattle.judge.proofs.Laws.{turned-buffer, turned-memory, turned-said}
 use Rattle.judge.proofs.TakeLaws.{seat-is, can-leave, left-queue, left-round, left-waiting, ready, nothing-taken, handed, one-taken}
-use Rattle.judge.proofs.take.Statement.{statement}
 use Rattle.judge.proofs.take.Tie as tie
 
 abbrev start : tie.After-check-take → tie.Start
@@ -95,12 +94,6 @@ returns c =
     nothing-taken (lists s) (s .args .h) (now (s .args .creds)) (now (s .args .aces)) (now (s .args .memory))
     (s .args .clock) (room s) _ (call .check-take .ensures) _ (told .enum-told2 .given .1) _ (c .refused .ensures) _ refl _
 
-due-record-requires : tie.Need-due-record-requires
-due-record-requires c κs = can-take (c .before .before .before .before)
-
-slice-aggregate-leave : tie.Need-slice-aggregate-leave
-slice-aggregate-leave c = sym (leaves (c .before .before) .1)
-
 returns-2 : tie.Need-returns-2
 returns-2 c =
     let no = c .before .before in
@@ -150,9 +143,9 @@ returns-3 c =
     (done .carry-out .ensures .1
     ∙ ap₂ (λ (k : Round) (ws : List Row). memoryAfter (lists s) (x .tables) (request made) k ws) (left-turn left) (left-slots left))
 
-pub take-spec : {M : Type 1} → statement M
+pub take-spec : {M : Type 1} → Rattle.judge.proofs.take.Statement.statement M
 take-spec = tie.close (tie.spec
     (λ c κs. search needs) (λ c. search needs) (λ c. search needs) (λ c κs. search needs) returns
-    due-record-requires (λ c κs. search needs) (λ c κs. search needs) slice-aggregate-leave
-    (λ c κs. leaves (c .before .before)) (λ c. search needs) (λ c. search needs) (λ c κs. search needs) returns-2
-    carry-out-requires (λ c. search needs) returns-3)
+    (λ c κs. can-take (c .before .before .before .before)) (λ c κs. search needs) (λ c κs. search needs)
+    (λ c. sym (leaves (c .before .before) .1)) (λ c κs. leaves (c .before .before)) (λ c. search needs) (λ c. search needs)
+    (λ c κs. search needs) returns-2 carry-out-requires (λ c. search needs) returns-3)

@@ -1,16 +1,13 @@
 -- `convert`: a bad file, too many rows, a buffer that is too short, or the rows.
 use Rattle.rows.proofs.Prelude.{sym, _∙_, now, needs}
 use Rattle.list_convert.proofs.Ends.{bad-file, too-many, too-short, all-put}
-use Rattle.list_convert.proofs.convert.Statement.{statement}
 use Rattle.list_convert.proofs.convert.Tie as tie
 
 returns : tie.Need-returns
 returns c =
-    let count = c .before in
-    let told = count .before in
+    let told = c .before .before in
     let s = told .before .before .before in
-    let e = bad-file (now (s .args .file)) (now (s .args .rows)) (sym (told .is-bad-file .ensures) ∙ c .if1 .taken) in
-    (e .says, (e .size, e .buffer))
+    bad-file (now (s .args .file)) (now (s .args .rows)) (sym (told .is-bad-file .ensures) ∙ c .if1 .taken)
 
 returns-2 : tie.Need-returns-2
 returns-2 c =
@@ -18,9 +15,7 @@ returns-2 c =
     let count = test .before in
     let told = count .before in
     let s = told .before .before .before in
-    let good = sym (told .is-bad-file .ensures) ∙ test .if1 .left in
-    let e = too-many (now (s .args .file)) (now (s .args .rows)) good _ (count .count-made .ensures) (c .if2 .taken) in
-    (e .says, (e .size, e .buffer))
+    too-many (now (s .args .file)) (now (s .args .rows)) (sym (told .is-bad-file .ensures) ∙ test .if1 .left) _ (count .count-made .ensures) (c .if2 .taken)
 
 returns-3 : tie.Need-returns-3
 returns-3 c =
@@ -29,9 +24,8 @@ returns-3 c =
     let count = test .before in
     let told = count .before in
     let s = told .before .before .before in
-    let good = sym (told .is-bad-file .ensures) ∙ test .if1 .left in
-    let e = too-short (now (s .args .file)) (now (s .args .rows)) good _ (count .count-made .ensures) (few .if2 .left) (c .if3 .taken) in
-    (e .says, (e .size, e .buffer))
+    too-short (now (s .args .file)) (now (s .args .rows)) (sym (told .is-bad-file .ensures) ∙ test .if1 .left) _
+    (count .count-made .ensures) (few .if2 .left) (c .if3 .taken)
 
 returns-4 : tie.Need-returns-4
 returns-4 c =
@@ -42,14 +36,10 @@ returns-4 c =
     let count = test .before in
     let told = count .before in
     let s = told .before .before .before in
-    let good = sym (told .is-bad-file .ensures) ∙ test .if1 .left in
-    let e = all-put (now (s .args .file)) (now (s .args .rows)) good _ (count .count-made .ensures)
-    (few .if2 .left) _ (fits .if3 .left) (put .put-all .ensures) in
-    (e .says, (e .size, e .buffer))
+    all-put (now (s .args .file)) (now (s .args .rows)) (sym (told .is-bad-file .ensures) ∙ test .if1 .left) _
+    (count .count-made .ensures) (few .if2 .left) _ (fits .if3 .left) (put .put-all .ensures)
 
-pub convert-spec : {M : Type 1} → statement M
+pub convert-spec : {M : Type 1} → Rattle.list_convert.proofs.convert.Statement.statement M
 convert-spec = tie.close (tie.spec
-    (λ c κs. search needs) (λ c κs. search needs) returns
-    returns-2
-    (λ c. search needs) returns-3
-    (λ c κs. search needs) (λ c. search needs) returns-4)
+    (λ c κs. search needs) (λ c κs. search needs) returns returns-2 (λ c. search needs) returns-3 (λ c κs. search needs)
+    (λ c. search needs) returns-4)

@@ -6,7 +6,6 @@ use Rattle.rules_legacy.specs.OldList.{oldRows}
 use Rattle.rules_legacy.specs.Conversion.{entriesOf, rowsMade}
 use Rattle.rules_legacy.proofs.Stored.{rows-count}
 use Rattle.list_convert.proofs.Files.{many, many-more, many-end, twice-at-most}
-use Rattle.list_convert.proofs.count_made.Statement.{statement}
 use Rattle.list_convert.proofs.count_made.Tie as tie
 
 abbrev Inv-loop : tie.InvT-loop
@@ -41,12 +40,10 @@ returns : tie.Need-returns Inv-loop μ-loop
 unfolding rowsMade oldRows
 returns c =
     let l = c .before .loop in
-    let file = c .before .before .before .args .file .now in
-    omega (arith, l .inv .1, many-end (l .left) (l .rest .now) (c .loop-test .left), rows-count file)
+    omega (arith, l .inv .1, many-end (l .left) (l .rest .now) (c .loop-test .left), rows-count (c .before .before .before .args .file .now))
 
-pub count-made-spec : {M : Type 1} → statement M
+pub count-made-spec : {M : Type 1} → Rattle.list_convert.proofs.count_made.Statement.statement M
 count-made-spec = tie.close (tie.spec
-    Inv-loop μ-loop (λ c. (omega arith, omega arith)) (λ c κs. search needs) (λ c κs. search needs) (λ c. search needs)
-    add-total (λ c. row-here (c .before .before)) (λ c. row-here (c .before .before))
-    (λ c. search needs) (λ c. search needs) (λ c. search needs) loop-again
-    returns)
+    Inv-loop μ-loop (λ c. (omega arith, omega arith)) (λ c κs. search needs) (λ c κs. search needs) (λ c. search needs) add-total
+    (λ c. row-here (c .before .before)) (λ c. row-here (c .before .before)) (λ c. search needs) (λ c. search needs) (λ c. search needs)
+    loop-again returns)

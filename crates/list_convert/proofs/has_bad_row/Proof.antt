@@ -4,7 +4,6 @@ use Rattle.rows.proofs.Prelude.{refl, sym, ap, _∙_, _*_, _/_, _≤_, arith, l
 use Rattle.rows.proofs.Laws.{a-row, next-room}
 use Rattle.rules_legacy.specs.OldList.{oldRows, badRow}
 use Rattle.list_convert.proofs.Files.{SomeInv, some-found, some-turn, some-end}
-use Rattle.list_convert.proofs.has_bad_row.Statement.{statement}
 use Rattle.list_convert.proofs.has_bad_row.Tie as tie
 
 abbrev Inv-loop : tie.InvT-loop
@@ -36,13 +35,9 @@ loop-again c =
       some-turn _ _ _ _ _ _ (l .inv .1) (turn .loop-test .taken) (sym e ∙ test .if1 .left),
     )
 
-returns-2 : tie.Need-returns-2 Inv-loop μ-loop
+pub has-bad-row-spec : {M : Type 1} → Rattle.list_convert.proofs.has_bad_row.Statement.statement M
 unfolding oldRows
-returns-2 c = some-end _ _ _ _ _ _ (c .before .loop .inv .1) (c .loop-test .left)
-
-pub has-bad-row-spec : {M : Type 1} → statement M
 has-bad-row-spec = tie.close (tie.spec
-    Inv-loop μ-loop (λ c. (omega arith, refl)) (λ c κs. search needs) (λ c κs. search needs) returns
-    (λ c. row-here (c .before .before .before)) (λ c. row-here (c .before .before .before))
-    (λ c. search needs) (λ c. search needs) (λ c. search needs) loop-again
-    returns-2)
+    Inv-loop μ-loop (λ c. (omega arith, refl)) (λ c κs. search needs) (λ c κs. search needs) returns (λ c. row-here (c .before .before .before))
+    (λ c. row-here (c .before .before .before)) (λ c. search needs) (λ c. search needs) (λ c. search needs) loop-again
+    (λ c. some-end _ _ _ _ _ _ (c .before .loop .inv .1) (c .loop-test .left)))

@@ -8,7 +8,6 @@ use Rattle.rules_legacy.specs.OldList.{oldRows}
 use Rattle.rules_legacy.specs.Conversion.{entriesOf, rowsMade}
 use Rattle.rules_legacy.proofs.Stored.{rows-count}
 use Rattle.list_convert.proofs.Files.{many, many-more, two-at-most, bytesFrom, bytes-more, bytes-end}
-use Rattle.list_convert.proofs.put_all.Statement.{statement}
 use Rattle.list_convert.proofs.put_all.Tie as tie
 
 abbrev Inv-loop : tie.InvT-loop
@@ -22,15 +21,11 @@ loop-holds : tie.Need-loop-holds Inv-loop μ-loop
 unfolding rowsMade oldRows
 loop-holds c =
     let s = c .before .before in
-    let file = s .args .file .now in
-    (omega arith, (omega (arith, s .pre, rows-count file), writing-start _ _ _ (omega arith) (omega arith)))
+    (omega arith, (omega (arith, s .pre, rows-count (s .args .file .now)), writing-start _ _ _ (omega arith) (omega arith)))
 
 -- a turn has a row
 row-here : (c : tie.In-loop Inv-loop μ-loop) → 25 ≤ length (c .before .loop .rest .now)
 row-here c = a-row 25 _ (c .before .loop .rest .now) (c .loop-test .taken) (c .before .loop .inv .0)
-
-add-number : tie.Need-add-number Inv-loop μ-loop
-add-number c = omega (arith, c .made-count .ensures, two-at-most (now (c .before .before .before .before .before .part .result)))
 
 loop-again : tie.Need-loop-again Inv-loop μ-loop
 loop-again c =
@@ -48,19 +43,11 @@ loop-again c =
       ),
     )
 
-same-length : tie.Need-same-length Inv-loop μ-loop
-same-length c = writing-length (c .before .loop .inv .1 .1)
-
-returns : tie.Need-returns Inv-loop μ-loop
-returns c = writing-end (c .before .loop .inv .1 .1) (bytes-end (c .before .loop .number) (c .before .loop .left) _ (c .loop-test .left))
-
-pub put-all-spec : {M : Type 1} → statement M
+pub put-all-spec : {M : Type 1} → Rattle.list_convert.proofs.put_all.Statement.statement M
 put-all-spec = tie.close (tie.spec
-    Inv-loop
-    μ-loop
-    loop-holds
-    (λ c κs. search needs) (λ c κs. search needs) (λ c κs. search needs) add-number
-    (λ c. row-here (c .before .before .before .before .before .before)) (λ c. row-here (c .before .before .before .before .before .before))
-    (λ c. search needs) (λ c. search needs) (λ c. search needs) loop-again
-    same-length
-    returns)
+    Inv-loop μ-loop loop-holds (λ c κs. search needs) (λ c κs. search needs) (λ c κs. search needs)
+    (λ c. omega (arith, c .made-count .ensures, two-at-most (now (c .before .before .before .before .before .part .result))))
+    (λ c. row-here (c .before .before .before .before .before .before))
+    (λ c. row-here (c .before .before .before .before .before .before))
+    (λ c. search needs) (λ c. search needs) (λ c. search needs) loop-again (λ c. writing-length (c .before .loop .inv .1 .1))
+    (λ c. writing-end (c .before .loop .inv .1 .1) (bytes-end (c .before .loop .number) (c .before .loop .left) _ (c .loop-test .left))))

@@ -2,7 +2,6 @@
 use Rattle.rows.proofs.Prelude.{sym, _∙_, _≤_, arith, length, now, needs}
 use Rattle.text.specs.Buffer.{largest}
 use Rattle.list_row.proofs.OldRows.{two-puts, one-puts}
-use Rattle.list_row.proofs.put_made.Statement.{statement}
 use Rattle.list_row.proofs.put_made.Tie as tie
 
 bound : (c : tie.After-slice-known) → length (now (c .before .args .out)) ≤ largest
@@ -24,7 +23,7 @@ returns-2 c =
     let test = part .before .before in
     one-puts _ _ _ (sym (test .before .is-anybody .ensures) ∙ test .if1 .left) (part .part .ensures) (put .put-row .ensures)
 
-pub put-made-spec : {M : Type 1} → statement M
+pub put-made-spec : {M : Type 1} → Rattle.list_row.proofs.put_made.Statement.statement M
 put-made-spec = tie.close (tie.spec
     (λ c κs. search needs) (λ c κs. search needs) (λ c. search needs) (λ c κs. search needs) (λ c. search needs) returns
     (λ c κs. search needs) (λ c κs. search needs) (λ c. search needs) returns-2)

@@ -3,7 +3,6 @@ use Rattle.rows.proofs.Prelude.{_≤_, _<_, arith, length, now, needs}
 use Rattle.text.specs.Buffer.{largest}
 use Rattle.rules.specs.Bodies.{everySecond}
 use Rattle.list_row.proofs.OldRows.{row-puts}
-use Rattle.list_row.proofs.put_row.Statement.{statement}
 use Rattle.list_row.proofs.put_row.Tie as tie
 
 bound : (c : tie.After-slice-known) → length (now (c .before .args .out)) ≤ largest
@@ -21,12 +20,11 @@ returns c =
     let part = set .before in
     let head = part .before .before .before .before in
     let flags = head .before .before .before in
-    let known = flags .before .before .before in
-    row-puts _ _ _ _ _ _ (bound known) (flags .flags .ensures) (byte flags) (part .part .ensures)
+    row-puts _ _ _ _ _ _ (bound (flags .before .before .before)) (flags .flags .ensures) (byte flags) (part .part .ensures)
     (head .put .ensures) (set .put2 .ensures) (subject .put3 .ensures) (period .put4 .ensures)
 
-pub put-row-spec : {M : Type 1} → statement M
+pub put-row-spec : {M : Type 1} → Rattle.list_row.proofs.put_row.Statement.statement M
 put-row-spec = tie.close (tie.spec
-    (λ c. search needs) (λ c. search needs) (λ c. search needs) (λ c κs. search needs) (λ c. search needs) (λ c. search needs) (λ c. search needs)
-    (λ c κs. search needs) (λ c κs. search needs) (λ c κs. search needs) (λ c κs. search needs) (λ c. search needs) (λ c κs. search needs) (λ c. search needs)
-    returns)
+    (λ c. search needs) (λ c. search needs) (λ c. search needs) (λ c κs. search needs) (λ c. search needs) (λ c. search needs)
+    (λ c. search needs) (λ c κs. search needs) (λ c κs. search needs) (λ c κs. search needs) (λ c κs. search needs) (λ c. search needs)
+    (λ c κs. search needs) (λ c. search needs) returns)

@@ -1,7 +1,6 @@
 -- `check_row`: 20 ends the list, or leaves 21.
 use Rattle.rules.proofs.CheckLaws.{stop, skip, last}
 use borrow.Author.Needs.{needs}
-use Rattle.list_test.proofs.check_row.Statement.{statement}
 use Rattle.list_test.proofs.check_row.Tie as tie
 
 returns : tie.Need-returns
@@ -16,7 +15,7 @@ returns-2 c =
     rw (← tests .excessive .ensures, ← tests .before .ace-storable .ensures)
     (skip _ _ _ (first .before .before .refuse-if .ensures) (first .enum-told .given .1) (last _ _ (c .refuse-if2 .ensures)))
 
-pub check-row-spec : {M : Type 1} → statement M
+pub check-row-spec : {M : Type 1} → Rattle.list_test.proofs.check_row.Statement.statement M
 check-row-spec = tie.close (tie.spec
     (λ c κs. search needs) (λ c κs. search needs) (λ c κs. search needs) (λ c. search needs) (λ c. search needs) returns
     (λ c κs. search needs) returns-2)

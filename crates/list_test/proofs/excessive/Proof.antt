@@ -7,7 +7,6 @@ use Rattle.rules.specs.Permission.{resourceFits}
 use Rattle.rules.specs.Isolation.{alters, rowAlters}
 use Rattle.rules.proofs.PermissionLaws.{security-same, fits-by-set}
 use Rattle.rules_lists.specs.Lists.{excessive}
-use Rattle.list_test.proofs.excessive.Statement.{statement}
 use Rattle.list_test.proofs.excessive.Tie as tie
 
 told : (w : Row) (kind p : ℕ) (s g : Bool) → kind ≡ aceKind w → s ≡ someSecurity (inSet w) → p ≡ acePermission w → g ≡ alters p
@@ -22,7 +21,5 @@ returns c =
     let p = c .before in
     told _ _ _ _ _ (p .before .before .kind .ensures) (p .before .on-security .ensures) (p .permission .ensures) (c .alters .ensures)
 
-pub excessive-spec : {M : Type 1} → statement M
-excessive-spec =
-    tie.close
-    (tie.spec (λ c κs. search needs) (λ c κs. search needs) (λ c κs. search needs) (λ c κs. search needs) returns)
+pub excessive-spec : {M : Type 1} → Rattle.list_test.proofs.excessive.Statement.statement M
+excessive-spec = tie.close (tie.spec (λ c κs. search needs) (λ c κs. search needs) (λ c κs. search needs) (λ c κs. search needs) returns)

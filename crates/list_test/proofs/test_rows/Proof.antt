@@ -3,7 +3,6 @@ use Rattle.rows.proofs.Prelude.{_≡_, sym, ap, _∙_, _-_, _*_, arith, take, d
 use Rattle.rows.specs.Rows.{Row}
 use Rattle.rules.specs.Checks.{verdict}
 use Rattle.list_test.proofs.RowLoop.{codeChecks, RowInv, row-start, row-end, row-bad, row-turn}
-use Rattle.list_test.proofs.test_rows.Statement.{statement}
 use Rattle.list_test.proofs.test_rows.Tie as tie
 
 abbrev Inv-loop : tie.InvT-loop
@@ -11,9 +10,6 @@ Inv-loop rows count repeat i₀ i = RowInv rows count repeat i
 
 abbrev μ-loop : tie.MeasureT-loop
 μ-loop rows count repeat i₀ i = count - i
-
-loop-holds : tie.Need-loop-holds Inv-loop μ-loop
-loop-holds c = row-start _ _ _ (c .before-repeat .ensures)
 
 -- what the checks say of row i
 told : (c : tie.After-check-row Inv-loop μ-loop) → let l = c .before .before .before in let s = l .before .before .before in
@@ -34,12 +30,9 @@ loop-again c =
     let turn = check .before .before in
     row-turn _ _ _ _ (turn .before .loop .inv) (turn .loop-test .taken) (sym (told check) ∙ c .enum-told .given .1)
 
-returns-2 : tie.Need-returns-2 Inv-loop μ-loop
-returns-2 c = row-end _ _ _ _ (c .before .loop .inv) (c .loop-test .left)
-
-pub test-rows-spec : {M : Type 1} → statement M
+pub test-rows-spec : {M : Type 1} → Rattle.list_test.proofs.test_rows.Statement.statement M
 test-rows-spec = tie.close (tie.spec
-    Inv-loop μ-loop (λ c κs. (omega arith, c .before .pre))
-    loop-holds (λ c. search needs) (λ c κs. search needs) (λ c κs. search needs) (λ c. search needs) (λ c. search needs)
-    returns (λ c. search needs) (λ c. search needs) (λ c. search needs) loop-again
-    returns-2)
+    Inv-loop μ-loop (λ c κs. (omega arith, c .before .pre)) (λ c. row-start _ _ _ (c .before-repeat .ensures)) (λ c. search needs)
+    (λ c κs. search needs) (λ c κs. search needs) (λ c. search needs) (λ c. search needs) returns (λ c. search needs)
+    (λ c. search needs) (λ c. search needs) loop-again
+    (λ c. row-end _ _ _ _ (c .before .loop .inv) (c .loop-test .left)))

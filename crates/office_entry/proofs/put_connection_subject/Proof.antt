@@ -2,7 +2,6 @@
 use Rattle.rows.proofs.Prelude.{sym, _∙_, needs, eq-eqb, ne-eqb}
 use Rattle.text.specs.Text.{ascii}
 use Rattle.rules_office.specs.Office.{connectionSubject}
-use Rattle.office_entry.proofs.put_connection_subject.Statement.{statement}
 use Rattle.office_entry.proofs.put_connection_subject.Tie as tie
 
 returns : tie.Need-returns
@@ -19,7 +18,7 @@ returns-2 c =
     let test = put .before .before .before in
     rw (ne-eqb _ 1 (λ e. test .if1 .left (test .before .connection .ensures ∙ e))) (put .put2 .ensures)
 
-pub put-connection-subject-spec : {M : Type 1} → statement M
+pub put-connection-subject-spec : {M : Type 1} → Rattle.office_entry.proofs.put_connection_subject.Statement.statement M
 put-connection-subject-spec = tie.close (tie.spec
     (λ c κs. search needs) (λ c. search needs) (λ c κs. search needs) (λ c. search needs) returns
     (λ c. search needs) (λ c κs. search needs) (λ c. search needs) returns-2)

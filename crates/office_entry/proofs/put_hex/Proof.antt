@@ -1,9 +1,7 @@
 -- `put_hex`: the dash and the two digits.
-use native.Mathlib.Omega.{arith}
+use Rattle.rows.proofs.Prelude.{arith, needs}
 use Rattle.text.proofs.Buffers.{puts-then}
 use Rattle.rules_office.specs.Office.{hexByte}
-use borrow.Author.Needs.{needs}
-use Rattle.office_entry.proofs.put_hex.Statement.{statement}
 use Rattle.office_entry.proofs.put_hex.Tie as tie
 
 returns : tie.Need-returns
@@ -15,6 +13,6 @@ returns c =
     rw (← high .before .hex-digit .ensures, ← low .before .hex-digit2 .ensures)
     (puts-then (omega arith) (dash .put-dash .ensures) (puts-then (omega arith) (high .put-byte .ensures) (low .put-byte2 .ensures)))
 
-pub put-hex-spec : {M : Type 1} → statement M
+pub put-hex-spec : {M : Type 1} → Rattle.office_entry.proofs.put_hex.Statement.statement M
 put-hex-spec = tie.close (tie.spec
     (λ c κs. search needs) (λ c κs. search needs) (λ c κs. search needs) (λ c κs. search needs) (λ c κs. search needs) (λ c. search needs) returns)

@@ -4,7 +4,6 @@ use Rattle.text.specs.Buffer.{largest}
 use Rattle.text.specs.Text.{ascii}
 use Rattle.text.proofs.Buffers.{puts-then}
 use Rattle.office_entry.proofs.Parts.{role-puts}
-use Rattle.office_entry.proofs.put_role_subject.Statement.{statement}
 use Rattle.office_entry.proofs.put_role_subject.Tie as tie
 
 bound : (c : tie.After-slice-known) → length (now (c .before .args .out)) ≤ largest
@@ -20,7 +19,7 @@ returns c =
     role-puts _ _ _ (authority .before .authority .ensures) (role .before .role .ensures)
     (puts-then h (puts-then h (authority .put-number .ensures) (role .put-number2 .ensures)) (end .put .ensures))
 
-pub put-role-subject-spec : {M : Type 1} → statement M
+pub put-role-subject-spec : {M : Type 1} → Rattle.office_entry.proofs.put_role_subject.Statement.statement M
 put-role-subject-spec = tie.close (tie.spec
     (λ c. search needs) (λ c κs. search needs) (λ c κs. search needs) (λ c. search needs) (λ c κs. search needs)
     (λ c κs. search needs) (λ c. search needs) (λ c κs. search needs) (λ c. search needs) returns)

@@ -4,7 +4,6 @@ use Rattle.text.specs.Buffer.{largest}
 use Rattle.text.specs.Text.{ascii}
 use Rattle.text.proofs.Buffers.{puts-then}
 use Rattle.office_entry.proofs.Parts.{row-puts}
-use Rattle.office_entry.proofs.put_row.Statement.{statement}
 use Rattle.office_entry.proofs.put_row.Tie as tie
 
 bound : (c : tie.After-slice-known) → length (now (c .before .args .out)) ≤ largest
@@ -25,7 +24,7 @@ returns c =
     (permission .put-number2 .ensures))
     (end .put .ensures))
 
-pub put-row-spec : {M : Type 1} → statement M
+pub put-row-spec : {M : Type 1} → Rattle.office_entry.proofs.put_row.Statement.statement M
 put-row-spec = tie.close (tie.spec
     (λ c. search needs) (λ c κs. search needs) (λ c κs. search needs) (λ c κs. search needs) (λ c κs. search needs) (λ c. search needs)
     (λ c κs. search needs) (λ c κs. search needs) (λ c. search needs) (λ c κs. search needs) (λ c. search needs) returns)

@@ -1,7 +1,6 @@
 -- `put_subject`: the match on the kind is the definition's lookup.
 use Rattle.rows.proofs.Prelude.{sym, _∙_, needs, ne-eqb}
 use Rattle.rules_office.specs.Office.{subjectText}
-use Rattle.office_entry.proofs.put_subject.Statement.{statement}
 use Rattle.office_entry.proofs.put_subject.Tie as tie
 
 returns : tie.Need-returns
@@ -34,10 +33,7 @@ returns-4 c =
     let none = at .match .rest in
     rw (ne-eqb _ 0 (λ e. none .0 .0 .1 (is ∙ e)), ne-eqb _ 1 (λ e. none .0 .1 (is ∙ e)), ne-eqb _ 2 (λ e. none .1 (is ∙ e))) (put .put .ensures)
 
-pub put-subject-spec : {M : Type 1} → statement M
+pub put-subject-spec : {M : Type 1} → Rattle.office_entry.proofs.put_subject.Statement.statement M
 put-subject-spec = tie.close (tie.spec
-    (λ c κs. search needs) (λ c κs. search needs) (λ c κs. search needs) (λ c κs. search needs)
-    (λ c. search needs) (λ c κs. search needs) (λ c. search needs) returns
-    (λ c. search needs) returns-2
-    (λ c. search needs) returns-3
-    (λ c. search needs) returns-4)
+    (λ c κs. search needs) (λ c κs. search needs) (λ c κs. search needs) (λ c κs. search needs) (λ c. search needs) (λ c κs. search needs)
+    (λ c. search needs) returns (λ c. search needs) returns-2 (λ c. search needs) returns-3 (λ c. search needs) returns-4)

@@ -4,7 +4,6 @@ use Rattle.rules.specs.declared.Head.{Head}
 use Rattle.rules.specs.Tables.{tablesOf}
 use Rattle.rules_waiting.specs.Terminal.{terminal, soundTerminal}
 use Rattle.office_list.proofs.Ends.{not-sound, too-short, all-written}
-use Rattle.office_list.proofs.access_list.Statement.{statement}
 use Rattle.office_list.proofs.access_list.Tie as tie
 
 abbrev head-of : tie.After-terminal-sound → tie.After-head
@@ -24,8 +23,7 @@ returns : tie.Need-returns
 returns c =
     let told = c .before in
     let s = start told in
-    let e = not-sound (terminal (s .args .t1) (now (s .args .memory))) (now (s .args .out)) (sym (told-sound told) ∙ not-true _ (c .if1 .taken)) in
-    (e .says, (e .size, e .buffer))
+    not-sound (terminal (s .args .t1) (now (s .args .memory))) (now (s .args .out)) (sym (told-sound told) ∙ not-true _ (c .if1 .taken))
 
 returns-2 : tie.Need-returns-2
 returns-2 c =
@@ -33,9 +31,8 @@ returns-2 c =
     let test = measured .before .before in
     let told = test .before in
     let s = start told in
-    let e = too-short (terminal (s .args .t1) (now (s .args .memory))) (now (s .args .out)) _
-    (sym (told-sound told) ∙ not-false _ (test .if1 .left)) (measured .put-list .ensures .next) (c .if2 .taken) in
-    (e .says, (e .size, e .buffer))
+    too-short (terminal (s .args .t1) (now (s .args .memory))) (now (s .args .out)) _
+    (sym (told-sound told) ∙ not-false _ (test .if1 .left)) (measured .put-list .ensures .next) (c .if2 .taken)
 
 returns-3 : tie.Need-returns-3
 returns-3 c =
@@ -45,12 +42,10 @@ returns-3 c =
     let test = measured .before .before in
     let told = test .before in
     let s = start told in
-    let e = all-written (terminal (s .args .t1) (now (s .args .memory))) (now (s .args .out)) _ _
-    (sym (told-sound told) ∙ not-false _ (test .if1 .left)) (measured .put-list .ensures .next) (fits .if2 .left) (put .put-list2 .ensures) in
-    (e .says, (e .size, e .buffer))
+    all-written (terminal (s .args .t1) (now (s .args .memory))) (now (s .args .out)) _ _
+    (sym (told-sound told) ∙ not-false _ (test .if1 .left)) (measured .put-list .ensures .next) (fits .if2 .left) (put .put-list2 .ensures)
 
-pub access-list-spec : {M : Type 1} → statement M
+pub access-list-spec : {M : Type 1} → Rattle.office_list.proofs.access_list.Statement.statement M
 access-list-spec = tie.close (tie.spec
-    (λ c κs. search needs) (λ c κs. search needs) returns
-    (λ c. search needs) (λ c κs. search needs) returns-2
-    (λ c κs. search needs) (λ c. search needs) returns-3)
+    (λ c κs. search needs) (λ c κs. search needs) returns (λ c. search needs) (λ c κs. search needs) returns-2 (λ c κs. search needs)
+    (λ c. search needs) returns-3)

@@ -3,7 +3,6 @@ use Rattle.rows.proofs.Prelude.{_≤_, arith, length, now, needs}
 use Rattle.text.specs.Text.{ascii}
 use Rattle.text.specs.Buffer.{largest}
 use Rattle.office_list.proofs.Ends.{list-puts}
-use Rattle.office_list.proofs.put_list.Statement.{statement}
 use Rattle.office_list.proofs.put_list.Tie as tie
 
 bound : (c : tie.After-slice-known) → length (now (c .before .args .out)) ≤ largest
@@ -19,7 +18,7 @@ returns c =
     let known = key .before .before .before in
     list-puts (known .before .args .t2) _ (bound known) (count .held .ensures) (key .put .ensures) (rows .put-rows .ensures) (end .put2 .ensures)
 
-pub put-list-spec : {M : Type 1} → statement M
+pub put-list-spec : {M : Type 1} → Rattle.office_list.proofs.put_list.Statement.statement M
 put-list-spec = tie.close (tie.spec
     (λ c. search needs) (λ c κs. search needs) (λ c κs. search needs) (λ c κs. search needs)
     (λ c. search needs) (λ c κs. search needs) (λ c. search needs) returns)

@@ -4,7 +4,6 @@ use Rattle.text.proofs.Buffers.{Writing, writing-start, writing-step, writing-e
 use Rattle.rows.proofs.Laws.{a-row, take-rest}
 use Rattle.rules_office.specs.Office.{rowsText}
 use Rattle.office_list.proofs.Ends.{entries, entries-take, entries-end}
-use Rattle.office_list.proofs.put_rows.Statement.{statement}
 use Rattle.office_list.proofs.put_rows.Tie as tie
 
 abbrev Inv-loop : tie.InvT-loop
@@ -14,18 +13,9 @@ Inv-loop out₀ at rows count p₀ first₀ rest₀ left₀ out p first rest lef
 abbrev μ-loop : tie.MeasureT-loop
 μ-loop out₀ at rows count p₀ first₀ rest₀ left₀ out p first rest left = left
 
-loop-holds : tie.Need-loop-holds Inv-loop μ-loop
-loop-holds c = (c .before .before .pre, writing-start _ _ _ (omega arith) (omega arith))
-
 -- a turn has a row
 row-here : (c : tie.In-loop Inv-loop μ-loop) → 36 ≤ length (c .before .loop .rest .now)
 row-here c = a-row 36 _ (c .before .loop .rest .now) (c .loop-test .taken) (c .before .loop .inv .0)
-
-sub-rest : tie.Need-sub-rest Inv-loop μ-loop
-sub-rest c = row-here (c .before .before .before .before .before .before)
-
-part-rest-start : tie.Need-part-rest-start Inv-loop μ-loop
-part-rest-start c = row-here (c .before .before .before .before .before .before)
 
 loop-again : tie.Need-loop-again Inv-loop μ-loop
 loop-again c =
@@ -40,20 +30,13 @@ loop-again c =
           (writing-step _ _ (l .inv .1) (entries-take (l .first) (l .left) (l .rest .now) (turn .loop-test .taken)) (rw e at (put .put-entry .ensures))),
     )
 
-same-length : tie.Need-same-length Inv-loop μ-loop
-same-length c = writing-length (c .before .loop .inv .1)
-
-returns : tie.Need-returns Inv-loop μ-loop
+pub put-rows-spec : {M : Type 1} → Rattle.office_list.proofs.put_rows.Statement.statement M
 unfolding rowsText
-returns c = writing-end (c .before .loop .inv .1) (entries-end (c .before .loop .first) (c .before .loop .left) _ (c .loop-test .left))
-
-pub put-rows-spec : {M : Type 1} → statement M
 put-rows-spec = tie.close (tie.spec
-    Inv-loop
-    μ-loop
-    loop-holds
-    (λ c κs. search needs) (λ c κs. search needs) (λ c κs. search needs) sub-rest
-    part-rest-start
-    (λ c. search needs) (λ c. search needs) (λ c. search needs) loop-again
-    same-length
-    returns)
+    Inv-loop μ-loop
+    (λ c. (c .before .before .pre, writing-start _ _ _ (omega arith) (omega arith)))
+    (λ c κs. search needs) (λ c κs. search needs) (λ c κs. search needs)
+    (λ c. row-here (c .before .before .before .before .before .before))
+    (λ c. row-here (c .before .before .before .before .before .before))
+    (λ c. search needs) (λ c. search needs) (λ c. search needs) loop-again (λ c. writing-length (c .before .loop .inv .1))
+    (λ c. writing-end (c .before .loop .inv .1) (entries-end (c .before .loop .first) (c .before .loop .left) _ (c .loop-test .left))))

@@ -3,40 +3,7 @@ use Rattle.rows.proofs.Prelude.{refl, drop, needs, ne-eqb}
 use Rattle.text.specs.Text.{ascii}
 use Rattle.rules_office.specs.Office.{names}
 use Rattle.office_resources.proofs.Chosen.{name-puts}
-use Rattle.office_resources.proofs.put_application.Statement.{statement}
 use Rattle.office_resources.proofs.put_application.Tie as tie
-
-returns : tie.Need-returns
-unfolding ascii
-returns c = let put = c .before .before in name-puts (drop 5 names) (put .before .before .before .match .keys1) refl (put .put .ensures)
-
-returns-2 : tie.Need-returns-2
-unfolding ascii
-returns-2 c = let put = c .before .before in name-puts (drop 5 names) (put .before .before .before .match .keys2) refl (put .put2 .ensures)
-
-returns-3 : tie.Need-returns-3
-unfolding ascii
-returns-3 c = let put = c .before .before in name-puts (drop 5 names) (put .before .before .before .match .keys3) refl (put .put3 .ensures)
-
-returns-4 : tie.Need-returns-4
-unfolding ascii
-returns-4 c = let put = c .before .before in name-puts (drop 5 names) (put .before .before .before .match .keys4) refl (put .put4 .ensures)
-
-returns-5 : tie.Need-returns-5
-unfolding ascii
-returns-5 c = let put = c .before .before in name-puts (drop 5 names) (put .before .before .before .match .keys5) refl (put .put5 .ensures)
-
-returns-6 : tie.Need-returns-6
-unfolding ascii
-returns-6 c = let put = c .before .before in name-puts (drop 5 names) (put .before .before .before .match .keys6) refl (put .put6 .ensures)
-
-returns-7 : tie.Need-returns-7
-unfolding ascii
-returns-7 c = let put = c .before .before in name-puts (drop 5 names) (put .before .before .before .match .keys7) refl (put .put7 .ensures)
-
-returns-8 : tie.Need-returns-8
-unfolding ascii
-returns-8 c = let put = c .before .before in name-puts (drop 5 names) (put .before .before .before .match .keys8) refl (put .put8 .ensures)
 
 returns-9 : tie.Need-returns-9
 unfolding ascii
@@ -54,17 +21,26 @@ returns-9 c =
       ne-eqb _ 16 (r .1),
     ) (put .put9 .ensures)
 
-pub put-application-spec : {M : Type 1} → statement M
+pub put-application-spec : {M : Type 1} → Rattle.office_resources.proofs.put_application.Statement.statement M
+unfolding ascii
 put-application-spec = tie.close (tie.spec
-    (λ c. search needs) (λ c κs. search needs) (λ c. search needs) (λ c κs. search needs) (λ c. search needs)
-    (λ c κs. search needs) (λ c. search needs) (λ c κs. search needs) (λ c. search needs) (λ c κs. search needs)
-    (λ c. search needs) (λ c κs. search needs) (λ c. search needs) (λ c κs. search needs) (λ c. search needs)
-    (λ c κs. search needs) (λ c. search needs) (λ c κs. search needs) (λ c. search needs) returns
-    (λ c. search needs) returns-2
-    (λ c. search needs) returns-3
-    (λ c. search needs) returns-4
-    (λ c. search needs) returns-5
-    (λ c. search needs) returns-6
-    (λ c. search needs) returns-7
-    (λ c. search needs) returns-8
+    (λ c. search needs) (λ c κs. search needs) (λ c. search needs) (λ c κs. search needs) (λ c. search needs) (λ c κs. search needs)
+    (λ c. search needs) (λ c κs. search needs) (λ c. search needs) (λ c κs. search needs) (λ c. search needs) (λ c κs. search needs)
+    (λ c. search needs) (λ c κs. search needs) (λ c. search needs) (λ c κs. search needs) (λ c. search needs) (λ c κs. search needs)
+    (λ c. search needs)
+    (λ c. let put = c .before .before in name-puts (drop 5 names) (put .before .before .before .match .keys1) refl (put .put .ensures))
+    (λ c. search needs)
+    (λ c. let put = c .before .before in name-puts (drop 5 names) (put .before .before .before .match .keys2) refl (put .put2 .ensures))
+    (λ c. search needs)
+    (λ c. let put = c .before .before in name-puts (drop 5 names) (put .before .before .before .match .keys3) refl (put .put3 .ensures))
+    (λ c. search needs)
+    (λ c. let put = c .before .before in name-puts (drop 5 names) (put .before .before .before .match .keys4) refl (put .put4 .ensures))
+    (λ c. search needs)
+    (λ c. let put = c .before .before in name-puts (drop 5 names) (put .before .before .before .match .keys5) refl (put .put5 .ensures))
+    (λ c. search needs)
+    (λ c. let put = c .before .before in name-puts (drop 5 names) (put .before .before .before .match .keys6) refl (put .put6 .ensures))
+    (λ c. search needs)
+    (λ c. let put = c .before .before in name-puts (drop 5 names) (put .before .before .before .match .keys7) refl (put .put7 .ensures))
+    (λ c. search needs)
+    (λ c. let put = c .before .before in name-puts (drop 5 names) (put .before .before .before .match .keys8) refl (put .put8 .ensures))
     (λ c. search needs) returns-9)

@@ -5,7 +5,6 @@ use Rattle.text.proofs.Buffers.{puts-then}
 use Rattle.rows.specs.Rows.{joined}
 use Rattle.rules.specs.Lookup.{lookup}
 use Rattle.rules_office.specs.Office.{names, href, braced}
-use Rattle.office_resources.proofs.put_item.Statement.{statement}
 use Rattle.office_resources.proofs.put_item.Tie as tie
 
 returns : tie.Need-returns
@@ -31,8 +30,7 @@ returns-2 c =
     (puts-then (omega arith) (comma .put-comma .ensures)
     (puts-then (omega arith) (start .put2 .ensures) (puts-then (omega arith) (name .put-name .ensures) (end .put3 .ensures))))
 
-pub put-item-spec : {M : Type 1} → statement M
+pub put-item-spec : {M : Type 1} → Rattle.office_resources.proofs.put_item.Statement.statement M
 put-item-spec = tie.close (tie.spec
-    (λ c. search needs) (λ c κs. search needs) (λ c. search needs) returns
-    (λ c κs. search needs) (λ c. search needs) (λ c κs. search needs) (λ c κs. search needs)
-    (λ c. search needs) (λ c κs. search needs) (λ c. search needs) returns-2)
+    (λ c. search needs) (λ c κs. search needs) (λ c. search needs) returns (λ c κs. search needs) (λ c. search needs)
+    (λ c κs. search needs) (λ c κs. search needs) (λ c. search needs) (λ c κs. search needs) (λ c. search needs) returns-2)

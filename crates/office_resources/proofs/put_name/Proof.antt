@@ -3,28 +3,7 @@ use Rattle.rows.proofs.Prelude.{refl, needs, ne-eqb}
 use Rattle.text.specs.Text.{ascii}
 use Rattle.rules_office.specs.Office.{names}
 use Rattle.office_resources.proofs.Chosen.{name-puts}
-use Rattle.office_resources.proofs.put_name.Statement.{statement}
 use Rattle.office_resources.proofs.put_name.Tie as tie
-
-returns : tie.Need-returns
-unfolding ascii
-returns c = let put = c .before .before in name-puts names (put .before .before .before .match .keys1) refl (put .put .ensures)
-
-returns-2 : tie.Need-returns-2
-unfolding ascii
-returns-2 c = let put = c .before .before in name-puts names (put .before .before .before .match .keys2) refl (put .put2 .ensures)
-
-returns-3 : tie.Need-returns-3
-unfolding ascii
-returns-3 c = let put = c .before .before in name-puts names (put .before .before .before .match .keys3) refl (put .put3 .ensures)
-
-returns-4 : tie.Need-returns-4
-unfolding ascii
-returns-4 c = let put = c .before .before in name-puts names (put .before .before .before .match .keys4) refl (put .put4 .ensures)
-
-returns-5 : tie.Need-returns-5
-unfolding ascii
-returns-5 c = let put = c .before .before in name-puts names (put .before .before .before .match .keys5) refl (put .put5 .ensures)
 
 returns-6 : tie.Need-returns-6
 returns-6 c =
@@ -33,12 +12,18 @@ returns-6 c =
     rw (ne-eqb _ 0 (r .0 .0 .0 .0 .1), ne-eqb _ 1 (r .0 .0 .0 .1), ne-eqb _ 2 (r .0 .0 .1), ne-eqb _ 3 (r .0 .1), ne-eqb _ 4 (r .1))
     (put .put-application .ensures)
 
-pub put-name-spec : {M : Type 1} → statement M
+pub put-name-spec : {M : Type 1} → Rattle.office_resources.proofs.put_name.Statement.statement M
+unfolding ascii
 put-name-spec = tie.close (tie.spec
     (λ c. search needs) (λ c κs. search needs) (λ c. search needs) (λ c κs. search needs) (λ c. search needs) (λ c κs. search needs)
-    (λ c. search needs) (λ c κs. search needs) (λ c. search needs) (λ c κs. search needs) (λ c κs. search needs) (λ c. search needs) returns
-    (λ c. search needs) returns-2
-    (λ c. search needs) returns-3
-    (λ c. search needs) returns-4
-    (λ c. search needs) returns-5
+    (λ c. search needs) (λ c κs. search needs) (λ c. search needs) (λ c κs. search needs) (λ c κs. search needs) (λ c. search needs)
+    (λ c. let put = c .before .before in name-puts names (put .before .before .before .match .keys1) refl (put .put .ensures))
+    (λ c. search needs)
+    (λ c. let put = c .before .before in name-puts names (put .before .before .before .match .keys2) refl (put .put2 .ensures))
+    (λ c. search needs)
+    (λ c. let put = c .before .before in name-puts names (put .before .before .before .match .keys3) refl (put .put3 .ensures))
+    (λ c. search needs)
+    (λ c. let put = c .before .before in name-puts names (put .before .before .before .match .keys4) refl (put .put4 .ensures))
+    (λ c. search needs)
+    (λ c. let put = c .before .before in name-puts names (put .before .before .before .match .keys5) refl (put .put5 .ensures))
     (λ c. search needs) returns-6)

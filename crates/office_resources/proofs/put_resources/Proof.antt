@@ -3,7 +3,6 @@ use Rattle.rows.proofs.Prelude.{refl, _∙_, true, _-_, _≤_, _<_, add-one, ar
 use Rattle.text.proofs.Buffers.{Writing, writing-start, writing-step, writing-end, writing-length, puts-length}
 use Rattle.rules_office.specs.Office.{resourcesText}
 use Rattle.office_resources.proofs.Chosen.{count, items, in-number, href-number, items-put, items-last}
-use Rattle.office_resources.proofs.put_resources.Statement.{statement}
 use Rattle.office_resources.proofs.put_resources.Tie as tie
 
 abbrev Inv-loop : tie.InvT-loop
@@ -11,9 +10,6 @@ Inv-loop out₀ at row p₀ first₀ k₀ out p first k = (k ≤ count) × Writi
 
 abbrev μ-loop : tie.MeasureT-loop
 μ-loop out₀ at row p₀ first₀ k₀ out p first k = count - k
-
-loop-holds : tie.Need-loop-holds Inv-loop μ-loop
-loop-holds c = (omega arith, writing-start _ _ _ (omega arith) (omega arith))
 
 loop-again : tie.Need-loop-again Inv-loop μ-loop
 loop-again c =
@@ -39,11 +35,9 @@ returns c =
     let e = items-last (now (l .before .before .before .args .row)) (l .loop .first) (l .loop .k) (omega arith) (omega arith) in
     writing-end (writing-step _ _ (l .loop .inv .1) e (put .put-wildcards .ensures)) refl
 
-pub put-resources-spec : {M : Type 1} → statement M
+pub put-resources-spec : {M : Type 1} → Rattle.office_resources.proofs.put_resources.Statement.statement M
 put-resources-spec = tie.close (tie.spec
-    Inv-loop
-    μ-loop
-    loop-holds
-    (λ c. search needs) (λ c. search needs) (λ c κs. search needs) (λ c κs. search needs) (λ c. omega arith) (λ c. omega arith) loop-again
-    (λ c κs. search needs) same-length
-    returns)
+    Inv-loop μ-loop
+    (λ c. (omega arith, writing-start _ _ _ (omega arith) (omega arith)))
+    (λ c. search needs) (λ c. search needs) (λ c κs. search needs) (λ c κs. search needs) (λ c. omega arith) (λ c. omega arith)
+    loop-again (λ c κs. search needs) same-length returns)

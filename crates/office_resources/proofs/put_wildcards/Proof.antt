@@ -5,7 +5,6 @@ use Rattle.text.proofs.Buffers.{writing-start, writing-end}
 use Rattle.rows.specs.Rows.{joined}
 use Rattle.rules_office.specs.Office.{choices, chosen, braced}
 use Rattle.office_resources.proofs.Chosen.{count, items, items-put}
-use Rattle.office_resources.proofs.put_wildcards.Statement.{statement}
 use Rattle.office_resources.proofs.put_wildcards.Tie as tie
 
 returns : tie.Need-returns
@@ -23,7 +22,7 @@ returns c =
     let w₂ = items-put w _ (count + 1) (omega arith) (star .before .minus .ensures) w₁ (second .put-wildcard2 .ensures) refl in
     writing-end (items-put w _ (count + 2) (omega arith) (star .star .ensures) w₂ (third .put-wildcard3 .ensures) refl) refl
 
-pub put-wildcards-spec : {M : Type 1} → statement M
+pub put-wildcards-spec : {M : Type 1} → Rattle.office_resources.proofs.put_wildcards.Statement.statement M
 put-wildcards-spec = tie.close (tie.spec
     (λ c κs. search needs) (λ c κs. search needs) (λ c κs. search needs) (λ c. search needs) (λ c κs. search needs)
     (λ c. search needs) (λ c κs. search needs) (λ c. search needs) (λ c κs. search needs) (λ c. search needs) returns)

@@ -2,13 +2,10 @@
 use borrow.Author.Needs.{needs}
 use Rattle.rules.specs.Bodies.{nil, isNil}
 use Rattle.rules.specs.Permission.{names}
-use Rattle.permission.proofs.row_names.Statement.{statement}
 use Rattle.permission.proofs.row_names.Tie as tie
 
-returns : tie.Need-returns
+pub row-names-spec : {M : Type 1} → Rattle.permission.proofs.row_names.Statement.statement M
 unfolding names isNil nil
-returns c = rw (c .same-bytes2 .ensures, c .before .subject .ensures, c .before .before .same-bytes .ensures)
-
-pub row-names-spec : {M : Type 1} → statement M
 row-names-spec = tie.close (tie.spec
-    (λ c. search needs) (λ c κs. search needs) (λ c κs. search needs) (λ c κs. search needs) returns)
+    (λ c. search needs) (λ c κs. search needs) (λ c κs. search needs) (λ c κs. search needs)
+    (λ c. rw (c .same-bytes2 .ensures, c .before .subject .ensures, c .before .before .same-bytes .ensures)))

@@ -2,7 +2,6 @@
 use borrow.Author.Needs.{needs}
 use Rattle.rules.specs.Permission.{forRole, roleFits}
 use Rattle.rules.proofs.RolePlaces.{some-in-force}
-use Rattle.permission_row.proofs.role_fits.Statement.{statement}
 use Rattle.permission_row.proofs.role_fits.Tie as tie
 
 returns : tie.Need-returns
@@ -23,7 +22,7 @@ returns c =
       role .before .role .ensures,
     )
 
-pub role-fits-spec : {M : Type 1} → statement M
+pub role-fits-spec : {M : Type 1} → Rattle.permission_row.proofs.role_fits.Statement.statement M
 role-fits-spec = tie.close (tie.spec
     (λ c κs. search needs) (λ c κs. search needs) (λ c κs. search needs) (λ c κs. search needs)
     (λ c κs. search needs) (λ c κs. search needs) (λ c κs. search needs) (λ c κs. search needs) returns)

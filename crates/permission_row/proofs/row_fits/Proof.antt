@@ -1,16 +1,7 @@
 -- `row_fits`: its calls answer what the definition joins; a resource or a period that does not fit settles it, whatever the subject.
 use Rattle.rows.proofs.Prelude.{sym, _∙_, and-false, and-true, needs, not-false, not-true}
 use Rattle.rules.specs.Permission.{rowFits}
-use Rattle.permission_row.proofs.row_fits.Statement.{statement}
 use Rattle.permission_row.proofs.row_fits.Tie as tie
-
-returns : tie.Need-returns
-unfolding rowFits
-returns c = rw (sym (c .before .resource-fits .ensures) ∙ not-true _ (c .if1 .taken), and-false)
-
-returns-2 : tie.Need-returns-2
-unfolding rowFits
-returns-2 c = rw (sym (c .before .in-force .ensures) ∙ not-true _ (c .if2 .taken), and-false)
 
 returns-3 : tie.Need-returns-3
 unfolding rowFits
@@ -25,6 +16,9 @@ returns-3 c =
       and-true,
     )
 
-pub row-fits-spec : {M : Type 1} → statement M
+pub row-fits-spec : {M : Type 1} → Rattle.permission_row.proofs.row_fits.Statement.statement M
+unfolding rowFits
 row-fits-spec = tie.close (tie.spec
-    (λ c κs. search needs) returns (λ c κs. search needs) returns-2 (λ c κs. search needs) returns-3)
+    (λ c κs. search needs) (λ c. rw (sym (c .before .resource-fits .ensures) ∙ not-true _ (c .if1 .taken), and-false))
+    (λ c κs. search needs) (λ c. rw (sym (c .before .in-force .ensures) ∙ not-true _ (c .if2 .taken), and-false))
+    (λ c κs. search needs) returns-3)

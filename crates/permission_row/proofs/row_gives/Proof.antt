@@ -2,19 +2,11 @@
 use Rattle.rows.proofs.Prelude.{sym, _∙_, arith, needs}
 use Rattle.rules.specs.Permission.{gives}
 use Rattle.rules.proofs.BitLaws.{field-below}
-use Rattle.permission_row.proofs.row_gives.Statement.{statement}
 use Rattle.permission_row.proofs.row_gives.Tie as tie
 
-cast-result : tie.Need-cast-result
-cast-result c = omega (arith, field-below _ 18 5 8 _ (omega arith) (c .permission .ensures))
-
-returns : tie.Need-returns
+pub row-gives-spec : {M : Type 1} → Rattle.permission_row.proofs.row_gives.Statement.statement M
 unfolding gives
-returns c = rw (sym (c .before .before .row-fits .ensures) ∙ c .before .if1 .taken) (c .permission .ensures)
-
-returns-2 : tie.Need-returns-2
-unfolding gives
-returns-2 c = rw (sym (c .before .row-fits .ensures) ∙ c .if1 .left)
-
-pub row-gives-spec : {M : Type 1} → statement M
-row-gives-spec = tie.close (tie.spec (λ c κs. search needs) (λ c κs. search needs) cast-result returns returns-2)
+row-gives-spec = tie.close (tie.spec
+    (λ c κs. search needs) (λ c κs. search needs) (λ c. omega (arith, field-below _ 18 5 8 _ (omega arith) (c .permission .ensures)))
+    (λ c. rw (sym (c .before .before .row-fits .ensures) ∙ c .before .if1 .taken) (c .permission .ensures))
+    (λ c. rw (sym (c .before .row-fits .ensures) ∙ c .if1 .left)))

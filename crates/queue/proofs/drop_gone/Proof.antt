@@ -4,7 +4,6 @@ use Rattle.rows.proofs.Laws.{row-within}
 use Rattle.rules_waiting.specs.Round.{seatsIn, gone}
 use Rattle.queue.proofs.Laws.{seat-gone}
 use Rattle.rows_change.proofs.Going.{Going, begin, stay, gone as went, end}
-use Rattle.queue.proofs.drop_gone.Statement.{statement}
 use Rattle.queue.proofs.drop_gone.Tie as tie
 
 abbrev Inv-loop : tie.InvT-loop
@@ -12,10 +11,6 @@ Inv-loop rows creds slots₀ count n₀ i₀ slots n i = Going (gone (seatsIn ro
 
 abbrev μ-loop : tie.MeasureT-loop
 μ-loop rows creds slots₀ count n₀ i₀ slots n i = n - i
-
-mul-a : tie.Need-mul-a Inv-loop μ-loop
-mul-a c =
-    let turn = c in omega (arith, row-within 260 _ _ _ ((turn .before .loop .inv) .table .fits) (turn .loop-test .taken), turn .before .before .before .good)
 
 seat-held-requires : tie.Need-seat-held-requires Inv-loop μ-loop
 seat-held-requires c κs =
@@ -48,13 +43,10 @@ loop-again-2 c =
     (seat-gone _ (turn .before .loop .i) (turn .before .loop .slots) _ (test .before .before .part .ensures) _ (test .before .seat-held .ensures)
     ∙ ap not (test .if1 .left))
 
-returns : tie.Need-returns Inv-loop μ-loop
-returns c = end _ _ _ _ _ _ _ (c .before .loop .inv) (c .loop-test .left)
-
-pub drop-gone-spec : {M : Type 1} → statement M
+pub drop-gone-spec : {M : Type 1} → Rattle.queue.proofs.drop_gone.Statement.statement M
 drop-gone-spec = tie.close (tie.spec
     Inv-loop μ-loop (λ c. begin _ _ _ _ (c .before .pre))
-    mul-a (λ c κs. search needs) seat-held-requires
-    (λ c. search needs) (λ c. search needs) loop-again
-    remove-row-requires (λ c. search needs) (λ c. search needs) loop-again-2
-    (λ c. c .before .loop .inv .long) returns)
+    (λ c. omega (arith, row-within 260 _ _ _ ((c .before .loop .inv) .table .fits) (c .loop-test .taken), c .before .before .before .good))
+    (λ c κs. search needs) seat-held-requires (λ c. search needs) (λ c. search needs) loop-again remove-row-requires (λ c. search needs)
+    (λ c. search needs) loop-again-2 (λ c. c .before .loop .inv .long)
+    (λ c. end _ _ _ _ _ _ _ (c .before .loop .inv) (c .loop-test .left)))

@@ -2,7 +2,6 @@
 use Rattle.rows.proofs.Prelude.{ap, _∙_, arith, length, now, needs}
 use Rattle.rules_waiting.proofs.SlotLaws.{slot-long}
 use Rattle.queue.proofs.Laws.{slots-table, room, rows-few, kept-is}
-use Rattle.queue.proofs.keep.Statement.{statement}
 use Rattle.queue.proofs.keep.Tie as tie
 
 store-requires : tie.Need-store-requires
@@ -30,8 +29,7 @@ returns c =
     kept-is (now (s .args .memory)) (now (s .args .«record»)) _ (s .pre .0) (s .pre .1)
     (call .before .before .before .slot-of .ensures) _ _ (call .store .ensures .0) (call .store .ensures .1)
 
-pub keep-spec : {M : Type 1} → statement M
+pub keep-spec : {M : Type 1} → Rattle.queue.proofs.keep.Statement.statement M
 keep-spec = tie.close (tie.spec
     (λ c. search needs) (λ c. search needs) (λ c κs. search needs) (λ c. search needs) (λ c. search needs) (λ c. search needs)
-    (λ c. search needs) store-requires cast-memory
-    (λ c. search needs) (λ c. search needs) returns)
+    (λ c. search needs) store-requires cast-memory (λ c. search needs) (λ c. search needs) returns)

@@ -3,11 +3,7 @@ use Rattle.rows.proofs.Prelude.{ap, _∙_, List, arith, getD, now, needs}
 use Rattle.rows.specs.Rows.{Row, rowsOf, without, hasKey}
 use Rattle.rules_waiting.specs.Slots.{after, memoryOf}
 use Rattle.queue.proofs.Laws.{slotsOf, slots-table, slots-rows, between-long, changed, few-left, round-bytes}
-use Rattle.queue.proofs.leave.Statement.{statement}
 use Rattle.queue.proofs.leave.Tie as tie
-
-take-out-requires : tie.Need-take-out-requires
-take-out-requires c κs = let s = c .before .before .before .before in slots-table (now (s .args .memory)) (s .pre .0)
 
 put-head-requires : tie.Need-put-head-requires
 put-head-requires c κs =
@@ -27,8 +23,8 @@ returns c =
     (call .take-out .ensures .0) (call .take-out .ensures .1) (round-bytes p (s .pre .1)) (head .put-head .ensures)
     ∙ ap (λ (ws : List Row). memoryOf (after p) (without (hasKey 0 p) ws)) (slots-rows m (s .pre .0))
 
-pub leave-spec : {M : Type 1} → statement M
+pub leave-spec : {M : Type 1} → Rattle.queue.proofs.leave.Statement.statement M
 leave-spec = tie.close (tie.spec
-    (λ c. search needs) (λ c. search needs) (λ c. search needs) (λ c. search needs) (λ c. search needs) take-out-requires
-    (λ c. search needs) (λ c. search needs) put-head-requires
-    (λ c. search needs) returns)
+    (λ c. search needs) (λ c. search needs) (λ c. search needs) (λ c. search needs) (λ c. search needs)
+    (λ c κs. let s = c .before .before .before .before in slots-table (now (s .args .memory)) (s .pre .0))
+    (λ c. search needs) (λ c. search needs) put-head-requires (λ c. search needs) returns)

@@ -4,11 +4,7 @@ use Rattle.rows.specs.Rows.{Row, rowsOf, without}
 use Rattle.rules_waiting.specs.Slots.{anew, roundOf, memoryOf}
 use Rattle.rules_waiting.specs.Round.{seatsIn, gone, heldRound}
 use Rattle.queue.proofs.Laws.{slotsOf, slots-table, slots-rows, between-long, changed, few-left}
-use Rattle.queue.proofs.settle.Statement.{statement}
 use Rattle.queue.proofs.settle.Tie as tie
-
-drop-gone-requires : tie.Need-drop-gone-requires
-drop-gone-requires c κs = let s = c .before .before .before .before .before in slots-table (now (s .args .memory)) (s .pre)
 
 put-head-requires : tie.Need-put-head-requires
 put-head-requires c κs =
@@ -32,7 +28,8 @@ returns c =
     (call .drop-gone .ensures .0) (call .drop-gone .ensures .1) (turn .round-after .ensures) (head .put-head .ensures)
     ∙ ap (λ (ws : List Row). memoryOf k (without (gone after) ws)) (slots-rows m (s .pre))
 
-pub settle-spec : {M : Type 1} → statement M
+pub settle-spec : {M : Type 1} → Rattle.queue.proofs.settle.Statement.statement M
 settle-spec = tie.close (tie.spec
     (λ c κs. search needs) (λ c. search needs) (λ c. search needs) (λ c. search needs) (λ c. search needs) (λ c. search needs)
-    drop-gone-requires put-head-requires (λ c. search needs) returns)
+    (λ c κs. let s = c .before .before .before .before .before in slots-table (now (s .args .memory)) (s .pre))
+    put-head-requires (λ c. search needs) returns)

@@ -1,14 +1,7 @@
 -- `take_out`: in the part that is used; the zeros behind it stay.
 use Rattle.rows.proofs.Prelude.{sym, now, needs}
 use Rattle.queue.proofs.Laws.{used-long, used-rows, used-table, used-packed}
-use Rattle.queue.proofs.take_out.Statement.{statement}
 use Rattle.queue.proofs.take_out.Tie as tie
-
-slice-aggregate-remove : tie.Need-slice-aggregate-remove
-slice-aggregate-remove c = let s = c .before .before .before in sym (used-long 260 (s .args .count) (now (s .args .slots)) (s .pre))
-
-remove-requires : tie.Need-remove-requires
-remove-requires c κs = let s = c .before .before .before in used-table 260 (s .args .count) (now (s .args .slots)) (s .pre)
 
 returns : tie.Need-returns
 returns c =
@@ -19,7 +12,9 @@ returns c =
     let rows = used-rows 260 n b (s .pre) in
     rw (← rows) (call .remove .ensures .0, used-packed 260 n b (s .pre) _ _ (call .remove .ensures .1) (call .remove .kept .0))
 
-pub take-out-spec : {M : Type 1} → statement M
+pub take-out-spec : {M : Type 1} → Rattle.queue.proofs.take_out.Statement.statement M
 take-out-spec = tie.close (tie.spec
-    (λ c. search needs) (λ c. search needs) slice-aggregate-remove
-    remove-requires (λ c. search needs) returns)
+    (λ c. search needs) (λ c. search needs)
+    (λ c. let s = c .before .before .before in sym (used-long 260 (s .args .count) (now (s .args .slots)) (s .pre)))
+    (λ c κs. let s = c .before .before .before in used-table 260 (s .args .count) (now (s .args .slots)) (s .pre))
+    (λ c. search needs) returns)

@@ -6,7 +6,6 @@ use Rattle.rules.specs.Checks.{senderChecks}
 use Rattle.rules.proofs.Answers.{passed, long-enough}
 use Rattle.rules.proofs.CheckLaws.{stop, skip, last, stop-all, skip-all, not-applied}
 use Rattle.queue.proofs.Queues.{sound-queue}
-use Rattle.queue_intake.proofs.check_hand_in.Statement.{statement}
 use Rattle.queue_intake.proofs.check_hand_in.Tie as tie
 
 -- the tables, lent in parts
@@ -15,9 +14,6 @@ tables s = tablesOf (s .args .h) (now (s .args .creds)) (now (s .args .aces))
 
 abbrev start : tie.After-enum-told → tie.Start
 start p = p .before .before .before .before
-
-returns : tie.Need-returns
-returns c = stop _ _ _ _ (c .before .before .check-terminal .ensures) (c .enum-told2 .given .1)
 
 returns-2 : tie.Need-returns-2
 returns-2 c =
@@ -48,8 +44,8 @@ returns-3 c =
     (skip-all (senderChecks (tables s) (now (s .args .«record»))) _
     (q .before .before .check-sender .ensures) (q .enum-told3 .given .1) (last _ _ (c .check-free .ensures)))
 
-pub check-hand-in-spec : {M : Type 1} → statement M
+pub check-hand-in-spec : {M : Type 1} → Rattle.queue_intake.proofs.check_hand_in.Statement.statement M
 check-hand-in-spec = tie.close (tie.spec
-    (λ c κs. search needs) (λ c. search needs) (λ c. search needs) returns
-    (λ c κs. search needs) (λ c. search needs) (λ c. search needs) returns-2
-    check-free-requires returns-3)
+    (λ c κs. search needs) (λ c. search needs) (λ c. search needs)
+    (λ c. stop _ _ _ _ (c .before .before .check-terminal .ensures) (c .enum-told2 .given .1))
+    (λ c κs. search needs) (λ c. search needs) (λ c. search needs) returns-2 check-free-requires returns-3)

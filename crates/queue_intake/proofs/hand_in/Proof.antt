@@ -3,7 +3,6 @@ use Rattle.rows.proofs.Prelude.{refl, sym, _∙_, now, needs}
 use Rattle.rules.specs.declared.Tables.{Tables}
 use Rattle.rules.specs.Tables.{tablesOf}
 use Rattle.queue_intake.proofs.Laws.{can-keep, answered}
-use Rattle.queue_intake.proofs.hand_in.Statement.{statement}
 use Rattle.queue_intake.proofs.hand_in.Tie as tie
 
 abbrev start : tie.After-check-hand-in → tie.Start
@@ -36,7 +35,6 @@ returns-2 c =
     answered (s .args .h) (now (s .args .creds)) (now (s .args .aces)) (now (s .args .memory)) (now (s .args .«record»))
     _ _ (call .check-hand-in .ensures) (told .enum-told .given .1) _ _ (c .refused2 .ensures) (keep .keep .ensures) refl
 
-pub hand-in-spec : {M : Type 1} → statement M
+pub hand-in-spec : {M : Type 1} → Rattle.queue_intake.proofs.hand_in.Statement.statement M
 hand-in-spec = tie.close (tie.spec
-    (λ c κs. search needs) (λ c. search needs) (λ c. search needs) (λ c κs. search needs) returns
-    keep-requires (λ c κs. search needs) returns-2)
+    (λ c κs. search needs) (λ c. search needs) (λ c. search needs) (λ c κs. search needs) returns keep-requires (λ c κs. search needs) returns-2)

@@ -3,7 +3,6 @@ use Rattle.rows.proofs.Prelude.{_≡_, ap, _∙_, List, ℕ, _*_, arith, length
 use Rattle.rules.specs.declared.Tables.{Tables}
 use Rattle.rules.specs.Tables.{tablesOf}
 use Rattle.queue_turn.proofs.DueLaws.{due-small, slot-whole-long, due-record-is}
-use Rattle.queue_turn.proofs.due_record.Statement.{statement}
 use Rattle.queue_turn.proofs.due_record.Tie as tie
 
 -- the tables, lent in parts
@@ -14,29 +13,16 @@ slice-is : (c : tie.After-part)
     → let d = c .before .before in now (c .part .result) ≡ take 260 (drop (d .due-slot .result * 260) (drop 4 (now (d .before .before .args .memory))))
 slice-is c = let d = c .before .before in c .part .ensures ∙ ap (λ (b : List ℕ). take 260 (drop (d .due-slot .result * 260) b)) (c .before .after .ensures)
 
+slice-long : (c : tie.After-part) → length (now (c .part .result)) ≡ 260
+slice-long c =
+    let d = c .before .before in
+    let s = d .before .before in
+    ap length (slice-is c) ∙ slot-whole-long (tables s) (now (s .args .memory)) (s .pre .0) (s .pre .1) _ (d .due-slot .ensures)
+
 mul-part : tie.Need-mul-part
 mul-part c =
     let d = c .before in
     let s = d .before .before in omega (arith, due-small (tables s) (now (s .args .memory)) (s .pre .0) (s .pre .1) _ (d .due-slot .ensures))
-
-record-bytes-requires : tie.Need-record-bytes-requires
-record-bytes-requires c κs =
-    let d = c .before .before in
-    let s = d .before .before in ap length (slice-is c) ∙ slot-whole-long (tables s) (now (s .args .memory)) (s .pre .0) (s .pre .1) _ (d .due-slot .ensures)
-
-shared-slice-read-t13 : tie.Need-shared-slice-read-t13
-shared-slice-read-t13 c =
-    let p = c .before .before .before in
-    let d = p .before .before in
-    let s = d .before .before in
-    omega (arith, ap length (slice-is p), slot-whole-long (tables s) (now (s .args .memory)) (s .pre .0) (s .pre .1) _ (d .due-slot .ensures))
-
-shared-slice-read-t15 : tie.Need-shared-slice-read-t15
-shared-slice-read-t15 c =
-    let p = c .before .before .before .before in
-    let d = p .before .before in
-    let s = d .before .before in
-    omega (arith, ap length (slice-is p), slot-whole-long (tables s) (now (s .args .memory)) (s .pre .0) (s .pre .1) _ (d .due-slot .ensures))
 
 returns : tie.Need-returns
 returns c =
@@ -47,9 +33,8 @@ returns c =
     due-record-is (tables s) (now (s .args .memory)) (s .pre .0) (s .pre .1) _ (d .due-slot .ensures)
     _ _ _ (slice-is p) (call .before .record-bytes .ensures) (call .record-in .ensures)
 
-pub due-record-spec : {M : Type 1} → statement M
+pub due-record-spec : {M : Type 1} → Rattle.queue_turn.proofs.due_record.Statement.statement M
 due-record-spec = tie.close (tie.spec
-    (λ c κs. search needs) (λ c κs. search needs) mul-part
-    (λ c κs. search needs) record-bytes-requires
-    (λ c κs. search needs) shared-slice-read-t13
-    shared-slice-read-t15 returns)
+    (λ c κs. search needs) (λ c κs. search needs) mul-part (λ c κs. search needs) (λ c κs. slice-long c) (λ c κs. search needs)
+    (λ c. omega (arith, slice-long (c .before .before .before)))
+    (λ c. omega (arith, slice-long (c .before .before .before .before))) returns)

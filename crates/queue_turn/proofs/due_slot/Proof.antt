@@ -3,25 +3,18 @@ use Rattle.rows.proofs.Prelude.{_≡_, arith, length, now, needs}
 use native.Mathlib.Nat.{min-le-right}
 use Rattle.rules.specs.declared.Tables.{Tables}
 use Rattle.rules.specs.Tables.{tablesOf}
-use Rattle.queue_turn.proofs.DueLaws.{six, slots-room, due-found, due-none}
-use Rattle.queue_turn.proofs.due_slot.Statement.{statement}
+use Rattle.queue.specs.Queue.{IsQueue}
+use Rattle.queue.proofs.Laws.{slots-table}
+use Rattle.queue.proofs.Queues.{sound-queue}
+use Rattle.queue_turn.proofs.DueLaws.{due-found, due-none}
 use Rattle.queue_turn.proofs.due_slot.Tie as tie
 
 -- the tables, lent in parts
 abbrev tables : tie.Start → Tables
 tables s = tablesOf (s .args .h) (now (s .args .creds)) (now (s .args .aces))
 
-shared-slice-read-count : tie.Need-shared-slice-read-count
-shared-slice-read-count c = let s = c .before .before in omega (arith, six (tables s) (now (s .args .m)) (s .pre .0))
-
-cast-count : tie.Need-cast-count
-cast-count c = search (needs, c .shared-slice-known2 .given 0)
-
-sub-next-slot : tie.Need-sub-next-slot
-sub-next-slot c = let s = c .before .before .before .before in omega (arith, six (tables s) (now (s .args .m)) (s .pre .0))
-
-part-next-slot-start : tie.Need-part-next-slot-start
-part-next-slot-start c = let s = c .before .before .before .before in omega (arith, six (tables s) (now (s .args .m)) (s .pre .0))
+queue : (s : tie.Start) → IsQueue (now (s .args .m))
+queue s = sound-queue (tables s) (now (s .args .m)) (s .pre .0)
 
 next-slot-requires : tie.Need-next-slot-requires
 next-slot-requires c κs =
@@ -29,8 +22,8 @@ next-slot-requires c κs =
     let s = h .before .before .before in
     let l : length (now (s .args .creds)) ≡ 936 = search needs in (
       omega (arith, h .held .ensures, min-le-right (s .args .h .ncreds) 24),
-      omega (arith, six (tables s) (now (s .args .m)) (s .pre .0)),
-      slots-room (tables s) (now (s .args .m)) (s .pre .0),
+      omega (arith, queue s .long),
+      slots-table (now (s .args .m)) (queue s) .fits,
     )
 
 returns : tie.Need-returns
@@ -47,9 +40,8 @@ returns-2 c =
     let s = h .before .before .before in
     due-found (tables s) (now (s .args .m)) (s .pre .0) _ (h .held .ensures) _ (call .next-slot .ensures) _ (c .before .i .given .1)
 
-pub due-slot-spec : {M : Type 1} → statement M
+pub due-slot-spec : {M : Type 1} → Rattle.queue_turn.proofs.due_slot.Statement.statement M
 due-slot-spec = tie.close (tie.spec
-    shared-slice-read-count cast-count (λ c κs. search needs) sub-next-slot
-    part-next-slot-start (λ c. search needs) next-slot-requires
-    (λ c. search needs) (λ c. search needs) returns
-    returns-2)
+    (λ c. omega (arith, queue (c .before .before) .long)) (λ c. search (needs, c .shared-slice-known2 .given 0)) (λ c κs. search needs)
+    (λ c. omega (arith, queue (c .before .before .before .before) .long)) (λ c. omega (arith, queue (c .before .before .before .before) .long))
+    (λ c. search needs) next-slot-requires (λ c. search needs) (λ c. search needs) returns returns-2)

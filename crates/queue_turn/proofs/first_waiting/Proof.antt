@@ -1,7 +1,6 @@
 -- `first_waiting`: by the laws of a loop over the credential rows.
 use Rattle.rows.proofs.Prelude.{refl, sym, arith, length-take-le, needs}
 use Rattle.queue_turn.proofs.TurnLaws.{Inv, row-here, found, again, none}
-use Rattle.queue_turn.proofs.first_waiting.Statement.{statement}
 use Rattle.queue_turn.proofs.first_waiting.Tie as tie
 
 abbrev Inv-loop : tie.InvT-loop
@@ -9,9 +8,6 @@ Inv-loop creds count slots kept rest₀ left₀ rest left = Inv creds slots coun
 
 abbrev μ-loop : tie.MeasureT-loop
 μ-loop creds count slots kept rest₀ left₀ rest left = left
-
-loop-holds : tie.Need-loop-holds Inv-loop μ-loop
-loop-holds c = record { room = c .before .before .pre .0; slot = refl }
 
 slice-aggregate-find : tie.Need-slice-aggregate-find Inv-loop μ-loop
 slice-aggregate-find c =
@@ -32,12 +28,10 @@ loop-again c =
     let turn = call .before .before in
     again _ _ _ _ (turn .before .loop .rest .now) _ (turn .before .loop .inv) (turn .loop-test .taken) _ (call .find .ensures) (told .enum-told .given .1)
 
-returns-2 : tie.Need-returns-2 Inv-loop μ-loop
-returns-2 c = none _ _ _ _ (c .before .loop .rest .now) _ (c .before .loop .inv) (c .loop-test .left)
-
-pub first-waiting-spec : {M : Type 1} → statement M
+pub first-waiting-spec : {M : Type 1} → Rattle.queue_turn.proofs.first_waiting.Statement.statement M
 first-waiting-spec = tie.close (tie.spec
-    Inv-loop μ-loop loop-holds slice-aggregate-find
-    (λ c κs. search needs) (λ c. search needs) returns
-    (λ c. search needs) (λ c. search needs) (λ c. search needs) (λ c. search needs) (λ c. search needs) (λ c. search needs)
-    loop-again returns-2)
+    Inv-loop μ-loop
+    (λ c. record { room = c .before .before .pre .0; slot = refl })
+    slice-aggregate-find (λ c κs. search needs) (λ c. search needs) returns (λ c. search needs) (λ c. search needs) (λ c. search needs)
+    (λ c. search needs) (λ c. search needs) (λ c. search needs) loop-again
+    (λ c. none _ _ _ _ (c .before .loop .rest .now) _ (c .before .loop .inv) (c .loop-test .left)))

@@ -1,11 +1,12 @@
 -- `rows_before`: where the last seat stands.
-use Rattle.rows.proofs.Prelude.{sym, _∙_, arith, needs}
-use Rattle.queue_turn.proofs.TurnLaws.{before-anew, before-zero, before-missing, before-at, place-fits}
-use Rattle.queue_turn.proofs.rows_before.Statement.{statement}
+use Rattle.rows.proofs.Prelude.{_≡_, sym, ap, _∙_, map, arith, take, needs}
+use Rattle.rows.specs.Rows.{rowsOf}
+use Rattle.rules.specs.declared.Table.the-variants.{Creds}
+use Rattle.rules.specs.Tables.{stride}
+use Rattle.rules_waiting.specs.Slots.{roundOf}
+use Rattle.queue_turn.specs.Turns.{before}
+use Rattle.queue_turn.proofs.TurnLaws.{behind, before-anew, before-bound, before-zero, before-else}
 use Rattle.queue_turn.proofs.rows_before.Tie as tie
-
-returns : tie.Need-returns
-returns c = let e = c in let s = e .before .before .before .before in before-anew (s .args .count) (s .args .creds .now) (s .args .m .now) (c .if1 .taken)
 
 returns-2 : tie.Need-returns-2
 returns-2 c =
@@ -13,39 +14,31 @@ returns-2 c =
     let s = e .before .before .before .before in
     before-zero (s .args .count) (s .args .creds .now) (s .args .m .now) (e .if1 .left) (s .pre .1) _ (c .before .all-zero .ensures) (c .if2 .taken)
 
-returns-3 : tie.Need-returns-3
-returns-3 c =
-    let f = c .before .before in
+abbrev start : tie.After-find → tie.Start
+start f = f .before .before .before .before .before .before .before .before
+
+found : (f : tie.After-find) → behind (start f .args .count) (f .find .result)
+    ≡ before (roundOf (start f .args .m .now)) (map (take 2) (rowsOf (stride Creds) (start f .args .count) (start f .args .creds .now)))
+found f =
+    let s = start f in
     let two = f .before in
-    let e = two .before .before .before in
-    let s = e .before .before .before .before in
-    before-missing (s .args .count) (s .args .creds .now) (s .args .m .now) (e .if1 .left) (s .pre .1) _
-    (two .before .all-zero .ensures) (two .if2 .left) (sym (c .enum-told .given .1) ∙ f .find .ensures)
+    ap (behind (s .args .count)) (f .find .ensures)
+    ∙ before-else (s .args .count) (s .args .creds .now) (s .args .m .now) (two .before .before .before .if1 .left) (s .pre .1) _
+    (two .before .all-zero .ensures) (two .if2 .left)
+
+returns-4 : tie.Need-returns-4
+returns-4 c = ap (behind _) (sym (c .before .i .given .1)) ∙ found (c .before .before .before)
 
 add-result : tie.Need-add-result
 add-result c =
-    let f = c .before .before .before in
-    let two = f .before in
-    let e = two .before .before .before in
-    let s = e .before .before .before .before in
-    omega (
-      arith,
-      place-fits (s .args .count) (s .args .creds .now) (s .args .m .now) (e .if1 .left) (s .pre .1) _
-          (two .before .all-zero .ensures) (two .if2 .left) _ (sym (c .before .i .given .1) ∙ f .find .ensures),
-      s .good,
-    )
+    let s = start (c .before .before .before) in
+    omega (arith, returns-4 c, before-bound (s .args .count) (s .args .creds .now) (s .args .m .now) (roundOf (s .args .m .now)), s .good)
 
-returns-4 : tie.Need-returns-4
-returns-4 c =
-    let f = c .before .before .before in
-    let two = f .before in
-    let e = two .before .before .before in
-    let s = e .before .before .before .before in
-    before-at (s .args .count) (s .args .creds .now) (s .args .m .now) (e .if1 .left) (s .pre .1) _
-    (two .before .all-zero .ensures) (two .if2 .left) _ (sym (c .before .i .given .1) ∙ f .find .ensures)
-
-pub rows-before-spec : {M : Type 1} → statement M
+pub rows-before-spec : {M : Type 1} → Rattle.queue_turn.proofs.rows_before.Statement.statement M
 rows-before-spec = tie.close (tie.spec
-    (λ c. search needs) returns (λ c. search needs) (λ c. search needs) (λ c. search needs) (λ c κs. search needs) returns-2
-    (λ c κs. search needs) (λ c. search needs) (λ c. search needs) returns-3
+    (λ c. search needs)
+    (λ c. let s = c .before .before .before .before in before-anew (s .args .count) (s .args .creds .now) (s .args .m .now) (c .if1 .taken))
+    (λ c. search needs) (λ c. search needs) (λ c. search needs) (λ c κs. search needs) returns-2
+    (λ c κs. search needs) (λ c. search needs) (λ c. search needs)
+    (λ c. ap (behind _) (sym (c .enum-told .given .1)) ∙ found (c .before .before))
     add-result returns-4)

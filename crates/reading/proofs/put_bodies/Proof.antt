@@ -3,7 +3,6 @@ use Rattle.rows.proofs.Prelude.{_*_, _≤_, arith, length, length-drop, needs}
 use Rattle.text.proofs.Buffers.{Writing, writing-start, writing-step, writing-end, writing-length}
 use Rattle.rows.proofs.Laws.{a-row, take-rest}
 use Rattle.reading_length.proofs.RowBytes.{bodies, bodies-take, bodies-end}
-use Rattle.reading.proofs.put_bodies.Statement.{statement}
 use Rattle.reading.proofs.put_bodies.Tie as tie
 
 abbrev Inv-loop : tie.InvT-loop
@@ -11,9 +10,6 @@ Inv-loop out₀ at creds count p₀ rest₀ left₀ out p rest left = (left * 39
 
 abbrev μ-loop : tie.MeasureT-loop
 μ-loop out₀ at creds count p₀ rest₀ left₀ out p rest left = left
-
-loop-holds : tie.Need-loop-holds Inv-loop μ-loop
-loop-holds c = (c .before .before .pre, writing-start _ _ _ (omega arith) (omega arith))
 
 -- a turn has a row
 row-here : (c : tie.In-loop Inv-loop μ-loop) → 39 ≤ length (c .before .loop .rest .now)
@@ -29,14 +25,9 @@ loop-again c =
       writing-step _ _ (l .inv .1) (bodies-take (l .left) (l .rest .now) (turn .loop-test .taken)) (rw (row .part .ensures) at (put .put .ensures)),
     )
 
-same-length : tie.Need-same-length Inv-loop μ-loop
-same-length c = writing-length (c .before .loop .inv .1)
-
-returns : tie.Need-returns Inv-loop μ-loop
-returns c = writing-end (c .before .loop .inv .1) (bodies-end (c .before .loop .left) _ (c .loop-test .left))
-
-pub put-bodies-spec : {M : Type 1} → statement M
+pub put-bodies-spec : {M : Type 1} → Rattle.reading.proofs.put_bodies.Statement.statement M
 put-bodies-spec = tie.close (tie.spec
-    Inv-loop μ-loop loop-holds (λ c κs. search needs) (λ c κs. search needs) (λ c. search needs) (λ c. search needs)
-    (λ c. search needs) (λ c. search needs) (λ c. search needs) loop-again
-    same-length returns)
+    Inv-loop μ-loop (λ c. (c .before .before .pre, writing-start _ _ _ (omega arith) (omega arith)))
+    (λ c κs. search needs) (λ c κs. search needs) (λ c. search needs) (λ c. search needs) (λ c. search needs) (λ c. search needs)
+    (λ c. search needs) loop-again (λ c. writing-length (c .before .loop .inv .1))
+    (λ c. writing-end (c .before .loop .inv .1) (bodies-end (c .before .loop .left) _ (c .loop-test .left))))

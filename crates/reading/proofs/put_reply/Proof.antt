@@ -1,11 +1,9 @@
 -- `put_reply`: a list without a length is empty, and one with a length is that of a record that is read.
-use Rattle.rows.proofs.Prelude.{_≡_, refl, sym, _∙_, List, [], _∷_, ℕ, arith, length, now, needs}
+use Rattle.rows.proofs.Prelude.{_≡_, refl, sym, _∙_, List, [], _∷_, ℕ, arith, length, now, needs, cond-cases}
 use Rattle.rules.specs.declared.Tables.{Tables}
 use Rattle.rules.specs.Record.{resource, sender}
 use Rattle.rules.specs.Tables.{tablesOf}
 use Rattle.rules.specs.Reading.{contents, reads, replyOf}
-use Rattle.rules.proofs.Bools.{cond-cases}
-use Rattle.reading.proofs.put_reply.Statement.{statement}
 use Rattle.reading.proofs.put_reply.Tie as tie
 
 empty : (l : List ℕ) → length l ≡ 0 → l ≡ []
@@ -20,12 +18,6 @@ is-read clock t r =
 abbrev reply : tie.Start → List ℕ
 reply s = replyOf (s .args .clock) (tablesOf (s .args .h) (now (s .args .creds)) (now (s .args .aces))) (now (s .args .«record»))
 
-returns : tie.Need-returns
-returns c =
-    let test = c .before .before .before .before .before in
-    let s = test .before .before .before in
-    rw (empty (reply s) (sym (s .pre) ∙ test .if1 .taken)) (c .before .before .put .ensures)
-
 returns-2 : tie.Need-returns-2
 returns-2 c =
     let call = c .before .before in
@@ -33,7 +25,10 @@ returns-2 c =
     let test = number .before .before in
     rw (is-read _ _ _ (λ e. test .if1 .left (test .before .before .before .pre ∙ e)), ← number .resource-of .ensures) (call .put-contents .ensures)
 
-pub put-reply-spec : {M : Type 1} → statement M
+pub put-reply-spec : {M : Type 1} → Rattle.reading.proofs.put_reply.Statement.statement M
 put-reply-spec = tie.close (tie.spec
-    (λ c. search needs) (λ c κs. search needs) (λ c. search needs) returns
+    (λ c. search needs) (λ c κs. search needs) (λ c. search needs)
+    (λ c. let test = c .before .before .before .before .before in
+    let s = test .before .before .before in
+    rw (empty (reply s) (sym (s .pre) ∙ test .if1 .taken)) (c .before .before .put .ensures))
     (λ c κs. search needs) (λ c κs. search needs) (λ c. search needs) returns-2)

@@ -2,7 +2,6 @@
 use Rattle.rows.proofs.Prelude.{_≡_, arith, length, now, needs, ne-eqb}
 use Rattle.reading_length.proofs.RowBytes.{row-part, bodies-held}
 use Rattle.rules.specs.Reading.{rowBytes}
-use Rattle.reading.proofs.put_rows.Statement.{statement}
 use Rattle.reading.proofs.put_rows.Tie as tie
 
 put-bodies-requires : tie.Need-put-bodies-requires
@@ -11,39 +10,22 @@ put-bodies-requires c κs =
     let l : length (now (held .before .before .before .before .args .creds)) ≡ 936 = search needs in
     omega (arith, held .held .ensures)
 
-returns : tie.Need-returns
+pub put-rows-spec : {M : Type 1} → Rattle.reading.proofs.put_rows.Statement.statement M
 unfolding rowBytes
-returns c =
-    let bodies = c .before .before in
-    let held = bodies .before .before .before in
-    rw (held .before .match .keys1, ← bodies-held _ _ _ (held .held .ensures)) (bodies .put-bodies .ensures)
-
-returns-2 : tie.Need-returns-2
-unfolding rowBytes
-returns-2 c =
-    let put = c .before .before in
-    let held = put .before .before .before .before in
-    rw (held .before .match .keys2, ← row-part _ _ _ _ (held .held2 .ensures) (put .before .part .ensures)) (put .put .ensures)
-
-returns-3 : tie.Need-returns-3
-unfolding rowBytes
-returns-3 c =
-    let roles = c .before .before in
-    let row = roles .before in
-    rw (row .before .before .match .keys3, ← row .own-row .ensures .row) (roles .put-roles .ensures)
-
-returns-4 : tie.Need-returns-4
-unfolding rowBytes
-returns-4 c =
-    let none = c .before .before .before .before .before .match .rest in
-    rw (ne-eqb _ 2 (none .0 .0 .1), ne-eqb _ 3 (none .0 .1), ne-eqb _ 4 (none .1)) (c .before .before .put2 .ensures)
-
-pub put-rows-spec : {M : Type 1} → statement M
 put-rows-spec = tie.close (tie.spec
-    (λ c κs. search needs) put-bodies-requires
-    (λ c κs. search needs) (λ c. search needs) (λ c κs. search needs) (λ c κs. search needs)
-    (λ c κs. search needs) (λ c κs. search needs) (λ c. search needs) (λ c κs. search needs)
-    (λ c. search needs) returns
-    (λ c. search needs) returns-2
-    (λ c. search needs) returns-3
-    (λ c. search needs) returns-4)
+    (λ c κs. search needs) put-bodies-requires (λ c κs. search needs) (λ c. search needs) (λ c κs. search needs) (λ c κs. search needs)
+    (λ c κs. search needs) (λ c κs. search needs) (λ c. search needs) (λ c κs. search needs) (λ c. search needs)
+    (λ c. let bodies = c .before .before in
+    let held = bodies .before .before .before in
+    rw (held .before .match .keys1, ← bodies-held _ _ _ (held .held .ensures)) (bodies .put-bodies .ensures))
+    (λ c. search needs)
+    (λ c. let put = c .before .before in
+    let held = put .before .before .before .before in
+    rw (held .before .match .keys2, ← row-part _ _ _ _ (held .held2 .ensures) (put .before .part .ensures)) (put .put .ensures))
+    (λ c. search needs)
+    (λ c. let roles = c .before .before in
+    let row = roles .before in
+    rw (row .before .before .match .keys3, ← row .own-row .ensures .row) (roles .put-roles .ensures))
+    (λ c. search needs)
+    (λ c. let none = c .before .before .before .before .before .match .rest in
+    rw (ne-eqb _ 2 (none .0 .0 .1), ne-eqb _ 3 (none .0 .1), ne-eqb _ 4 (none .1)) (c .before .before .put2 .ensures)))

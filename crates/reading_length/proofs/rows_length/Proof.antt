@@ -2,7 +2,6 @@
 use Rattle.rows.proofs.Prelude.{_≡_, ap, _∙_, _≤_, arith, length, length-take, now, needs, ne-eqb}
 use Rattle.reading_length.proofs.RowBytes.{row-part, bodies-held}
 use Rattle.rules.specs.Reading.{rowBytes}
-use Rattle.reading_length.proofs.rows_length.Statement.{statement}
 use Rattle.reading_length.proofs.rows_length.Tie as tie
 
 returns : tie.Need-returns
@@ -18,26 +17,13 @@ returns c =
 part-short : (c : tie.After-part) → length (now (c .part .result)) ≤ 1152
 part-short c = rw (c .part .ensures, length-take) (omega (arith, c .before .held2 .ensures))
 
-returns-2 : tie.Need-returns-2
+pub rows-length-spec : {M : Type 1} → Rattle.reading_length.proofs.rows_length.Statement.statement M
 unfolding rowBytes
-returns-2 c =
-    let held = c .before in
-    rw (held .before .before .match .keys2) (ap length (row-part _ _ _ _ (held .held2 .ensures) (c .part .ensures)), part-short c)
-
-returns-3 : tie.Need-returns-3
-unfolding rowBytes
-returns-3 c =
-    let match = c .before in
-    let roles = rw (match .before .before .before .pre .row) at (c .roles-length .ensures) in
-    rw (match .match .keys3) (roles .0, omega (arith, roles .1))
-
-returns-4 : tie.Need-returns-4
-unfolding rowBytes
-returns-4 c = rw (ne-eqb _ 2 (c .match .rest .0 .0 .1), ne-eqb _ 3 (c .match .rest .0 .1), ne-eqb _ 4 (c .match .rest .1)) (omega arith, omega arith)
-
-pub rows-length-spec : {M : Type 1} → statement M
 rows-length-spec = tie.close (tie.spec
     (λ c κs. search needs) (λ c κs. search needs) (λ c κs. search needs) (λ c. search needs) (λ c κs. search needs) (λ c κs. search needs) returns
-    returns-2
-    returns-3
-    returns-4)
+    (λ c. let held = c .before in
+    rw (held .before .before .match .keys2) (ap length (row-part _ _ _ _ (held .held2 .ensures) (c .part .ensures)), part-short c))
+    (λ c. let match = c .before in
+    let roles = rw (match .before .before .before .pre .row) at (c .roles-length .ensures) in
+    rw (match .match .keys3) (roles .0, omega (arith, roles .1)))
+    (λ c. rw (ne-eqb _ 2 (c .match .rest .0 .0 .1), ne-eqb _ 3 (c .match .rest .0 .1), ne-eqb _ 4 (c .match .rest .1)) (omega arith, omega arith)))

@@ -12,7 +12,6 @@ use Rattle.terminal.specs.Interface.{exported}
 use Rattle.report.specs.declared.Judged.{Judged}
 use Rattle.report.specs.Run.{lent}
 use Rattle.report.specs.Judged.{judgedAs}
-use Rattle.report.proofs.judge_one.Statement.{statement}
 use Rattle.report.proofs.judge_one.Tie as tie
 
 -- what a line needs of what C gets
@@ -30,5 +29,5 @@ returns c =
     let s = call .before .before .before .before .before .before in
     as-judged (s .args .t) (lent (s .args .clock) (now (s .args .«record»))) _ (call .tillerclover-judge .ensures .gives)
 
-pub judge-one-spec : {M : Type 1} → statement M
+pub judge-one-spec : {M : Type 1} → Rattle.report.proofs.judge_one.Statement.statement M
 judge-one-spec = tie.close (tie.spec (λ c. search needs) (λ c. search needs) (λ c. search needs) (λ c κs. search needs) returns)

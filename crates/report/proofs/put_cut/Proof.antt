@@ -3,12 +3,8 @@
 use borrow.Author.Needs.{needs}
 use Rattle.text.specs.Text.{ascii}
 use Rattle.report.specs.Run.{cut}
-use Rattle.report.proofs.put_cut.Statement.{statement}
 use Rattle.report.proofs.put_cut.Tie as tie
 
-returns : tie.Need-returns
+pub put-cut-spec : {M : Type 1} → Rattle.report.proofs.put_cut.Statement.statement M
 unfolding cut ascii
-returns c = c .before .before .put .ensures
-
-pub put-cut-spec : {M : Type 1} → statement M
-put-cut-spec = tie.close (tie.spec (λ c. search needs) (λ c κs. search needs) (λ c. search needs) returns)
+put-cut-spec = tie.close (tie.spec (λ c. search needs) (λ c κs. search needs) (λ c. search needs) (λ c. c .before .before .put .ensures))

@@ -1,10 +1,8 @@
 -- `put_line` meets its contract.
 -- What its four calls put, one after the other, is the line.
-use native.Mathlib.Omega.{arith}
-use borrow.Author.Needs.{needs}
+use Rattle.rows.proofs.Prelude.{arith, needs}
 use Rattle.text.proofs.Buffers.{puts-then}
 use Rattle.report.proofs.Lines.{line-numbers, line-length}
-use Rattle.report.proofs.put_line.Statement.{statement}
 use Rattle.report.proofs.put_line.Tie as tie
 
 returns : tie.Need-returns
@@ -17,6 +15,6 @@ returns c =
       line-length _ _ _ _ (omega arith) (omega arith) (omega arith),
     )
 
-pub put-line-spec : {M : Type 1} → statement M
+pub put-line-spec : {M : Type 1} → Rattle.report.proofs.put_line.Statement.statement M
 put-line-spec = tie.close (tie.spec
     (λ c κs. search needs) (λ c κs. search needs) (λ c κs. search needs) (λ c κs. search needs) (λ c. search needs) returns)

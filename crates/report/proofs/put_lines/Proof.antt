@@ -7,7 +7,6 @@ use Rattle.text.specs.Buffer.{largest}
 use Rattle.text.proofs.Buffers.{puts-length, writing-length}
 use Rattle.report.specs.Run.{lengthOf}
 use Rattle.report.proofs.Lines.{Running, run-start, run-turn, run-cut, run-end}
-use Rattle.report.proofs.put_lines.Statement.{statement}
 use Rattle.report.proofs.put_lines.Tie as tie
 
 abbrev Inv-loop : tie.InvT-loop
@@ -15,9 +14,6 @@ Inv-loop out₀ at input p₀ t₀ rest₀ place₀ out p t rest place = Running
 
 abbrev μ-loop : tie.MeasureT-loop
 μ-loop out₀ at input p₀ t₀ rest₀ place₀ out p t rest place = length rest
-
-loop-holds : tie.Need-loop-holds Inv-loop μ-loop
-loop-holds c = run-start _ _ (omega arith) (omega arith) (c .start-tables .ensures)
 
 -- the length that the rest has behind its clock
 long : (c : tie.After-word Inv-loop μ-loop) → c .word .result ≡ lengthOf (c .before .before .before .loop .rest .now)
@@ -63,21 +59,11 @@ loop-again c =
     run-turn (l .inv) (turn .loop-test .taken) (rw e at (test .if1 .left)) judged
     (rw e (take-rest (6 + lengthOf (l .rest .now)) (l .rest .now))) (line .0) (line .1)
 
-same-length-2 : tie.Need-same-length-2 Inv-loop μ-loop
-same-length-2 c = writing-length (c .before .loop .inv .writing)
-
-returns-2 : tie.Need-returns-2 Inv-loop μ-loop
-returns-2 c = run-end (c .before .loop .inv) (c .loop-test .left)
-
-pub put-lines-spec : {M : Type 1} → statement M
+pub put-lines-spec : {M : Type 1} → Rattle.report.proofs.put_lines.Statement.statement M
 put-lines-spec = tie.close (tie.spec
-    Inv-loop
-    μ-loop
-    (λ c κs. search needs) loop-holds
+    Inv-loop μ-loop (λ c κs. search needs)
+    (λ c. run-start _ _ (omega arith) (omega arith) (c .start-tables .ensures))
     (λ c κs. search needs) (λ c κs. search needs) (λ c. search needs) (λ c. omega (arith, small c)) (λ c κs. search needs) same-length
-    returns
-    (λ c κs. search needs) (λ c. search needs) (λ c. search needs) (λ c. search needs) (λ c κs. search needs) (λ c κs. search needs)
-    (λ c. search needs) (λ c. search needs) (λ c. search needs) add-place
-    (λ c. search needs) loop-again
-    same-length-2
-    returns-2)
+    returns (λ c κs. search needs) (λ c. search needs) (λ c. search needs) (λ c. search needs) (λ c κs. search needs)
+    (λ c κs. search needs) (λ c. search needs) (λ c. search needs) (λ c. search needs) add-place (λ c. search needs) loop-again
+    (λ c. writing-length (c .before .loop .inv .writing)) (λ c. run-end (c .before .loop .inv) (c .loop-test .left)))

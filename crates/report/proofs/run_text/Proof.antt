@@ -5,7 +5,6 @@ use Rattle.text.specs.Text.{ascii}
 use Rattle.text.specs.Buffer.{Puts}
 use Rattle.report.specs.Run.{header}
 use Rattle.report.proofs.Lines.{run-whole}
-use Rattle.report.proofs.run_text.Statement.{statement}
 use Rattle.report.proofs.run_text.Tie as tie
 
 -- the byte string is the header
@@ -20,6 +19,6 @@ returns c =
     let whole = run-whole _ (omega arith) first (c .before .before .before .before .put-lines .ensures) (counted .0) in
     (whole .0, (whole .1, (whole .2, counted .1)))
 
-pub run-text-spec : {M : Type 1} → statement M
+pub run-text-spec : {M : Type 1} → Rattle.report.proofs.run_text.Statement.statement M
 run-text-spec = tie.close (tie.spec
     (λ c. search needs) (λ c κs. search needs) (λ c κs. search needs) (λ c κs. search needs) (λ c. search needs) returns)

@@ -1,7 +1,6 @@
 -- `asserted_row`: the body, the roles, and zeros behind them.
 use Rattle.roles.proofs.PlaceBytes.{row-is}
 use borrow.Author.Needs.{needs}
-use Rattle.roles.proofs.asserted_row.Statement.{statement}
 use Rattle.roles.proofs.asserted_row.Tie as tie
 
 returns : tie.Need-returns
@@ -12,6 +11,6 @@ returns c =
     row-is _ _ _ (start .pre .0) (start .pre .1) (start .pre .2) (start .pre .3) _ _ _
     _ _ (body .before .body .ensures) (body .put .ensures) (roles .put-with .ensures)
 
-pub asserted-row-spec : {M : Type 1} → statement M
+pub asserted-row-spec : {M : Type 1} → Rattle.roles.proofs.asserted_row.Statement.statement M
 asserted-row-spec = tie.close (tie.spec
     (λ c. search needs) (λ c κs. search needs) (λ c κs. search needs) (λ c. search needs) (λ c κs. search needs) returns)

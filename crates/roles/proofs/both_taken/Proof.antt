@@ -1,14 +1,10 @@
 -- `both_taken`: place by place.
 use Rattle.rules.proofs.RolePlaces.{both-taken}
 use borrow.Author.Needs.{needs}
-use Rattle.roles.proofs.both_taken.Statement.{statement}
 use Rattle.roles.proofs.both_taken.Tie as tie
 
-returns : tie.Need-returns
-returns c =
-    let first = c .before .before in
-    rw (both-taken, c .holds-other2 .ensures, c .before .second-role .ensures, first .holds-other .ensures, first .before .first-role .ensures)
-
-pub both-taken-spec : {M : Type 1} → statement M
+pub both-taken-spec : {M : Type 1} → Rattle.roles.proofs.both_taken.Statement.statement M
 both-taken-spec = tie.close (tie.spec
-    (λ c κs. search needs) (λ c κs. search needs) (λ c κs. search needs) (λ c κs. search needs) returns)
+    (λ c κs. search needs) (λ c κs. search needs) (λ c κs. search needs) (λ c κs. search needs)
+    (λ c. let first = c .before .before in
+    rw (both-taken, c .holds-other2 .ensures, c .before .second-role .ensures, first .holds-other .ensures, first .before .first-role .ensures)))

@@ -2,7 +2,6 @@
 use Rattle.rows.proofs.Prelude.{sym, _∙_, arith, needs}
 use Rattle.text.proofs.Buffers.{puts-then}
 use Rattle.roles.proofs.PlaceBytes.{last-other, last-new}
-use Rattle.roles.proofs.put_last.Statement.{statement}
 use Rattle.roles.proofs.put_last.Tie as tie
 
 returns : tie.Need-returns
@@ -12,12 +11,8 @@ returns c =
     let test = first .before .before in
     rw (last-other _ _ _ (sym (test .before .holds-other .ensures) ∙ test .if1 .taken)) (puts-then (omega arith) (first .put .ensures) (second .put2 .ensures))
 
-returns-2 : tie.Need-returns-2
-returns-2 c =
-    let test = c .before .before .before .before in
-    rw (last-new _ _ _ (sym (test .before .holds-other .ensures) ∙ test .if1 .left)) (c .before .before .put3 .ensures)
-
-pub put-last-spec : {M : Type 1} → statement M
+pub put-last-spec : {M : Type 1} → Rattle.roles.proofs.put_last.Statement.statement M
 put-last-spec = tie.close (tie.spec
-    (λ c κs. search needs) (λ c κs. search needs) (λ c κs. search needs) (λ c. search needs) returns
-    (λ c κs. search needs) (λ c. search needs) returns-2)
+    (λ c κs. search needs) (λ c κs. search needs) (λ c κs. search needs) (λ c. search needs) returns (λ c κs. search needs) (λ c. search needs)
+    (λ c. let test = c .before .before .before .before in
+    rw (last-new _ _ _ (sym (test .before .holds-other .ensures) ∙ test .if1 .left)) (c .before .before .put3 .ensures)))

@@ -1,20 +1,13 @@
 -- `put_place`: the role, or nothing.
 use Rattle.rows.proofs.Prelude.{sym, _∙_, needs, not-false, not-true}
 use Rattle.roles.proofs.PlaceBytes.{one-in-force, one-free}
-use Rattle.roles.proofs.put_place.Statement.{statement}
 use Rattle.roles.proofs.put_place.Tie as tie
 
-returns : tie.Need-returns
-returns c =
-    let test = c .before .before .before .before in
-    rw (one-in-force _ _ (not-true _ (sym (test .before .in-force .ensures) ∙ test .if1 .taken))) (c .before .before .put .ensures)
-
-returns-2 : tie.Need-returns-2
-returns-2 c =
-    let test = c .before .before .before .before .before in
-    rw (one-free _ _ (not-false _ (sym (test .before .in-force .ensures) ∙ test .if1 .left))) (c .before .before .put2 .ensures)
-
-pub put-place-spec : {M : Type 1} → statement M
+pub put-place-spec : {M : Type 1} → Rattle.roles.proofs.put_place.Statement.statement M
 put-place-spec = tie.close (tie.spec
-    (λ c κs. search needs) (λ c κs. search needs) (λ c. search needs) returns
-    (λ c. search needs) (λ c κs. search needs) (λ c. search needs) returns-2)
+    (λ c κs. search needs) (λ c κs. search needs) (λ c. search needs)
+    (λ c. let test = c .before .before .before .before in
+    rw (one-in-force _ _ (not-true _ (sym (test .before .in-force .ensures) ∙ test .if1 .taken))) (c .before .before .put .ensures))
+    (λ c. search needs) (λ c κs. search needs) (λ c. search needs)
+    (λ c. let test = c .before .before .before .before .before in
+    rw (one-free _ _ (not-false _ (sym (test .before .in-force .ensures) ∙ test .if1 .left))) (c .before .before .put2 .ensures)))

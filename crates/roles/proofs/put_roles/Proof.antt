@@ -1,9 +1,7 @@
 -- `put_roles`: one place after the other.
-use native.Mathlib.Omega.{arith}
+use Rattle.rows.proofs.Prelude.{arith, needs}
 use Rattle.text.proofs.Buffers.{puts-then}
 use Rattle.roles.proofs.PlaceBytes.{joined-both}
-use borrow.Author.Needs.{needs}
-use Rattle.roles.proofs.put_roles.Statement.{statement}
 use Rattle.roles.proofs.put_roles.Tie as tie
 
 returns : tie.Need-returns
@@ -14,6 +12,6 @@ returns c =
     rw (joined-both _ _ _ _ (first .before .first-role .ensures) (second .second-role .ensures))
     (puts-then (omega arith) (first .put-place .ensures) (last .put-place2 .ensures))
 
-pub put-roles-spec : {M : Type 1} → statement M
+pub put-roles-spec : {M : Type 1} → Rattle.roles.proofs.put_roles.Statement.statement M
 put-roles-spec = tie.close (tie.spec
     (λ c κs. search needs) (λ c κs. search needs) (λ c κs. search needs) (λ c κs. search needs) (λ c. search needs) returns)

@@ -3,7 +3,6 @@ use Rattle.rows.proofs.Prelude.{sym, _∙_, _≤_, arith, length, now, needs, n
 use Rattle.text.specs.Buffer.{largest}
 use Rattle.text.proofs.Buffers.{puts-then}
 use Rattle.roles.proofs.PlaceBytes.{with-free, with-same, with-other}
-use Rattle.roles.proofs.put_with.Statement.{statement}
 use Rattle.roles.proofs.put_with.Tie as tie
 
 bound : (c : tie.After-slice-known) → length (now (c .before .args .out)) ≤ largest
@@ -41,7 +40,7 @@ returns-3 c =
     (sym (same .before .same-role .ensures) ∙ same .if2 .left))
     (puts-then (bound (second .before .before .before .before)) (put .put2 .ensures) (last .put-last2 .ensures))
 
-pub put-with-spec : {M : Type 1} → statement M
+pub put-with-spec : {M : Type 1} → Rattle.roles.proofs.put_with.Statement.statement M
 put-with-spec = tie.close (tie.spec
     (λ c κs. search needs) (λ c κs. search needs) (λ c κs. search needs) (λ c κs. search needs) (λ c. search needs) returns
     (λ c κs. search needs) (λ c κs. search needs) (λ c κs. search needs) (λ c. search needs) returns-2

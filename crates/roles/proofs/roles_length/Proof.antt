@@ -1,7 +1,6 @@
 -- `roles_length`: the two places together.
 use Rattle.rows.proofs.Prelude.{_≤_, arith, length, length-append, length-take, now, needs}
 use Rattle.roles.proofs.PlaceBytes.{joined-both}
-use Rattle.roles.proofs.roles_length.Statement.{statement}
 use Rattle.roles.proofs.roles_length.Tie as tie
 
 -- a place has 8 bytes at most
@@ -24,13 +23,9 @@ returns c =
       omega (arith, first-short first, second-short second, c .place-length2 .ensures .1, second .before .place-length .ensures .1),
     )
 
-pub roles-length-spec : {M : Type 1} → statement M
+pub roles-length-spec : {M : Type 1} → Rattle.roles.proofs.roles_length.Statement.statement M
 roles-length-spec = tie.close (tie.spec
     (λ c κs. search needs) (λ c κs. search needs) (λ c κs. search needs) (λ c κs. search needs)
-    (λ c. omega (
-      arith,
-      first-short (c .before .before .before),
-      second-short (c .before),
-      c .place-length2 .ensures .1,
-      c .before .before .place-length .ensures .1,
-    )) returns)
+    (λ c. let second = c .before in
+    omega (arith, first-short (second .before .before), second-short second, c .place-length2 .ensures .1, second .before .place-length .ensures .1))
+    returns)

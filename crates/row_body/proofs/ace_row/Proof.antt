@@ -1,10 +1,9 @@
 -- `ace_row`: each arm by the length that it was reached by.
-use Rattle.rows.proofs.Prelude.{_≡_, refl, sym, ap, _∙_, List, [], _∷_, _++_, append-assoc, ℕ, length, take, drop, replicate, length-append, drop-at}
-use Rattle.rows.proofs.Prelude.{take-at, now, needs, ne-eqb}
+use Rattle.rows.proofs.Prelude.{_≡_, refl, sym, _∙_, List, [], _∷_, _++_, append-assoc, ℕ, length, replicate, length-append, drop-at, take-at, now, needs}
+use Rattle.rows.proofs.Prelude.{ne-eqb}
 use Rattle.rows.specs.Rows.{withRow}
 use Rattle.rules.specs.Bodies.{everySecond, aceRowOf}
 use Rattle.rules.proofs.TableLaws.{put-whole}
-use Rattle.row_body.proofs.ace_row.Statement.{statement}
 use Rattle.row_body.proofs.ace_row.Tie as tie
 
 -- the body over zeros, and the latest second over the last four
@@ -14,19 +13,8 @@ opened b x y l e f =
     let front = b ++ (0 ∷ 0 ∷ 0 ∷ 0 ∷ []) in
     let long : length front ≡ 32 = rw (length-append, l) in
     let is : x ≡ front ++ (0 ∷ 0 ∷ 0 ∷ 0 ∷ []) = e ∙ sym (append-assoc b (0 ∷ 0 ∷ 0 ∷ 0 ∷ []) (0 ∷ 0 ∷ 0 ∷ 0 ∷ [])) in
-    let over : take 32 (front ++ (0 ∷ 0 ∷ 0 ∷ 0 ∷ [])) ++ (replicate 4 255 ++ drop 4 (drop 32 (front ++ (0 ∷ 0 ∷ 0 ∷ 0 ∷ []))))
-    ≡ front ++ (255 ∷ 255 ∷ 255 ∷ 255 ∷ []) =
-    rw (take-at front (0 ∷ 0 ∷ 0 ∷ 0 ∷ []) 32 long, drop-at front (0 ∷ 0 ∷ 0 ∷ 0 ∷ []) 32 long) in
-    f ∙ ap (λ (r : List ℕ). take 32 r ++ (replicate 4 255 ++ drop 4 (drop 32 r))) is
-    ∙ over
-    ∙ append-assoc b (0 ∷ 0 ∷ 0 ∷ 0 ∷ []) (255 ∷ 255 ∷ 255 ∷ 255 ∷ [])
-
-returns : tie.Need-returns
-unfolding aceRowOf
-returns c =
-    let call = c .before in
-    let at = call .before .before in
-    simp (at .match .keys1) (put-whole 36 (now (at .before .before .args .b)) (replicate 36 0) (call .put-row .last .0) refl (call .put-row .ensures))
+    rw (f, is, take-at front (0 ∷ 0 ∷ 0 ∷ 0 ∷ []) 32 long, drop-at front (0 ∷ 0 ∷ 0 ∷ 0 ∷ []) 32 long)
+    (append-assoc b (0 ∷ 0 ∷ 0 ∷ 0 ∷ []) (255 ∷ 255 ∷ 255 ∷ 255 ∷ []))
 
 returns-2 : tie.Need-returns-2
 unfolding aceRowOf
@@ -37,11 +25,10 @@ returns-2 c =
     simp (at .match .keys2) (opened (now (at .before .before .args .b)) (body .put-row2 .last .0) (call .put-row3 .last .0)
     (at .match .keys2) (body .put-row2 .ensures) (call .put-row3 .ensures))
 
-returns-3 : tie.Need-returns-3
+pub ace-row-spec : {M : Type 1} → Rattle.row_body.proofs.ace_row.Statement.statement M
 unfolding aceRowOf
-returns-3 c = simp (ne-eqb _ 36 (c .match .rest .0 .1), ne-eqb _ 28 (c .match .rest .1))
-
-pub ace-row-spec : {M : Type 1} → statement M
 ace-row-spec = tie.close (tie.spec
     (λ c. search needs) (λ c κs. search needs) (λ c. search needs) (λ c κs. search needs) (λ c. search needs) (λ c. search needs)
-    (λ c κs. search needs) returns returns-2 returns-3)
+    (λ c κs. search needs)
+    (λ c. simp (c .before .before .before .match .keys1) (put-whole 36 _ (replicate 36 0) _ refl (c .before .put-row .ensures))) returns-2
+    (λ c. simp (ne-eqb _ 36 (c .match .rest .0 .1), ne-eqb _ 28 (c .match .rest .1))))

@@ -5,7 +5,6 @@ use lib.Seq.{set-at}
 use Rattle.rows.specs.Rows.{withRow}
 use Rattle.rules.specs.Bodies.{credRowOf}
 use Rattle.rules.specs.Roles.{unasserted}
-use Rattle.row_body.proofs.cred_row.Statement.{statement}
 use Rattle.row_body.proofs.cred_row.Tie as tie
 
 -- twenty bytes over zeros, and the last byte two places later
@@ -24,19 +23,6 @@ opened b p x l is e =
     ∙ sym (append-assoc (take 20 b) (0 ∷ 0 ∷ getD b 20 0 ∷ []) none)
     ∙ ap (λ (r : List ℕ). unasserted (take 20 b ++ (0 ∷ 0 ∷ r))) (sym last)
 
-put-row-requires-2 : tie.Need-put-row-requires-2
-put-row-requires-2 c κs =
-    let at = c .before .before in
-    let b = now (at .before .before .args .b) in
-    (ap length (c .part .ensures) ∙ length-take-le 20 b (omega (arith, at .match .keys2)), omega arith)
-
-returns : tie.Need-returns
-unfolding credRowOf withRow
-returns c =
-    let call = c .before in
-    let at = call .before .before in
-    simp (at .match .keys1) (call .put-row .ensures)
-
 returns-2 : tie.Need-returns-2
 unfolding credRowOf
 returns-2 c =
@@ -45,12 +31,12 @@ returns-2 c =
     simp (at .match .keys2) (opened (now (at .before .before .args .b)) _ (call .put-row2 .last .0)
     (at .match .keys2) (call .before .part .ensures) (call .put-row2 .ensures))
 
-returns-3 : tie.Need-returns-3
-unfolding credRowOf
-returns-3 c = simp (ne-eqb _ 23 (c .match .rest .0 .1), ne-eqb _ 21 (c .match .rest .1))
-
-pub cred-row-spec : {M : Type 1} → statement M
+pub cred-row-spec : {M : Type 1} → Rattle.row_body.proofs.cred_row.Statement.statement M
+unfolding credRowOf withRow
 cred-row-spec = tie.close (tie.spec
-    (λ c. search needs) (λ c κs. search needs) (λ c. search needs) (λ c κs. search needs) put-row-requires-2
-    (λ c. search needs) (λ c. search needs) returns
-    returns-2 returns-3)
+    (λ c. search needs) (λ c κs. search needs) (λ c. search needs) (λ c κs. search needs)
+    (λ c κs. let at = c .before .before in
+    let b = now (at .before .before .args .b) in
+    (ap length (c .part .ensures) ∙ length-take-le 20 b (omega (arith, at .match .keys2)), omega arith))
+    (λ c. search needs) (λ c. search needs) (λ c. simp (c .before .before .before .match .keys1) (c .before .put-row .ensures))
+    returns-2 (λ c. simp (ne-eqb _ 23 (c .match .rest .0 .1), ne-eqb _ 21 (c .match .rest .1))))

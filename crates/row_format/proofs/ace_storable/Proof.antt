@@ -1,16 +1,7 @@
 -- `ace_storable`: the length, the set, then test by test.
-use Rattle.rows.proofs.Prelude.{sym, _∙_, and-false, and-true, length, needs, eq-eqb, ne-eqb, not-false, not-true}
+use Rattle.rows.proofs.Prelude.{sym, _∙_, and-false, and-true, needs, eq-eqb, ne-eqb, not-false, not-true}
 use Rattle.rules.specs.Bodies.{aceStorable}
-use Rattle.row_format.proofs.ace_storable.Statement.{statement}
 use Rattle.row_format.proofs.ace_storable.Tie as tie
-
-returns : tie.Need-returns
-unfolding aceStorable
-returns c = rw (ne-eqb (length (c .before .before .args .row .now)) 36 (c .if1 .taken))
-
-returns-2 : tie.Need-returns-2
-unfolding aceStorable
-returns-2 c = rw (sym (c .before .set-known .ensures) ∙ not-true _ (c .if2 .taken), and-false)
 
 returns-3 : tie.Need-returns-3
 unfolding aceStorable
@@ -18,9 +9,8 @@ returns-3 c =
     let last = c .before in
     let zeros = last .before .before in
     let set = zeros .before .before in
-    let test = set .before .before in
     rw (
-      eq-eqb (length (test .before .before .args .row .now)) 36 (test .if1 .left),
+      eq-eqb _ 36 (set .before .before .if1 .left),
       sym (set .before .set-known .ensures) ∙ not-false _ (set .if2 .left),
       and-true,
       c .subject-storable .ensures,
@@ -30,8 +20,9 @@ returns-3 c =
       zeros .before .word .ensures,
     )
 
-pub ace-storable-spec : {M : Type 1} → statement M
+pub ace-storable-spec : {M : Type 1} → Rattle.row_format.proofs.ace_storable.Statement.statement M
+unfolding aceStorable
 ace-storable-spec = tie.close (tie.spec
-    returns
-    (λ c κs. search needs) returns-2
+    (λ c. rw (ne-eqb _ 36 (c .if1 .taken)))
+    (λ c κs. search needs) (λ c. rw (sym (c .before .set-known .ensures) ∙ not-true _ (c .if2 .taken), and-false))
     (λ c κs. search needs) (λ c κs. search needs) (λ c κs. search needs) (λ c κs. search needs) (λ c κs. search needs) returns-3)

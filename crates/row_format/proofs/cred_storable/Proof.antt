@@ -1,21 +1,15 @@
 -- `cred_storable`: the length, then test by test.
 use Rattle.rules.specs.Bodies.{credStorable}
-use Rattle.rows.proofs.Prelude.{length, needs, eq-eqb, ne-eqb}
-use Rattle.row_format.proofs.cred_storable.Statement.{statement}
+use Rattle.rows.proofs.Prelude.{needs, eq-eqb, ne-eqb}
 use Rattle.row_format.proofs.cred_storable.Tie as tie
-
-returns : tie.Need-returns
-unfolding credStorable
-returns c = rw (ne-eqb (length (c .before .before .args .row .now)) 23 (c .if1 .taken))
 
 returns-2 : tie.Need-returns-2
 unfolding credStorable
 returns-2 c =
     let authority = c .before .before in
     let named = authority .before .before in
-    let test = named .before .before .before in
     rw (
-      eq-eqb (length (test .before .before .args .row .now)) 23 (test .if1 .left),
+      eq-eqb _ 23 (named .before .before .before .if1 .left),
       c .zeros .ensures,
       c .before .type-bits .ensures,
       authority .authority .ensures,
@@ -25,8 +19,9 @@ returns-2 c =
       named .before .before .word .ensures,
     )
 
-pub cred-storable-spec : {M : Type 1} → statement M
+pub cred-storable-spec : {M : Type 1} → Rattle.row_format.proofs.cred_storable.Statement.statement M
+unfolding credStorable
 cred-storable-spec = tie.close (tie.spec
-    returns
-    (λ c κs. search needs) (λ c κs. search needs) (λ c κs. search needs) (λ c κs. search needs)
-    (λ c κs. search needs) (λ c κs. search needs) (λ c κs. search needs) returns-2)
+    (λ c. rw (ne-eqb _ 23 (c .if1 .taken)))
+    (λ c κs. search needs) (λ c κs. search needs) (λ c κs. search needs) (λ c κs. search needs) (λ c κs. search needs)
+    (λ c κs. search needs) (λ c κs. search needs) returns-2)

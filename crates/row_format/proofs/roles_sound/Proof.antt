@@ -1,15 +1,7 @@
 -- `roles_sound`: the first place, then the second.
-use mathlib.Core.Path.{sym, ap, _∙_}
-use borrow.Author.Needs.{needs}
+use Rattle.rows.proofs.Prelude.{sym, ap, _∙_, needs}
 use Rattle.rules.specs.Roles.{noRole, rolesSound}
-use Rattle.row_format.proofs.roles_sound.Statement.{statement}
 use Rattle.row_format.proofs.roles_sound.Tie as tie
-
-returns : tie.Need-returns
-unfolding rolesSound
-returns c =
-    let test = c .before .before in
-    rw (ap noRole (sym (test .before .first-role .ensures)) ∙ sym (test .no-role .ensures) ∙ c .before .if1 .taken) (c .all-zero .ensures)
 
 returns-2 : tie.Need-returns-2
 unfolding rolesSound
@@ -36,8 +28,9 @@ returns-3 c =
       first .before .first-role .ensures,
     )
 
-pub roles-sound-spec : {M : Type 1} → statement M
+pub roles-sound-spec : {M : Type 1} → Rattle.row_format.proofs.roles_sound.Statement.statement M
+unfolding rolesSound
 roles-sound-spec = tie.close (tie.spec
-    (λ c κs. search needs) (λ c κs. search needs) (λ c κs. search needs) returns
-    (λ c κs. search needs) (λ c κs. search needs) (λ c. search needs) (λ c κs. search needs) returns-2
-    (λ c κs. search needs) returns-3)
+    (λ c κs. search needs) (λ c κs. search needs) (λ c κs. search needs)
+    (λ c. let test = c .before .before in rw (← test .before .first-role .ensures, ← test .no-role .ensures, c .before .if1 .taken) (c .all-zero .ensures))
+    (λ c κs. search needs) (λ c κs. search needs) (λ c. search needs) (λ c κs. search needs) returns-2 (λ c κs. search needs) returns-3)

@@ -1,12 +1,7 @@
 -- `subject_storable`: each arm by the kind that it was reached by.
 use Rattle.rows.proofs.Prelude.{sym, _∙_, needs, ne-eqb}
 use Rattle.rules.specs.Bodies.{subjectStorable}
-use Rattle.row_format.proofs.subject_storable.Statement.{statement}
 use Rattle.row_format.proofs.subject_storable.Tie as tie
-
-returns : tie.Need-returns
-unfolding subjectStorable
-returns c = let at = c .before in rw (sym (at .before .kind .ensures) ∙ at .match .keys1, c .is-nil .ensures, at .before .before .subject .ensures)
 
 returns-2 : tie.Need-returns-2
 unfolding subjectStorable
@@ -32,17 +27,11 @@ returns-3 c =
       at .before .before .subject .ensures,
     )
 
-returns-4 : tie.Need-returns-4
+pub subject-storable-spec : {M : Type 1} → Rattle.row_format.proofs.subject_storable.Statement.statement M
 unfolding subjectStorable
-returns-4 c =
-    let is = c .before .kind .ensures in
-    let none = c .match .rest in
-    rw (ne-eqb _ 0 (λ e. none .0 .0 .1 (is ∙ e)), ne-eqb _ 1 (λ e. none .0 .1 (is ∙ e)), ne-eqb _ 2 (λ e. none .1 (is ∙ e)))
-
-pub subject-storable-spec : {M : Type 1} → statement M
 subject-storable-spec = tie.close (tie.spec
     (λ c κs. search needs) (λ c κs. search needs) (λ c κs. search needs) (λ c κs. search needs) (λ c κs. search needs)
-    (λ c κs. search needs) (λ c κs. search needs) (λ c κs. search needs) (λ c κs. search needs) returns
-    returns-2
-    returns-3
-    returns-4)
+    (λ c κs. search needs) (λ c κs. search needs) (λ c κs. search needs) (λ c κs. search needs)
+    (λ c. let at = c .before in rw (sym (at .before .kind .ensures) ∙ at .match .keys1, c .is-nil .ensures, at .before .before .subject .ensures))
+    returns-2 returns-3
+    (λ c. let none = c .match .rest in rw (← c .before .kind .ensures, ne-eqb _ 0 (none .0 .0 .1), ne-eqb _ 1 (none .0 .1), ne-eqb _ 2 (none .1))))

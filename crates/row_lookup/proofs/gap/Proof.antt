@@ -8,7 +8,6 @@ use Rattle.rows.proofs.Laws.{some-place, isAt}
 use Rattle.rows.proofs.Gap.{place-before, before-all}
 use Rattle.rules.specs.Tables.{rows, tablesOf}
 use Rattle.rules.specs.Places.{gapOf}
-use Rattle.row_lookup.proofs.gap.Statement.{statement}
 use Rattle.row_lookup.proofs.gap.Tie as tie
 
 before-is : (goes : Row → Bool) (ws : List Row) (i : ℕ) → placeFrom 0 goes ws ≡ At i → i ≡ rowsBefore goes ws
@@ -29,12 +28,6 @@ found : (c : tie.After-first)
     → let a = start c .args in placeFrom 0 (hasKey (a .at) (now (a .key))) (rows (a .table) (tables (start c))) ≡ At (c .first .given .0 .0)
 found c = sym (c .before .before .place .ensures) ∙ c .first .given .1
 
-returns : tie.Need-returns
-unfolding gapOf
-returns c =
-    let told = c .before in
-    rw (some-place 0 _ _ ∙ ap isAt (sym (told .before .before .place .ensures) ∙ told .enum-told .given .1)) (c .none .ensures)
-
 sub-many : tie.Need-sub-t10
 sub-many c =
     let s = start (c .before .before) in
@@ -45,11 +38,9 @@ sub-many c =
       before-all (hasKey (s .args .at) (now (s .args .key))) (rows (s .args .table) (tables s)),
     )
 
-returns-2 : tie.Need-returns-2
-returns-2 c = gap-is _ _ _ _ (found (c .before .before)) (c .held-of .ensures)
-
-pub gap-spec : {M : Type 1} → statement M
+pub gap-spec : {M : Type 1} → Rattle.row_lookup.proofs.gap.Statement.statement M
+unfolding gapOf
 gap-spec = tie.close (tie.spec
-    (λ c κs. search needs) (λ c. search needs) (λ c. search needs) (λ c κs. search needs) returns
-    (λ c κs. search needs) sub-many
-    returns-2)
+    (λ c κs. search needs) (λ c. search needs) (λ c. search needs) (λ c κs. search needs)
+    (λ c. rw (some-place 0 _ _ ∙ ap isAt (sym (c .before .before .before .place .ensures) ∙ c .before .enum-told .given .1)) (c .none .ensures))
+    (λ c κs. search needs) sub-many (λ c. gap-is _ _ _ _ (found (c .before .before)) (c .held-of .ensures)))

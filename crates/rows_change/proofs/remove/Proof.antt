@@ -5,7 +5,6 @@ use Rattle.rows.proofs.Prelude.{sym, _∙_, _-_, needs}
 use Rattle.rows.specs.Rows.{hasKey}
 use Rattle.rows.proofs.Laws.{row-within}
 use Rattle.rows_change.proofs.Going.{Going, begin, stay, gone, end}
-use Rattle.rows_change.proofs.remove.Statement.{statement}
 use Rattle.rows_change.proofs.remove.Tie as tie
 
 abbrev Inv-loop : tie.InvT-loop
@@ -13,18 +12,6 @@ Inv-loop rows₀ stride count at key n₀ i₀ rows n i = Going (hasKey at key) 
 
 abbrev μ-loop : tie.MeasureT-loop
 μ-loop rows₀ stride count at key n₀ i₀ rows n i = n - i
-
-loop-holds : tie.Need-loop-holds Inv-loop μ-loop
-loop-holds c = begin _ _ _ _ (c .before .before .pre)
-
-row-has-requires : tie.Need-row-has-requires Inv-loop μ-loop
-row-has-requires c κs =
-    row-within _ _ _ _ (c .before .before .loop .inv .table .fits) (c .before .loop-test .taken)
-
-remove-row-requires : tie.Need-remove-row-requires Inv-loop μ-loop
-remove-row-requires c κs =
-    let turn = c .before .before .before .before in
-    row-within _ _ _ _ (turn .before .loop .inv .table .fits) (turn .loop-test .taken)
 
 loop-again : tie.Need-loop-again Inv-loop μ-loop
 loop-again c =
@@ -39,12 +26,10 @@ loop-again-2 c =
     let turn = c .before .before .before in
     stay _ _ _ _ _ _ _ (turn .before .loop .inv) (turn .loop-test .taken) (sym (c .before .row-has .ensures) ∙ c .if1 .left)
 
-returns : tie.Need-returns Inv-loop μ-loop
-returns c = end _ _ _ _ _ _ _ (c .before .loop .inv) (c .loop-test .left)
-
-pub remove-spec : {M : Type 1} → statement M
+pub remove-spec : {M : Type 1} → Rattle.rows_change.proofs.remove.Statement.statement M
 remove-spec = tie.close (tie.spec
-    Inv-loop μ-loop loop-holds row-has-requires
-    remove-row-requires (λ c. search needs) (λ c. search needs) loop-again
-    (λ c. search needs) (λ c. search needs) loop-again-2
-    (λ c. c .before .loop .inv .long) returns)
+    Inv-loop μ-loop (λ c. begin _ _ _ _ (c .before .before .pre))
+    (λ c κs. row-within _ _ _ _ (c .before .before .loop .inv .table .fits) (c .before .loop-test .taken))
+    (λ c κs. let turn = c .before .before .before .before in row-within _ _ _ _ (turn .before .loop .inv .table .fits) (turn .loop-test .taken))
+    (λ c. search needs) (λ c. search needs) loop-again (λ c. search needs) (λ c. search needs) loop-again-2
+    (λ c. c .before .loop .inv .long) (λ c. end _ _ _ _ _ _ _ (c .before .loop .inv) (c .loop-test .left)))

@@ -1,11 +1,10 @@
 -- `store`, by the laws of the place where a row is stored.
-use Rattle.rows.proofs.Prelude.{_≡_, sym, ap, _∙_, Bool, List, _≤_, arith, length, take, length-take-le, now, needs}
+use Rattle.rows.proofs.Prelude.{_≡_, sym, _∙_, List, _≤_, arith, length, length-take-le, now, needs}
 use native.Mathlib.Nat.{le-mul-of-pos-right}
-use Rattle.rows.specs.declared.Found.the-variants.{At, Nothing}
+use Rattle.rows.specs.declared.Found.the-variants.{Nothing}
 use Rattle.rows.specs.Rows.{Row, rowsOf, numberedAs}
 use Rattle.rows.specs.Contracts.{placeFrom}
 use Rattle.rows.proofs.Laws.{numbered-key, place-inside, row-within, stored-at, stored-end, end-inside}
-use Rattle.rows_change.proofs.store.Statement.{statement}
 use Rattle.rows_change.proofs.store.Tie as tie
 
 abbrev start : tie.After-find → tie.Start
@@ -18,28 +17,16 @@ abbrev table : tie.Start → List Row
 table s = rowsOf (s .args .stride) (s .args .count) (now (s .args .rows))
 
 place-is : (c : tie.After-find) → placeFrom 0 (numberedAs (now (start c .args .row))) (table (start c)) ≡ c .find .result
-place-is c = sym (c .find .ensures ∙ ap (λ (p : Row → Bool). placeFrom 0 p (table (start c))) (numbered-key (now (start c .args .row)) (two (start c))))
-
-found : (c : tie.After-place) → let s = start (c .before .before) in placeFrom 0 (numberedAs (now (s .args .row))) (table s) ≡ At (c .place .given .0 .0)
-found c = place-is (c .before .before) ∙ c .place .given .1
+place-is c = sym (c .find .ensures ∙ rw (numbered-key (now (start c .args .row)) (two (start c))))
 
 missing : (c : tie.After-enum-told) → let s = start (c .before .before) in placeFrom 0 (numberedAs (now (s .args .row))) (table s) ≡ Nothing
 missing c = place-is (c .before .before) ∙ c .enum-told .given .1
-
-slice-aggregate-find : tie.Need-slice-aggregate-find
-slice-aggregate-find c = let s = c .before .before .before .before in sym (length-take-le 2 (now (s .args .row)) (two s))
-
-find-requires : tie.Need-find-requires
-find-requires c κs =
-    let s = c .before .before .before .before in
-    let l : length (take 2 (now (s .args .row))) ≡ 2 = length-take-le 2 (now (s .args .row)) (two s) in
-    s .pre .0 .fits
 
 put-row-requires : tie.Need-put-row-requires
 put-row-requires c κs =
     let at = c .before .before in
     let s = start (at .before .before) in
-    (s .pre .1 .0, row-within _ _ _ _ (s .pre .0 .fits) (place-inside _ _ _ _ (s .pre .0) _ (found at)))
+    (s .pre .1 .0, row-within _ _ _ _ (s .pre .0 .fits) (place-inside _ _ _ _ (s .pre .0) _ (place-is (at .before .before) ∙ at .place .given .1)))
 
 put-row-requires-2 : tie.Need-put-row-requires-2
 put-row-requires-2 c κs =
@@ -52,18 +39,14 @@ add-result c =
     let at = c .before .before .before .before in
     let s = start (at .before .before) in
     let two : 2 ≤ s .args .stride = s .pre .0 .numbered in
-    omega (
-      arith,
-      le-mul-of-pos-right {m = s .args .stride} (s .args .count) (omega arith),
-      end-inside _ _ _ _ (s .pre .0) (missing at) (s .pre .1 .1),
-      s .good .0 .0,
-    )
+    let room = end-inside _ _ _ _ (s .pre .0) (missing at) (s .pre .1 .1) in
+    omega (arith, le-mul-of-pos-right {m = s .args .stride} (s .args .count) (omega arith), s .good .0 .0)
 
 returns : tie.Need-returns
 returns c =
     let at = c .before .before .before .before .before in
     let call = c .before .before .put-row in
-    stored-at _ _ _ _ (start (at .before .before) .pre .0) _ (found at) _ (call .ensures) (call .kept .0)
+    stored-at _ _ _ _ (start (at .before .before) .pre .0) _ (place-is (at .before .before) ∙ at .place .given .1) _ (call .ensures) (call .kept .0)
 
 returns-2 : tie.Need-returns-2
 returns-2 c =
@@ -71,12 +54,8 @@ returns-2 c =
     let call = c .before .before .put-row2 in
     stored-end _ _ _ _ (start (at .before .before) .pre .0) (missing at) _ (call .ensures) (call .kept .0)
 
-pub store-spec : {M : Type 1} → statement M
+pub store-spec : {M : Type 1} → Rattle.rows_change.proofs.store.Statement.statement M
 store-spec = tie.close (tie.spec
-    slice-aggregate-find
-    find-requires
-    (λ c. search needs) put-row-requires
-    (λ c. search needs) put-row-requires-2
-    add-result
-    (λ c. search needs) returns
-    (λ c. search needs) returns-2)
+    (λ c. let s = c .before .before .before .before in sym (length-take-le 2 (now (s .args .row)) (two s)))
+    (λ c κs. c .before .before .before .before .pre .0 .fits)
+    (λ c. search needs) put-row-requires (λ c. search needs) put-row-requires-2 add-result (λ c. search needs) returns (λ c. search needs) returns-2)

@@ -2,7 +2,6 @@
 -- Assumes nothing.
 use Rattle.rows.proofs.Prelude.{refl, sym, _∙_, _+_, _-_, _*_, _≤_, _<_, arith, length, getD, needs}
 use Rattle.rows_distinct.proofs.Seen.{SeenInv, seen-start, seen-end, row-fits, none-again, again-first, seen-turn}
-use Rattle.rows_distinct.proofs.before_repeat.Statement.{statement}
 use Rattle.rows_distinct.proofs.before_repeat.Tie as tie
 
 abbrev Inv-loop : tie.InvT-loop
@@ -14,12 +13,6 @@ abbrev μ-loop : tie.MeasureT-loop
 -- row i lies within the bytes
 here : (c : tie.In-loop Inv-loop μ-loop) → let a = c .before .before .before .args in c .before .loop .i * a .stride + a .stride ≤ length (a .rows .now)
 here c = let s = c .before .before .before in row-fits _ _ _ _ _ (s .pre .0) (s .pre .1) (c .before .loop .inv) (c .loop-test .taken)
-
-add-low : tie.Need-add-low Inv-loop μ-loop
-add-low c = let two = c .before .before .before .pre .0 in omega (arith, here c)
-
-shared-slice-read-low : tie.Need-shared-slice-read-low Inv-loop μ-loop
-shared-slice-read-low c = let two = c .before .before .before .before .pre .0 in omega (arith, here (c .before))
 
 -- its low byte is one
 low : (c : tie.After-shared-slice-known2 Inv-loop μ-loop) → let a = c .before .before .before .before .args in
@@ -45,13 +38,11 @@ loop-again c =
     seen-turn _ _ _ _ _ (s .pre .0) (s .pre .1) (turn .before .loop .inv) (turn .loop-test .taken) (sym (c .before .again .ensures) ∙ c .if1 .left)
     (low (c .before .before))
 
-returns-2 : tie.Need-returns-2 Inv-loop μ-loop
-returns-2 c = seen-end _ _ _ _ _ (c .before .loop .inv) (c .loop-test .left)
-
-pub before-repeat-spec : {M : Type 1} → statement M
+pub before-repeat-spec : {M : Type 1} → Rattle.rows_distinct.proofs.before_repeat.Statement.statement M
 before-repeat-spec = tie.close (tie.spec
     Inv-loop μ-loop (λ c. seen-start _ _ _ _ refl) (λ c. omega (arith, here c))
-    add-low shared-slice-read-low (λ c. omega (arith, low c))
-    (λ c. low c) again-requires returns (λ c. low (c .before .before))
+    (λ c. omega (arith, here c, c .before .before .before .pre .0)) (λ c. omega (arith, here (c .before), c .before .before .before .before .pre .0))
+    (λ c. omega (arith, low c))
+    low again-requires returns (λ c. low (c .before .before))
     (λ c. search needs) (λ c. search needs) loop-again
-    returns-2)
+    (λ c. seen-end _ _ _ _ _ (c .before .loop .inv) (c .loop-test .left)))

@@ -3,11 +3,7 @@
 use borrow.Author.Needs.{needs}
 use Rattle.rows.proofs.Laws.{length-rowsOf}
 use Rattle.rows.proofs.Repeat.{distinct-repeat}
-use Rattle.rows_distinct.proofs.distinct.Statement.{statement}
 use Rattle.rows_distinct.proofs.distinct.Tie as tie
 
-returns : tie.Need-returns
-returns c = rw (distinct-repeat _, length-rowsOf, c .before-repeat .ensures)
-
-pub distinct-spec : {M : Type 1} → statement M
-distinct-spec = tie.close (tie.spec (λ c κs. search needs) returns)
+pub distinct-spec : {M : Type 1} → Rattle.rows_distinct.proofs.distinct.Statement.statement M
+distinct-spec = tie.close (tie.spec (λ c κs. search needs) (λ c. rw (distinct-repeat _, length-rowsOf, c .before-repeat .ensures)))

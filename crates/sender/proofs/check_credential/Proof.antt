@@ -9,7 +9,6 @@ use Rattle.rules.specs.Tables.{rows}
 use Rattle.rules.specs.Permission.{connectionOf}
 use Rattle.rules.specs.Checks.{refuseIf, noRow, noCredential}
 use Rattle.sender.specs.Own.{Own}
-use Rattle.sender.proofs.check_credential.Statement.{statement}
 use Rattle.sender.proofs.check_credential.Tie as tie
 
 no-row : (t : Tables) (s : Sender) (w : Row) → Own (rows Creds t) s w → connectionOf s ≡ 1 → eqb (length w) 0 ≡ noRow t s
@@ -20,16 +19,15 @@ no-partner : (t : Tables) (s : Sender) → (connectionOf s ≡ 1 → ⊥) → no
 no-partner t unauthenticated e = refl
 no-partner t (partner n) e = absurd (e refl)
 
-returns : tie.Need-returns
-unfolding refuseIf noCredential
-returns c = rw (no-partner _ (sender _) (λ e. c .if1 .taken (c .before .sender-connection .ensures ∙ e)))
-
 returns-2 : tie.Need-returns-2
 unfolding noCredential
 returns-2 c =
     let test = c .before in
-    let s = test .before .before .before .before in
-    c .refuse-if .ensures ∙ ap (refuseIf 7) (no-row _ (sender _) _ (s .pre) (sym (test .before .sender-connection .ensures) ∙ test .if1 .left))
+    c .refuse-if .ensures ∙ ap (refuseIf 7) (no-row _ (sender _) _ (test .before .before .before .before .pre)
+    (sym (test .before .sender-connection .ensures) ∙ test .if1 .left))
 
-pub check-credential-spec : {M : Type 1} → statement M
-check-credential-spec = tie.close (tie.spec (λ c κs. search needs) returns (λ c κs. search needs) returns-2)
+pub check-credential-spec : {M : Type 1} → Rattle.sender.proofs.check_credential.Statement.statement M
+unfolding refuseIf noCredential
+check-credential-spec = tie.close (tie.spec
+    (λ c κs. search needs) (λ c. rw (no-partner _ (sender _) (λ e. c .if1 .taken (c .before .sender-connection .ensures ∙ e))))
+    (λ c κs. search needs) returns-2)

@@ -1,23 +1,17 @@
 -- `tillerclover_hand_in`: no payload.
-use Rattle.rows.proofs.Prelude.{_≡_, refl, ap, _∙_, List, ℕ, now, needs}
-use Rattle.rules.specs.declared.Check.{Check}
-use Rattle.rules.specs.declared.Check.the-variants.{Pass, Refuse}
+use Rattle.rows.proofs.Prelude.{_≡_, List, ℕ, now, needs}
 use Rattle.rules.specs.Checks.{verdict}
 use Rattle.rules.specs.Outcome.{Said}
-use Rattle.rules_waiting.specs.Terminal.{Terminal, terminal, handInChecks, handInOf, handedIn, said}
+use Rattle.rules_waiting.specs.Terminal.{Terminal, terminal, handInChecks, handedIn, said}
 use Rattle.terminal.specs.declared.Outcome.{Outcome}
 use Rattle.terminal.specs.Interface.{outcomeIn, exported}
+use Rattle.rules.proofs.CheckLaws.{check-cases}
 use Rattle.terminal.proofs.Whole.{hands-whole}
-use Rattle.terminal.proofs.tillerclover_hand_in.Statement.{statement}
 use Rattle.terminal.proofs.tillerclover_hand_in.Tie as tie
 
 kept : (x : Terminal) (r : List ℕ) (s : Said) (o : Outcome) → s ≡ said (handedIn x r) → o ≡ outcomeIn s 0 → o ≡ exported (handedIn x r)
 unfolding handedIn
-kept x r s o e f = f ∙ ap (λ (k : Said). outcomeIn k 0) e ∙ go (verdict (handInChecks x r))
-  where
-    go : (c : Check) → outcomeIn (said (handInOf x r c)) 0 ≡ exported (handInOf x r c)
-    go Pass = refl
-    go (Refuse n) = refl
+kept x r s o e f = rw (f, e) (check-cases (verdict (handInChecks x r)) (λ v. rw v) (λ n v. rw v))
 
 returns : tie.Need-returns
 returns c =
@@ -30,5 +24,5 @@ returns c =
       keeps = gives .keeps;
     }
 
-pub tillerclover-hand-in-spec : {M : Type 1} → statement M
+pub tillerclover-hand-in-spec : {M : Type 1} → Rattle.terminal.proofs.tillerclover_hand_in.Statement.statement M
 tillerclover-hand-in-spec = tie.close (tie.spec (λ c κs. search needs) (λ c κs. search needs) (λ c κs. search needs) returns)

@@ -9,7 +9,6 @@ use borrow.Author.Needs.{needs}
 use lib.ListN.{length, drop, getD, drop-of-length-le}
 use lib.Seq.{drop-cons}
 use Rattle.text.proofs.Buffers.{Writing, writing-start, writing-step, writing-end, writing-length}
-use Rattle.text.proofs.put.Statement.{statement}
 use Rattle.text.proofs.put.Tie as tie
 
 abbrev Inv-loop : tie.InvT-loop
@@ -17,9 +16,6 @@ Inv-loop out₀ at text p₀ i₀ out p i = (i ≤ length text) × Writing out�
 
 abbrev μ-loop : tie.MeasureT-loop
 μ-loop out₀ at text p₀ i₀ out p i = length text - i
-
-loop-holds : tie.Need-loop-holds Inv-loop μ-loop
-loop-holds c = (omega arith, writing-start _ _ _ (omega arith) (omega arith))
 
 loop-again : tie.Need-loop-again Inv-loop μ-loop
 loop-again c =
@@ -30,19 +26,15 @@ loop-again c =
       rw (add-one (l .i)) (writing-step (getD t (l .i) 0 ∷ []) (drop (suc (l .i)) t) (l .inv .1) (drop-cons t (l .i) 0 (omega arith)) put),
     )
 
-same-length : tie.Need-same-length Inv-loop μ-loop
-same-length c = writing-length (c .before .loop .inv .1)
-
 returns : tie.Need-returns Inv-loop μ-loop
 returns c =
     writing-end (c .before .loop .inv .1)
     (drop-of-length-le (now (c .before .before .before .before .args .text)) {i = c .before .loop .i} (omega arith))
 
-pub put-spec : {M : Type 1} → statement M
+pub put-spec : {M : Type 1} → Rattle.text.proofs.put.Statement.statement M
 put-spec = tie.close (tie.spec
-    Inv-loop
-    μ-loop
-    loop-holds
+    Inv-loop μ-loop
+    (λ c. (omega arith, writing-start _ _ _ (omega arith) (omega arith)))
     (λ c. omega arith) (λ c κs. search needs) (λ c. omega arith) (λ c. omega arith) loop-again
-    same-length
+    (λ c. writing-length (c .before .loop .inv .1))
     returns)

@@ -3,16 +3,9 @@
 use native.Mathlib.Omega.{arith}
 use borrow.Author.Needs.{needs}
 use Rattle.text.proofs.Buffers.{puts-one, puts-past}
-use Rattle.text.proofs.put_byte.Statement.{statement}
 use Rattle.text.proofs.put_byte.Tie as tie
 
-returns-2 : tie.Need-returns-2
-returns-2 c = puts-past _ _ _ (omega arith) (omega arith)
-
-returns-3 : tie.Need-returns-3
-returns-3 c = puts-past _ _ _ (omega arith) (omega arith)
-
-pub put-byte-spec : {M : Type 1} → statement M
+pub put-byte-spec : {M : Type 1} → Rattle.text.proofs.put_byte.Statement.statement M
 put-byte-spec = tie.close (tie.spec
     (λ c. search needs) (λ c. search needs) (λ c. search needs) (λ c. puts-one _ _ _ (omega arith))
-    (λ c. search needs) returns-2 returns-3)
+    (λ c. search needs) (λ c. puts-past _ _ _ (omega arith) (omega arith)) (λ c. puts-past _ _ _ (omega arith) (omega arith)))

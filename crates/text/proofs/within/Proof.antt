@@ -2,14 +2,7 @@
 -- The lesser of two numbers, in the form that a caller's `&out[..r]` asks for.
 use native.Mathlib.Omega.{arith}
 use Rattle.text.proofs.Buffers.{counts}
-use Rattle.text.proofs.within.Statement.{statement}
 use Rattle.text.proofs.within.Tie as tie
 
-returns : tie.Need-returns
-returns c = (omega arith, counts _ _ (omega arith))
-
-returns-2 : tie.Need-returns-2
-returns-2 c = (omega arith, counts _ _ (omega arith))
-
-pub within-spec : {M : Type 1} → statement M
-within-spec = tie.close (tie.spec returns returns-2)
+pub within-spec : {M : Type 1} → Rattle.text.proofs.within.Statement.statement M
+within-spec = tie.close (tie.spec (λ c. (omega arith, counts _ _ (omega arith))) (λ c. (omega arith, counts _ _ (omega arith))))

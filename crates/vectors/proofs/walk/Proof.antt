@@ -1,8 +1,6 @@
 -- `walk` is safe and ends.
 -- Nothing has to hold from entry to entry. Measure: the length of the rest.
-use borrow.Author.Needs.{needs}
-use lib.ListN.{length}
-use Rattle.vectors.proofs.walk.Statement.{statement}
+use Rattle.rows.proofs.Prelude.{length, needs}
 use Rattle.vectors.proofs.walk.Tie as tie
 
 abbrev Inv-loop : tie.InvT-loop
@@ -11,13 +9,8 @@ Inv-loop bytes p₀ rest₀ p rest = Unit {0}
 abbrev μ-loop : tie.MeasureT-loop
 μ-loop bytes p₀ rest₀ p rest = length rest
 
-pub walk-spec : {M : Type 1} → statement M
+pub walk-spec : {M : Type 1} → Rattle.vectors.proofs.walk.Statement.statement M
 walk-spec = tie.close (tie.spec
-    Inv-loop
-    μ-loop
-    (λ c κs. search needs) (λ c. search needs)
-    (λ c κs. search needs) (λ c κs. search needs) (λ c κs. search needs) (λ c. search needs)
-    (λ c κs. search needs) (λ c. search needs) (λ c κs. search needs) (λ c κs. search needs)
-    (λ c κs. search needs) (λ c κs. search needs)
-    (λ c. search needs) (λ c. search needs) (λ c. search needs) (λ c. search needs)
-    (λ c. search needs) (λ c. search needs))
+    Inv-loop μ-loop (λ c κs. search needs) (λ c. search needs) (λ c κs. search needs) (λ c κs. search needs) (λ c κs. search needs)
+    (λ c. search needs) (λ c κs. search needs) (λ c. search needs) (λ c κs. search needs) (λ c κs. search needs) (λ c κs. search needs)
+    (λ c κs. search needs) (λ c. search needs) (λ c. search needs) (λ c. search needs) (λ c. search needs) (λ c. search needs) (λ c. search needs))

@@ -1,12 +1,8 @@
 -- `defaults::clear`: whatever the tables were.
 use Rattle.rules.specs.Defaults.{cleared}
 use borrow.Author.Needs.{needs}
-use Rattle.effect_fresh.proofs.defaults.clear.Statement.{statement}
 use Rattle.effect_fresh.proofs.defaults.clear.Tie as tie
 
-returns : tie.Need-returns
+pub clear-spec : {M : Type 1} → Rattle.effect_fresh.proofs.defaults.clear.Statement.statement M
 unfolding cleared
-returns c = c .fresh .ensures
-
-pub clear-spec : {M : Type 1} → statement M
-clear-spec = tie.close (tie.spec (λ c κs. search needs) returns)
+clear-spec = tie.close (tie.spec (λ c κs. search needs) (λ c. c .fresh .ensures))

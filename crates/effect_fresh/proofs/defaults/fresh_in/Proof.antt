@@ -3,7 +3,6 @@ use Rattle.rules.specs.Bodies.{nil}
 use Rattle.rules.specs.Tables.{empty}
 use Rattle.rules.specs.Defaults.{fresh}
 use borrow.Author.Needs.{needs}
-use Rattle.effect_fresh.proofs.defaults.fresh_in.Statement.{statement}
 use Rattle.effect_fresh.proofs.defaults.fresh_in.Tie as tie
 
 returns : tie.Need-returns
@@ -12,6 +11,5 @@ returns c =
     let creds = c .before .before in
     rw (creds .put-defaults .ensures .0 .0, creds .put-defaults .ensures .1, c .put-defaults2 .ensures .0 .0, c .put-defaults2 .ensures .1)
 
-pub fresh-in-spec : {M : Type 1} → statement M
-fresh-in-spec = tie.close (tie.spec
-    (λ c κs. search needs) (λ c κs. search needs) (λ c. search needs) (λ c. search needs) returns)
+pub fresh-in-spec : {M : Type 1} → Rattle.effect_fresh.proofs.defaults.fresh_in.Statement.statement M
+fresh-in-spec = tie.close (tie.spec (λ c κs. search needs) (λ c κs. search needs) (λ c. search needs) (λ c. search needs) returns)

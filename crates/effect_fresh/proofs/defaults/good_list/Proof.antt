@@ -3,18 +3,7 @@ use Rattle.rows.proofs.Prelude.{now, needs, le-leb, lt-leb}
 use Rattle.rules.specs.Defaults.{goodList}
 use Rattle.rules.proofs.BodyLaws.{two-long, positive}
 use Rattle.effect_fresh.proofs.DefaultLaws.{listed-fits, listed-rows, listed-length}
-use Rattle.effect_fresh.proofs.defaults.good_list.Statement.{statement}
 use Rattle.effect_fresh.proofs.defaults.good_list.Tie as tie
-
-div-n : tie.Need-div-n
-div-n c = rw (c .longest-of .ensures) (positive (c .before .before .before .args .table))
-
-returns : tie.Need-returns
-unfolding goodList
-returns c = rw (lt-leb _ 2 (rw (c .before .longest-of .ensures) at (c .if1 .taken)))
-
-rem-result : tie.Need-rem-result
-rem-result c = rw (c .before .longest-of .ensures) (positive (c .before .before .before .before .args .table))
 
 distinct-requires : tie.Need-distinct-requires
 distinct-requires c κs =
@@ -42,11 +31,11 @@ returns-2 c =
       listed-rows (s .args .table) (now (s .args .list)) (now (s .args .rows)) few (s .pre),
     )
 
-pub good-list-spec : {M : Type 1} → statement M
+pub good-list-spec : {M : Type 1} → Rattle.effect_fresh.proofs.defaults.good_list.Statement.statement M
+unfolding goodList
 good-list-spec = tie.close (tie.spec
-    (λ c κs. search needs) div-n
-    returns
-    rem-result
-    (λ c κs. search needs) (λ c κs. search needs)
-    distinct-requires
-    returns-2)
+    (λ c κs. search needs)
+    (λ c. rw (c .longest-of .ensures) (positive (c .before .before .before .args .table)))
+    (λ c. rw (lt-leb _ 2 (rw (c .before .longest-of .ensures) at (c .if1 .taken))))
+    (λ c. rw (c .before .longest-of .ensures) (positive (c .before .before .before .before .args .table)))
+    (λ c κs. search needs) (λ c κs. search needs) distinct-requires returns-2)

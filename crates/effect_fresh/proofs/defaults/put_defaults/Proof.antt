@@ -6,7 +6,6 @@ use Rattle.rules.specs.Tables.{stride, capacity}
 use Rattle.rules.specs.Defaults.{listed}
 use Rattle.rules.proofs.BodyLaws.{positive}
 use Rattle.effect_fresh.proofs.DefaultLaws.{good-few, good-table, good-count, bad-none, bad-table}
-use Rattle.effect_fresh.proofs.defaults.put_defaults.Statement.{statement}
 use Rattle.effect_fresh.proofs.defaults.put_defaults.Tie as tie
 
 abbrev start : tie.After-put-listed → tie.Start
@@ -21,12 +20,6 @@ over c =
     c .put-listed .ensures .buffer
     ∙ ap (λ (z : List ℕ). written z 0 (joined (listed (s .args .table) (now (s .args .list)))))
     (c .before .before .before .before .clear .ensures ∙ ap (λ (n : ℕ). replicate n 0) (s .pre))
-
-good-list-requires : tie.Need-good-list-requires
-good-list-requires c κs = over (c .before .before .before)
-
-div-result : tie.Need-div-result
-div-result c = rw (c .longest-of .ensures) (positive (start (c .before .before .before .before .before .before) .args .table))
 
 returns : tie.Need-returns
 returns c =
@@ -52,9 +45,8 @@ returns-2 c =
     ∙ ap (λ (n : ℕ). replicate n 0) (put .put-listed .kept .1 .0 ∙ put .before .before .before .before .clear .kept .0 ∙ s .pre) in
     ((ap length (sym (bad-none table (now (s .args .list)) bad)), omega arith), bad-table table (now (s .args .list)) _ bad zeros)
 
-pub put-defaults-spec : {M : Type 1} → statement M
+pub put-defaults-spec : {M : Type 1} → Rattle.effect_fresh.proofs.defaults.put_defaults.Statement.statement M
 put-defaults-spec = tie.close (tie.spec
-    (λ c κs. search needs) (λ c κs. search needs) good-list-requires
-    (λ c κs. search needs) div-result
-    (λ c. search needs) returns
-    (λ c κs. search needs) (λ c. search needs) returns-2)
+    (λ c κs. search needs) (λ c κs. search needs) (λ c κs. over (c .before .before .before)) (λ c κs. search needs)
+    (λ c. rw (c .longest-of .ensures) (positive (start (c .before .before .before .before .before .before) .args .table)))
+    (λ c. search needs) returns (λ c κs. search needs) (λ c. search needs) returns-2)

@@ -5,7 +5,6 @@ use Rattle.text.proofs.Buffers.{Writing, writing-start, writing-step, writing-e
 use Rattle.rows.proofs.Laws.{a-row, next-room}
 use Rattle.rules.proofs.BodyLaws.{positive}
 use Rattle.effect_fresh.proofs.DefaultLaws.{rowsFrom, from-take, from-end}
-use Rattle.effect_fresh.proofs.defaults.put_listed.Statement.{statement}
 use Rattle.effect_fresh.proofs.defaults.put_listed.Tie as tie
 
 abbrev Inv-loop : tie.InvT-loop
@@ -15,9 +14,6 @@ Inv-loop table out₀ list long p₀ rest₀ left₀ out p rest left =
 abbrev μ-loop : tie.MeasureT-loop
 μ-loop table out₀ list long p₀ rest₀ left₀ out p rest left = left
 
-div-left : tie.Need-div-left Inv-loop μ-loop
-div-left c = rw (c .longest-of .ensures) (positive (c .before .before .before .args .table))
-
 loop-holds : tie.Need-loop-holds Inv-loop μ-loop
 loop-holds c =
     let s = c .before .before .before in
@@ -26,12 +22,6 @@ loop-holds c =
 -- a turn has a row
 row-here : (c : tie.In-loop Inv-loop μ-loop) → c .before .before .longest-of .result ≤ length (c .before .loop .rest .now)
 row-here c = a-row _ _ (c .before .loop .rest .now) (c .loop-test .taken) (c .before .loop .inv .0)
-
-sub-rest : tie.Need-sub-rest Inv-loop μ-loop
-sub-rest c = row-here (c .before .before .before .before .before)
-
-part-rest-start : tie.Need-part-rest-start Inv-loop μ-loop
-part-rest-start c = row-here (c .before .before .before .before .before)
 
 loop-again : tie.Need-loop-again Inv-loop μ-loop
 loop-again c =
@@ -46,9 +36,6 @@ loop-again c =
           (rw (row .part .ensures) at (put .put-listed-row .ensures)),
     )
 
-same-length : tie.Need-same-length Inv-loop μ-loop
-same-length c = writing-length (c .before .loop .inv .1)
-
 returns : tie.Need-returns Inv-loop μ-loop
 returns c =
     let l = c .before .loop in
@@ -56,14 +43,11 @@ returns c =
     let table = made .before .before .before .args .table in
     rw (← made .longest-of .ensures) (writing-end (l .inv .1) (from-end table (made .longest-of .result) (l .left) (l .rest .now) (c .loop-test .left)))
 
-pub put-listed-spec : {M : Type 1} → statement M
+pub put-listed-spec : {M : Type 1} → Rattle.effect_fresh.proofs.defaults.put_listed.Statement.statement M
 put-listed-spec = tie.close (tie.spec
-    Inv-loop
-    μ-loop
-    (λ c κs. search needs) div-left
-    loop-holds
-    (λ c κs. search needs) (λ c κs. search needs) sub-rest
-    part-rest-start
-    (λ c. search needs) (λ c. search needs) (λ c. search needs) loop-again
-    same-length
-    returns)
+    Inv-loop μ-loop (λ c κs. search needs)
+    (λ c. rw (c .longest-of .ensures) (positive (c .before .before .before .args .table)))
+    loop-holds (λ c κs. search needs) (λ c κs. search needs)
+    (λ c. row-here (c .before .before .before .before .before))
+    (λ c. row-here (c .before .before .before .before .before))
+    (λ c. search needs) (λ c. search needs) (λ c. search needs) loop-again (λ c. writing-length (c .before .loop .inv .1)) returns)

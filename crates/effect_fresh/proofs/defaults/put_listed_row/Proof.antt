@@ -4,7 +4,6 @@ use Rattle.text.specs.Buffer.{largest}
 use Rattle.text.proofs.Buffers.{puts-then}
 use Rattle.rules.proofs.BodyLaws.{body-within}
 use Rattle.effect_fresh.proofs.DefaultLaws.{row-from, zeros-part}
-use Rattle.effect_fresh.proofs.defaults.put_listed_row.Statement.{statement}
 use Rattle.effect_fresh.proofs.defaults.put_listed_row.Tie as tie
 
 sub-more : tie.Need-sub-more
@@ -26,7 +25,7 @@ returns c =
     ∙ zeros-part table in
     rw (row-from table, ← none) (puts-then (bound (first .before .before .before)) (first .put .ensures) (last .put2 .ensures))
 
-pub put-listed-row-spec : {M : Type 1} → statement M
+pub put-listed-row-spec : {M : Type 1} → Rattle.effect_fresh.proofs.defaults.put_listed_row.Statement.statement M
 put-listed-row-spec = tie.close (tie.spec
     (λ c κs. search needs) (λ c κs. search needs) (λ c κs. search needs) sub-more
     (λ c. search needs) (λ c κs. search needs) (λ c κs. search needs) (λ c. search needs) returns)

@@ -3,7 +3,6 @@ use Rattle.rows.proofs.Prelude.{_≡_, sym, ap, ap₂, _∙_, List, ℕ, _+_, _
 use lib.Pow.{pow-pos}
 use Rattle.rules.specs.Bits.{bits}
 use Rattle.rules.proofs.BitLaws.{bits-part, bits-below}
-use Rattle.fields.proofs.bits.field.Statement.{statement}
 use Rattle.fields.proofs.bits.field.Tie as tie
 
 module _ (r : List ℕ) (start width three size : ℕ) (w : width ≤ 16) (t : three ≡ bits r (8 * (start / 8)) 24) (p : size ≡ 2 ^ width) where
@@ -16,7 +15,7 @@ module _ (r : List ℕ) (start width three size : ℕ) (w : width ≤ 16) (t : t
   small : three / 2 ^ (24 - (start % 8 + width)) % size < 65536
   small = rw is (bits-below r start width 16 w)
 
-pub field-spec : {M : Type 1} → statement M
+pub field-spec : {M : Type 1} → Rattle.fields.proofs.bits.field.Statement.statement M
 field-spec = tie.close (tie.spec
     (λ c κs. search needs) (λ c. search needs) (λ c. search needs) (λ c κs. search needs) (λ c. search needs) (λ c. search needs)
     (λ c. rw (c .power .ensures) (pow-pos _))

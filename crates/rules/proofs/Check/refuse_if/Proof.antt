@@ -1,15 +1,7 @@
 -- `Check::refuse_if`: by the condition.
 use Rattle.rules.specs.Checks.{refuseIf}
-use Rattle.rules.proofs.Check.refuse_if.Statement.{statement}
 use Rattle.rules.proofs.Check.refuse_if.Tie as tie
 
-returns : tie.Need-returns
+pub refuse-if-spec : {M : Type 1} → Rattle.rules.proofs.Check.refuse_if.Statement.statement M
 unfolding refuseIf
-returns c = simp (c .if1 .taken)
-
-returns-2 : tie.Need-returns-2
-unfolding refuseIf
-returns-2 c = simp (c .if1 .left)
-
-pub refuse-if-spec : {M : Type 1} → statement M
-refuse-if-spec = tie.close (tie.spec returns returns-2)
+refuse-if-spec = tie.close (tie.spec (λ c. simp (c .if1 .taken)) (λ c. simp (c .if1 .left)))
