@@ -67,9 +67,14 @@ launch() {
     return 1
 }
 
+# without_notes FILE: leaves out the line by which the leak check says that it could not read the registers of a thread;
+# that is no finding
+without_notes() { sed -i '/^==[0-9]*==Unable to get registers from thread [0-9]*\.$/d' "$1"; }
+
 # finish: ends the terminal; it must have run without an error, a leak or another report of the sanitizers
 finish() {
     end TERM || fault "ended with status $?: $(tail -n 3 "$work/errors")"
+    without_notes "$work/errors"
     [ ! -s "$work/errors" ] || fault "wrote: $(head -n 3 "$work/errors")"
 }
 
@@ -100,6 +105,7 @@ refuses() {
     shift
     timeout 10 "$program" "$@" >"$work/out" 2>"$work/line"
     status=$?
+    without_notes "$work/line"
     [ $status -eq 1 ] && [ "$(wc -l <"$work/line")" -eq 1 ] && grep -q "$words" "$work/line" && [ ! -s "$work/out" ] ||
         fault "start with $*: status $status, '$(cat "$work/line")'"
 }
@@ -155,7 +161,9 @@ part_starts() {
     expect "2.05 20$(uuid 00)" 0 get /oic/sec/pstat
     PATIENCE=1 expect none 0 post /oic/sec/cred "$(cred 7 "$(uuid 07)")"
     wait "$pid"
-    [ $? -eq 1 ] && [ "$(wc -l <"$work/errors")" -eq 1 ] && grep -q "cannot be written" "$work/errors" ||
+    local status=$?
+    without_notes "$work/errors"
+    [ $status -eq 1 ] && [ "$(wc -l <"$work/errors")" -eq 1 ] && grep -q "cannot be written" "$work/errors" ||
         fault "a store that failed: $(cat "$work/errors")"
     pid=
     file=$work/tables
