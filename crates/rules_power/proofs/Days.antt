@@ -84,13 +84,15 @@ module _ {State Input Answer : Type 0} (m : Machine State Input Answer) (Good : 
 -- ---- several inputs are stored at once
 
 module _ {State Input Answer : Type 0} (m : Machine State Input Answer) where
-  run-good : (Good : State → Type 0) → Keeps m Good → (x z : State) (is : List Input) (bs : List Answer) → Run m x is bs z → Good x → Good z
-  run-good Good k x z is bs day.none h = h
-  run-good Good k x z is bs (day.more {y = y} {is = is′} {bs = bs′} i a g rest) h = run-good Good k y z is′ bs′ rest (k .goes-on x y i a g h)
+  -- what each input keeps, a run keeps
+  module _ (Good : State → Type 0) (each : (x y : State) (i : Input) (a : Answer) → m .Gives x i a y → Good x → Good y) where
+    pub run-keeps : (x z : State) (is : List Input) (bs : List Answer) → Run m x is bs z → Good x → Good z
+    run-keeps x z is bs day.none h = h
+    run-keeps x z is bs (day.more {y = y} {is = is′} {bs = bs′} i a g rest) h = run-keeps y z is′ bs′ rest (each x y i a g h)
 
   pub rounds-keep : (Good : State → Type 0) → Keeps m Good → Keeps (inRounds m) Good
   rounds-keep Good k =
-      record { loads = k .loads; goes-on = λ x y is bs r h. run-good Good k x y is bs r h; sized = k .sized; back = k .back; rests = k .rests }
+      record { loads = k .loads; goes-on = run-keeps Good (k .goes-on); sized = k .sized; back = k .back; rests = k .rests }
 
   joined : (x y z : State) (is js : List Input) (bs cs : List Answer) → Run m x is bs y → Run m y js cs z → Run m x (is ++ js) (bs ++ cs) z
   joined x y z is js bs cs day.none r = r
