@@ -5,9 +5,9 @@ use Rattle.rules.specs.declared.Sender.the-variants.{Unauthenticated, Partner}
 use Rattle.rules.specs.Defaults.{noDefaults}
 use Rattle.rules.proofs.Samples.{lent, credRow, withCreds, serving, aceRow, weight, connected, haulierRow}
 use Rattle.rules_waiting.specs.Slots.{seatOf, padded, slotOf, recordOf, roundOf, waiting, queueOf, emptyQueue}
-use Rattle.rules_waiting.specs.Round.{seats, held, occupied, start, inTurn, firstInTurn, orphaned}
+use Rattle.rules_waiting.specs.Round.{seats, held, occupied, start, inTurn, firstInTurn, sameSeats, orphaned}
 use Rattle.rules_waiting.specs.Terminal.{Terminal, terminal, slotSound, queueSound, soundTerminal, withRecord}
-use Rattle.rules_waiting.specs.Terminal.{handedIn, clears, sameCount, queueAfter, turn, due, taken, judged}
+use Rattle.rules_waiting.specs.Terminal.{handedIn, clears, queueAfter, turn, due, taken, judged}
 use Rattle.rules_waiting.specs.Inputs.{Input, handIn, takeAt, direct, Turn, turnTold}
 use Rattle.rules_waiting.proofs.Built.{Call, handedBack}
 use Rattle.rules_waiting.proofs.Shown.{allShown}
@@ -22,7 +22,7 @@ use Rattle.rules_isolation.proofs.BuiltYards.{built-two-yards-quiet}
 -- `unfolding service` opens the question, and the terminal with its queue
 service : Unit {0}
 unfolding question endangering seatOf padded slotOf recordOf roundOf waiting queueOf seats held occupied start inTurn firstInTurn orphaned
-    slotSound queueSound soundTerminal withRecord handedIn clears sameCount queueAfter turn due taken judged sentBy newestOf
+    slotSound queueSound soundTerminal withRecord handedIn clears sameSeats queueAfter turn due taken judged sentBy newestOf
 service = tt
 
 -- every partner may read resource 8

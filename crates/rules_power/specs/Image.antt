@@ -1,6 +1,6 @@
 -- The image of a terminal: the bytes of the tables in the order of the struct, and with them the memory of waiting records.
 -- Every field is a byte or an array of bytes, so no image depends on padding or on the order of bytes.
-use Prim.Native.Nat.{ℕ, _+_}
+use Prim.Native.Nat.{ℕ}
 use mathlib.Core.Path.{_≡_}
 use mathlib.Core.List.{List, _∷_, _++_}
 use lib.ListN.{length, take, drop, getD}
