@@ -4,17 +4,19 @@ use Prim.Native.Nat.{ℕ}
 use mathlib.Core.Path.{_≡_}
 use mathlib.Core.Bool.{Bool, true, false, _&&_, _||_}
 use mathlib.Core.List.{List, [], _∷_}
-use lib.Dec.{eqb, ltb}
+use lib.Dec.{eqb, leb}
 use Rattle.rules.specs.declared.Tables.{Tables}
 use Rattle.rules.specs.declared.Table.the-variants.{Creds, Aces}
 use Rattle.rules.specs.declared.Action.{Action}
 use Rattle.rules.specs.declared.Action.the-variants.{Serve, Read, SetRowOwner, SetOwner, SetState, Store, Remove, Assert, Malformed}
 use Rattle.rules.specs.declared.Sender.{Sender}
 use Rattle.rules.specs.declared.Sender.the-variants.{Partner}
-use Rattle.rules.specs.Record.{Request, verb, resource, body}
+use Rattle.rules.specs.Record.{Request, update, verb, resource, body}
+use Rattle.rules.specs.Directory.{acl2}
 use Rattle.rules.specs.Bodies.{rowNumber}
 use Rattle.rules.specs.Tables.{rowOf}
 use Rattle.rules.specs.Action.{action}
+use Rattle.rules.specs.States.{reset}
 use Rattle.rules.specs.Outcome.{Response}
 use Rattle.rules.specs.Run.{kept}
 use Rattle.rules.specs.Isolation.{rowAlters}
@@ -30,7 +32,7 @@ endangers chosen b Serve = false
 endangers chosen b Read = false
 endangers chosen b (SetRowOwner n) = true
 endangers chosen b (SetOwner owned) = true
-endangers chosen b (SetState target) = eqb target 0
+endangers chosen b (SetState target) = eqb target reset
 endangers chosen b (Store Creds) = chosen (Partner (rowNumber (rowOf Creds b)))
 endangers chosen b (Store Aces) = rowAlters (rowOf Aces b)
 endangers chosen b (Remove k key) = false
@@ -47,7 +49,7 @@ endangering chosen u = wasPermitted u && endangers chosen (body (bytesOf u)) (ac
 
 -- so much of it stands in the header: a permitted UPDATE of doxm, pstat, cred or acl2
 unfoldable pub updating : Turn → Bool
-updating u = wasPermitted u && eqb (verb (bytesOf u)) 2 && ltb (resource (bytesOf u)) 4
+updating u = wasPermitted u && eqb (verb (bytesOf u)) update && leb (resource (bytesOf u)) acl2
 
 -- some of these passes the test
 abbrev pub someTurn : (Turn → Bool) → List Turn → Bool

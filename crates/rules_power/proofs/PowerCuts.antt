@@ -39,60 +39,60 @@ module _ (d : Defaults) where
 
   pub whole-run : (s end : List ℕ) (es : List (Event Act Transition)) (z : Terminal) → length s ≡ sizeFor terminalSize
       → Day byRules (found byRules s) s es z end → AsRun byRules (found byRules s) es z × (found byRules end ≡ z)
-  whole-run s end es z f = terminals.whole-run (Answers d) d (answers-next d) s end f es z
+  whole-run s end es z f = terminals.any-whole-run (Answers d) d (answers-next d) s end f es z
 
   pub whole-calls : (s end : List ℕ) (es : List (Event Act Call)) (z : Terminal) → length s ≡ sizeFor terminalSize
       → Day byCalls (found byCalls s) s es z end → AsRun byCalls (found byCalls s) es z × (found byCalls end ≡ z)
-  whole-calls s end es z f = terminals.whole-run (Calls d) d (calls-next d) s end f es z
+  whole-calls s end es z f = terminals.any-whole-run (Calls d) d (calls-next d) s end f es z
 
   pub whole-sound : (s end : List ℕ) (es : List (Event Act Call)) (z : Terminal) → length s ≡ sizeFor terminalSize
       → Day byCalls (found byCalls s) s es z end → soundTerminal (found byCalls s) ≡ true → soundTerminal z ≡ true
-  whole-sound s end es z f = terminals.whole-sound (Calls d) d (calls-next d) s end f es z
+  whole-sound s end es z f = terminals.any-whole-sound (Calls d) d (calls-next d) s end f es z
 
   -- a store of any content, and the first image
   pub whole-first : (s end : List ℕ) (c : Call) (es : List (Event Act Call)) (z : Terminal) → length s ≡ sizeFor terminalSize
       → Day byCalls (found byCalls s) s (told clear c ∷ es) z end → soundTerminal z ≡ true
-  whole-first s end c es z f = terminals.whole-first (Calls d) d (calls-next d) s end f c es z
+  whole-first s end c es z f = terminals.any-whole-first (Calls d) d (calls-next d) s end f c es z
 
   -- several inputs, stored at once and then answered
   pub whole-rounds : (s end : List ℕ) (es : List (Event (List Act) (List Call))) (z : Terminal) → length s ≡ sizeFor terminalSize
       → Day (inRounds byCalls) (found byCalls s) s es z end → AsRun (inRounds byCalls) (found byCalls s) es z × (found byCalls end ≡ z)
-  whole-rounds s end es z f = terminals.whole-rounds (Calls d) d (calls-next d) s end f es z
+  whole-rounds s end es z f = terminals.any-whole-rounds (Calls d) d (calls-next d) s end f es z
 
   -- ---- the tables alone
 
   pub tables-run : (s end : List ℕ) (es : List (Event Act Transition)) (z : Terminal) → length s ≡ sizeFor tablesSize
       → Day tablesByRules (found tablesByRules s) s es z end
       → Restarts tablesByRules (found tablesByRules s) es z × (found tablesByRules end ≡ nothingWaits z)
-  tables-run s end es z f = terminals.tables-run (Answers d) d (answers-next d) s end f es z
+  tables-run s end es z f = terminals.any-tables-run (Answers d) d (answers-next d) s end f es z
 
   pub tables-calls : (s end : List ℕ) (es : List (Event Act Call)) (z : Terminal) → length s ≡ sizeFor tablesSize
       → Day tablesByCalls (found tablesByCalls s) s es z end
       → Restarts tablesByCalls (found tablesByCalls s) es z × (found tablesByCalls end ≡ nothingWaits z)
-  tables-calls s end es z f = terminals.tables-run (Calls d) d (calls-next d) s end f es z
+  tables-calls s end es z f = terminals.any-tables-run (Calls d) d (calls-next d) s end f es z
 
   pub tables-sound : (s end : List ℕ) (es : List (Event Act Call)) (z : Terminal) → length s ≡ sizeFor tablesSize
       → Day tablesByCalls (found tablesByCalls s) s es z end → soundTerminal (found tablesByCalls s) ≡ true → soundTerminal z ≡ true
-  tables-sound s end es z f = terminals.tables-sound (Calls d) d (calls-next d) s end f es z
+  tables-sound s end es z f = terminals.any-tables-sound (Calls d) d (calls-next d) s end f es z
 
   pub tables-first : (s end : List ℕ) (c : Call) (es : List (Event Act Call)) (z : Terminal) → length s ≡ sizeFor tablesSize
       → Day tablesByCalls (found tablesByCalls s) s (told clear c ∷ es) z end → soundTerminal z ≡ true
-  tables-first s end c es z f = terminals.tables-first (Calls d) d (calls-next d) s end f c es z
+  tables-first s end c es z f = terminals.any-tables-first (Calls d) d (calls-next d) s end f c es z
 
   -- several inputs, stored at once and then answered
   pub tables-rounds : (s end : List ℕ) (es : List (Event (List Act) (List Transition))) (z : Terminal) → length s ≡ sizeFor tablesSize
       → Day (inRounds tablesByRules) (found tablesByRules s) s es z end
       → Restarts (inRounds tablesByRules) (found tablesByRules s) es z × (found tablesByRules end ≡ nothingWaits z)
-  tables-rounds s end es z f = terminals.tables-rounds (Answers d) d (answers-next d) s end f es z
+  tables-rounds s end es z f = terminals.any-tables-rounds (Answers d) d (answers-next d) s end f es z
 
   pub tables-rounds-calls : (s end : List ℕ) (es : List (Event (List Act) (List Call))) (z : Terminal) → length s ≡ sizeFor tablesSize
       → Day (inRounds tablesByCalls) (found tablesByCalls s) s es z end
       → Restarts (inRounds tablesByCalls) (found tablesByCalls s) es z × (found tablesByCalls end ≡ nothingWaits z)
-  tables-rounds-calls s end es z f = terminals.tables-rounds (Calls d) d (calls-next d) s end f es z
+  tables-rounds-calls s end es z f = terminals.any-tables-rounds (Calls d) d (calls-next d) s end f es z
 
   pub tables-rounds-sound : (s end : List ℕ) (es : List (Event (List Act) (List Call))) (z : Terminal) → length s ≡ sizeFor tablesSize
       → Day (inRounds tablesByCalls) (found tablesByCalls s) s es z end → soundTerminal (found tablesByCalls s) ≡ true → soundTerminal z ≡ true
-  tables-rounds-sound s end es z f = terminals.tables-rounds-sound (Calls d) d (calls-next d) s end f es z
+  tables-rounds-sound s end es z f = terminals.any-tables-rounds-sound (Calls d) d (calls-next d) s end f es z
 
   -- ---- runs are those of the other theorems, where the clear button is not pressed
 

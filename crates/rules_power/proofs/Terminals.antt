@@ -105,27 +105,27 @@ module _ {Answer : Type 0} (Gives : Terminal → Act → Answer → Terminal →
         → Restarts (whole Gives) start es z × Kept (whole Gives) SizedTerminal z end
     whole-restarts es z = day-restarts (whole Gives) SizedTerminal whole-keeps start z s end es (power-on (whole Gives) SizedTerminal whole-keeps s f)
 
-    pub whole-run : (es : List (Event Act Answer)) (z : Terminal) → Day (whole Gives) start s es z end
+    pub any-whole-run : (es : List (Event Act Answer)) (z : Terminal) → Day (whole Gives) start s es z end
         → AsRun (whole Gives) start es z × (found (whole Gives) end ≡ z)
-    whole-run es z days =
+    any-whole-run es z days =
         let r = whole-restarts es z days in (restarts-run (whole Gives) (λ x. refl) start z es (r .0), r .1 .finds)
 
-    pub whole-sound : (es : List (Event Act Answer)) (z : Terminal) → Day (whole Gives) start s es z end
+    pub any-whole-sound : (es : List (Event Act Answer)) (z : Terminal) → Day (whole Gives) start s es z end
         → soundTerminal start ≡ true → soundTerminal z ≡ true
-    whole-sound es z days = restarts-sound (whole Gives) sound-after (λ x h. h) start z es (whole-restarts es z days .0)
+    any-whole-sound es z days = restarts-sound (whole Gives) sound-after (λ x h. h) start z es (whole-restarts es z days .0)
 
     -- whatever the store held before the clear button, or before the first image
-    pub whole-first : (a : Answer) (es : List (Event Act Answer)) (z : Terminal) → Day (whole Gives) start s (told clear a ∷ es) z end
+    pub any-whole-first : (a : Answer) (es : List (Event Act Answer)) (z : Terminal) → Day (whole Gives) start s (told clear a ∷ es) z end
         → soundTerminal z ≡ true
-    whole-first a es z days =
+    any-whole-first a es z days =
         restarts-first (whole Gives) sound-after (λ x h. h) start z clear a es (whole-restarts (told clear a ∷ es) z days .0)
         (λ y. cleared-sound start y a)
 
     -- several inputs are stored at once, and then answered
-    pub whole-rounds : (es : List (Event (List Act) (List Answer))) (z : Terminal) → Day (inRounds (whole Gives)) start s es z end
+    pub any-whole-rounds : (es : List (Event (List Act) (List Answer))) (z : Terminal) → Day (inRounds (whole Gives)) start s es z end
         → AsRun (inRounds (whole Gives)) start es z × (found (whole Gives) end ≡ z)
     unfolding found
-    whole-rounds es z days =
+    any-whole-rounds es z days =
         let m = inRounds (whole Gives) in
         let keeps = rounds-keep (whole Gives) SizedTerminal whole-keeps in
         let r = day-restarts m SizedTerminal keeps start z s end es (power-on m SizedTerminal keeps s f) days in
@@ -140,34 +140,34 @@ module _ {Answer : Type 0} (Gives : Terminal → Act → Answer → Terminal →
     abbrev Good : Terminal → Type 0
     Good x = SizedTables (x .tables)
 
-    pub tables-run : (es : List (Event Act Answer)) (z : Terminal) → Day (tablesAlone Gives) started s es z end
+    pub any-tables-run : (es : List (Event Act Answer)) (z : Terminal) → Day (tablesAlone Gives) started s es z end
         → Restarts (tablesAlone Gives) started es z × (found (tablesAlone Gives) end ≡ nothingWaits z)
-    tables-run es z days =
+    any-tables-run es z days =
         let r = day-restarts (tablesAlone Gives) Good tables-keep started z s end es (power-on (tablesAlone Gives) Good tables-keep s f) days in
         (r .0, r .1 .finds)
 
-    pub tables-sound : (es : List (Event Act Answer)) (z : Terminal) → Day (tablesAlone Gives) started s es z end
+    pub any-tables-sound : (es : List (Event Act Answer)) (z : Terminal) → Day (tablesAlone Gives) started s es z end
         → soundTerminal started ≡ true → soundTerminal z ≡ true
-    tables-sound es z days = restarts-sound (tablesAlone Gives) sound-after nothing-sound started z es (tables-run es z days .0)
+    any-tables-sound es z days = restarts-sound (tablesAlone Gives) sound-after nothing-sound started z es (any-tables-run es z days .0)
 
-    pub tables-first : (a : Answer) (es : List (Event Act Answer)) (z : Terminal) → Day (tablesAlone Gives) started s (told clear a ∷ es) z end
+    pub any-tables-first : (a : Answer) (es : List (Event Act Answer)) (z : Terminal) → Day (tablesAlone Gives) started s (told clear a ∷ es) z end
         → soundTerminal z ≡ true
-    tables-first a es z days =
-        restarts-first (tablesAlone Gives) sound-after nothing-sound started z clear a es (tables-run (told clear a ∷ es) z days .0)
+    any-tables-first a es z days =
+        restarts-first (tablesAlone Gives) sound-after nothing-sound started z clear a es (any-tables-run (told clear a ∷ es) z days .0)
         (λ y. cleared-sound started y a)
 
     -- several inputs are stored at once, and then answered
-    pub tables-rounds : (es : List (Event (List Act) (List Answer))) (z : Terminal) → Day (inRounds (tablesAlone Gives)) started s es z end
+    pub any-tables-rounds : (es : List (Event (List Act) (List Answer))) (z : Terminal) → Day (inRounds (tablesAlone Gives)) started s es z end
         → Restarts (inRounds (tablesAlone Gives)) started es z × (found (tablesAlone Gives) end ≡ nothingWaits z)
     unfolding found
-    tables-rounds es z days =
+    any-tables-rounds es z days =
         let m = inRounds (tablesAlone Gives) in
         let keeps = rounds-keep (tablesAlone Gives) Good tables-keep in
         let r = day-restarts m Good keeps started z s end es (power-on m Good keeps s f) days in
         (r .0, r .1 .finds)
 
-    pub tables-rounds-sound : (es : List (Event (List Act) (List Answer))) (z : Terminal) → Day (inRounds (tablesAlone Gives)) started s es z end
+    pub any-tables-rounds-sound : (es : List (Event (List Act) (List Answer))) (z : Terminal) → Day (inRounds (tablesAlone Gives)) started s es z end
         → soundTerminal started ≡ true → soundTerminal z ≡ true
-    tables-rounds-sound es z days =
+    any-tables-rounds-sound es z days =
         restarts-sound (inRounds (tablesAlone Gives)) (run-keeps (tablesAlone Gives) (λ x. soundTerminal x ≡ true) sound-after) nothing-sound started z es
-        (tables-rounds es z days .0)
+        (any-tables-rounds es z days .0)

@@ -40,7 +40,7 @@ tablesIn bytes = record {
 }
 
 unfoldable pub terminalIn : List ℕ → Terminal
-terminalIn bytes = terminal (tablesIn bytes) (field queueSize 2172 bytes)
+terminalIn bytes = terminal (tablesIn bytes) (field queueSize tablesSize bytes)
 
 -- ---- the lengths of the struct's arrays
 

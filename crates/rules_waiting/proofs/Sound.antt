@@ -204,6 +204,6 @@ sound-next d x (direct q) h =
     (sound-after d (x .tables) q _ _ (s .tables) (s .two) (s .keeps) (s .apart))))
     (λ n e. rw (e, next) h)
 
-pub run-sound : (d : Defaults) (x : Terminal) (is : List Input) → soundTerminal x ≡ true → soundTerminal (final (next d) x is) ≡ true
-run-sound d x [] h = h
-run-sound d x (i ∷ is) h = run-sound d (next d x i) is (sound-next d x i h)
+pub inputs-sound : (d : Defaults) (x : Terminal) (is : List Input) → soundTerminal x ≡ true → soundTerminal (final (next d) x is) ≡ true
+inputs-sound d x [] h = h
+inputs-sound d x (i ∷ is) h = inputs-sound d (next d x i) is (sound-next d x i h)

@@ -11,6 +11,7 @@ use Rattle.rules.specs.declared.Check.{Check}
 use Rattle.rules.specs.declared.Check.the-variants.{Pass, Refuse}
 use Rattle.rules.specs.declared.Action.{Action}
 use Rattle.rules.specs.Kinds.{onMove}
+use Rattle.rules.specs.States.{reset}
 use Rattle.rules.specs.Record.{Request, received}
 use Rattle.rules.specs.Tables.{rows, sound}
 use Rattle.rules.specs.Defaults.{Defaults, fresh}
@@ -88,7 +89,7 @@ handedIn x r = handInOf x r (verdict (handInChecks x r))
 -- ---- what a judged record leaves of the queue
 
 abbrev pub isReset : Action → Bool
-isReset = onMove (λ target. eqb target 0) false
+isReset = onMove (λ target. eqb target reset) false
 
 -- a permitted record that gives the fresh tables
 unfoldable pub clears : Defaults → Tables → Request → Bool
