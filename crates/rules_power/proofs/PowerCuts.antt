@@ -105,7 +105,7 @@ module _ (d : Defaults) where
   calls-meet : (x y : Terminal) (i : Input) (c : Call) → Calls d x (input i) c y → Meets d x i c × (y ≡ left c)
   calls-meet x y i c (acted.gives _ _ _ m) = (m, refl)
 
-  -- whatever is stored; so of a round where the tables alone are
+  -- whatever is stored; so of a round
   module _ (m : Machine Terminal Act Call) (gives : (x y : Terminal) (act : Act) (c : Call) → m .Gives x act c y → Calls d x act c y) where
     pub run-built : (x z : Terminal) (is : List Input) (cs : List Call) → Run m x (map input is) cs z → Built d x is cs × (z ≡ handedBack x cs)
     run-built x z [] cs day.none = (tt, refl)
@@ -141,10 +141,12 @@ module _ (d : Defaults) where
   all-inputs acts rs es (day.left-out {es = later} act seen) h = all-inputs acts rs later seen (and-right (isInput act) (noClear later) h)
   all-inputs acts rs es (day.unseen {es = later} seen) h = all-inputs acts rs later seen h
 
-  pub as-calls : (x z : Terminal) (es : List (Event Act Call)) → AsRun byCalls x es z → noClear es ≡ true → AsCalls x es z
-  as-calls x z es r h =
+  -- whatever is stored: so of a day with what waits stored, and with the tables alone of each stretch without a cut
+  pub as-calls : (m : Machine Terminal Act Call) → ((x y : Terminal) (act : Act) (c : Call) → m .Gives x act c y → Calls d x act c y)
+      → (x z : Terminal) (es : List (Event Act Call)) → AsRun m x es z → noClear es ≡ true → AsCalls x es z
+  as-calls m gives x z es r h =
       let e = all-inputs (r .inputs) (r .replies) es (r .seen) h in
-      let b = run-built byCalls (λ x y act c g. g) x z (inputsOf (r .inputs)) (r .replies) (rw e (r .run)) in
+      let b = run-built m gives x z (inputsOf (r .inputs)) (r .replies) (rw e (r .run)) in
       record { inputs = inputsOf (r .inputs); calls = r .replies; built = b .0; ends = b .1; seen = rw e (r .seen) }
 
   -- so demand 3 holds across power cuts: the book is fed the records as they were handed in or waited at the start
