@@ -1,5 +1,5 @@
 -- What a decision that passes says of the record: it passed every check, so the outcome is its effect.
-use Rattle.rows.proofs.Prelude.{_≡_, refl, sym, ap, ap₂, _∙_, Bool, true, false, not, cond, List, [], _∷_, _++_, ℕ, _≤_, length, ltb-false}
+use Rattle.rows.proofs.Prelude.{_≡_, refl, sym, ap, ap₂, _∙_, Bool, true, false, not, List, [], _∷_, _++_, ℕ, _≤_, length, ltb-false}
 use Rattle.rows.specs.Rows.{Row}
 use Rattle.text.specs.Buffer.{Puts}
 use Rattle.text.proofs.Buffers.{written-start}
@@ -9,7 +9,7 @@ use Rattle.rules.specs.declared.Decision.{Decision}
 use Rattle.rules.specs.declared.Caller.{Caller}
 use Rattle.rules.specs.declared.StoreRange.{StoreRange}
 use Rattle.rules.specs.declared.Links.{Links}
-use Rattle.rules.specs.Record.{Request, headerOf, body, payloadOf, sender}
+use Rattle.rules.specs.Record.{Request, headerOf, body, passedOn, payloadOf, sender}
 use Rattle.rules.specs.Tables.{rows, headOf, sound}
 use Rattle.rules.specs.Defaults.{Defaults}
 use Rattle.rules.specs.Permission.{permission, senderRow}
@@ -58,9 +58,8 @@ module _ (t : Tables) (q : Request) (g : Decision) (is : g ≡ decided t q) (pas
   pub reply-as : replyTo (q .clock) t (callerRow t (g .caller)) (g .caller .header) ≡ replyOf (q .clock) t (q .bytes)
   reply-as = ap₂ (λ (w : Row) (k : Caller). replyTo (q .clock) t w (k .header)) row-is caller-is
 
-  pub payload-as : (b : List ℕ) → b ≡ body (q .bytes) → length (cond (g .caller .header .resource .configuration) [] b) ≡ length (payloadOf (q .bytes))
-  unfolding payloadOf
-  payload-as b e = ap₂ (λ (k : Caller) (l : List ℕ). length (cond (k .header .resource .configuration) [] l)) caller-is e
+  pub payload-as : (b : List ℕ) → b ≡ body (q .bytes) → length (passedOn (g .caller .header) b) ≡ length (payloadOf (q .bytes))
+  payload-as b e = ap₂ (λ (k : Caller) (l : List ℕ). length (passedOn (k .header) l)) caller-is e
 
   pub action-is : g .action ≡ action (q .bytes)
   action-is = ap (λ (x : Decision). x .action) granted-is
@@ -82,7 +81,7 @@ module _ (t : Tables) (q : Request) (g : Decision) (is : g ≡ decided t q) (pas
       actionChecks (q .clock) t own (permission (q .clock) t (q .bytes)) (headerOf (q .bytes)) (body (q .bytes)) (action (q .bytes))
 
   abbrev room-checks : List (ℕ × Bool)
-  room-checks = roomChecks (q .room) (replyOf (q .clock) t (q .bytes))
+  room-checks = roomChecks (q .room) (length (replyOf (q .clock) t (q .bytes)))
 
   -- the checks of the state and of the rows
   pub rows-pass : verdict (stateChecks (headOf t) (g .action) ++ rowChecks (q .clock) t own (body (q .bytes)) (g .action)) ≡ Pass

@@ -13,8 +13,9 @@ use Rattle.rules.specs.Action.{action}
 use Rattle.rules.specs.Decision.{decided}
 use Rattle.rules.specs.Outcome.{Outcome, tablesAfter, effectBy}
 use Rattle.rules_waiting.specs.Slots.{Round, queueOf, emptyQueue}
-use Rattle.rules_waiting.specs.Round.{seats, orphaned, heldRound}
-use Rattle.rules_waiting.specs.Terminal.{isReset, clears, sameCount, queueAfter}
+use Rattle.rules_waiting.specs.Round.{seats, sameSeats, orphaned, heldRound}
+use Rattle.rules_waiting.specs.Terminal.{isReset, clears, queueAfter}
+use Rattle.rules_waiting.proofs.RowsMoved.{sameCount, count-tells}
 use Rattle.execute.proofs.Laws.{action-is, passes}
 
 module _ (t : Tables) (q : Request) (g : Decision) (is : g ≡ decided t q) (pass : g .check ≡ Pass) (h : sound t ≡ true) where
@@ -36,11 +37,19 @@ module _ (t : Tables) (q : Request) (g : Decision) (is : g ≡ decided t q) (pas
     cleared-queue e = sym (rw (clears-is d ∙ sym told ∙ e))
 
     module _ (e : over ≡ false) where
+      stays : clears d t q ≡ false
+      stays = clears-is d ∙ sym told ∙ e
+
+      -- the number of rows tells whether one was added or removed
+      tells : sameSeats (seats t) (seats (tablesAfter d t q)) ≡ eqb (t .ncreds) (u .ncreds)
+      unfolding sameCount
+      tells = count-tells d t q h stays ∙ ap (λ (v : Tables). eqb (t .ncreds) (v .ncreds)) (sym after)
+
       pub same-queue : u .ncreds ≡ t .ncreds → queueOf k ws ≡ queueAfter d t q k ws
-      unfolding queueAfter sameCount
-      same-queue n = sym (rw (clears-is d ∙ sym told ∙ e, ← after, eq-eqb (t .ncreds) (u .ncreds) (sym n)))
+      unfolding queueAfter
+      same-queue n = sym (rw (stays, tells ∙ eq-eqb (t .ncreds) (u .ncreds) (sym n)))
 
       pub moved-queue : (u .ncreds ≡ t .ncreds → ⊥)
           → queueOf (heldRound (seats u) (heldRound (seats t) k)) (without (orphaned (seats u)) ws) ≡ queueAfter d t q k ws
-      unfolding queueAfter sameCount
-      moved-queue n = sym (rw (clears-is d ∙ sym told ∙ e, ← after, ne-eqb (t .ncreds) (u .ncreds) (λ f. n (sym f))))
+      unfolding queueAfter
+      moved-queue n = sym (rw (stays, tells ∙ ne-eqb (t .ncreds) (u .ncreds) (λ f. n (sym f)), ← after))

@@ -14,11 +14,10 @@ use rules::Header;
 use rules::Judgement;
 use rules_waiting::QUEUE;
 ghost use mathlib.Core.Path.{_≡_};
-ghost use mathlib.Core.Bool.{true, cond};
-ghost use mathlib.Core.List.{[]};
+ghost use mathlib.Core.Bool.{true};
 ghost use lib.ListN.{length};
 ghost use Rattle.rules.specs.declared.Check.the-variants.{Pass};
-ghost use Rattle.rules.specs.Record.{received};
+ghost use Rattle.rules.specs.Record.{received, passedOn};
 ghost use Rattle.rules.specs.Tables.{sound};
 ghost use Rattle.rules.specs.Defaults.{defaults};
 ghost use Rattle.rules.specs.Decision.{decided};
@@ -30,7 +29,7 @@ ghost use Rattle.queue.specs.Queue.{IsQueue};
 
 // The bytes that a permitted record passes on: its body, where the resource is an application's.
 fn payload_length(header: Header, b: &[u8]) -> usize
-    ensures { λ r. ⌜ r ≡ length (cond (header .resource .configuration) [] (was b)) ⌝ }
+    ensures { λ r. ⌜ r ≡ length (passedOn header (was b)) ⌝ }
 {
     let e = header.resource;
     if e.configuration {

@@ -24,7 +24,6 @@ use text::put_byte;
 ghost use mathlib.Core.Path.{_≡_};
 ghost use mathlib.Core.List.{map};
 ghost use Prim.Native.Nat.{_*_, _≤_};
-ghost use lib.Dec.{ltb};
 ghost use lib.ListN.{length};
 ghost use Rattle.text.specs.Buffer.{Puts};
 ghost use Rattle.rows.specs.Rows.{rowsOf, joined};
@@ -34,7 +33,7 @@ ghost use Rattle.rules.specs.Tables.{rows};
 ghost use Rattle.rules.specs.Checks.{refuseIf};
 ghost use Rattle.rules.specs.Callers.{callerRow};
 ghost use Rattle.rules.specs.Roles.{bodyOf};
-ghost use Rattle.rules.specs.Reading.{ownBody, rowBytes, contents, reads, replyTo};
+ghost use Rattle.rules.specs.Reading.{ownBody, rowBytes, contents, reads, replyTo, tooShort};
 ghost use Rattle.rules.specs.Words.{was, became, before};
 
 fn put_owner(out: &mut [u8], at: usize, h: Head) -> usize
@@ -167,7 +166,7 @@ pub fn reply_length<'a>(
 // Check 15: the reply does not fit the buffer.
 // Rules out: 15 where it fits exactly; 15 for a record without a reply.
 pub fn check_capacity(capacity: usize, length: usize) -> Check
-    ensures { λ c. ⌜ c ≡ refuseIf 15 (ltb capacity length) ⌝ }
+    ensures { λ c. ⌜ c ≡ refuseIf 15 (tooShort capacity length) ⌝ }
 {
     Check::refuse_if(15, capacity < length)
 }

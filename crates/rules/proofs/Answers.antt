@@ -31,7 +31,7 @@ unfolding badLength
 long-enough r e = ltb-false (length r) 4 (or-left (ltb (length r) 4) (ltb 256 (length r)) e)
 
 -- a reply of no bytes fits any buffer
-pub no-reply-fits : (t : Tables) (q : Request) → reads (headerOf (q .bytes)) ≡ false → tooShort (q .room) (replyOf (q .clock) t (q .bytes)) ≡ false
+pub no-reply-fits : (t : Tables) (q : Request) → reads (headerOf (q .bytes)) ≡ false → tooShort (q .room) (length (replyOf (q .clock) t (q .bytes))) ≡ false
 unfolding tooShort replyTo
 no-reply-fits t q e = rw e (le-ltb (q .room) 0 (omega arith))
 

@@ -101,7 +101,7 @@ reply-short clock t w n h l =
     simp length-append (omega (arith, parts-short clock t w n h l, length-take 16 (drop (n * 16) (t .rowners))))
 
 -- so a record with a buffer of that length never gets 15
-pub room-enough : (clock : ℕ) (t : Tables) (r : List ℕ) → sound t ≡ true → length (t .devowner) ≡ 16 → tooShort 1168 (replyOf clock t r) ≡ false
+pub room-enough : (clock : ℕ) (t : Tables) (r : List ℕ) → sound t ≡ true → length (t .devowner) ≡ 16 → tooShort 1168 (length (replyOf clock t r)) ≡ false
 unfolding tooShort replyTo
 room-enough clock t r h l =
     cond-cases (λ (reply : List ℕ). ltb 1168 (length reply) ≡ false) (reads (headerOf r))

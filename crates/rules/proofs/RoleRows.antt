@@ -186,5 +186,5 @@ module _ (d : Defaults) (t : Tables) (q : Request) (updates : verb (q .bytes) �
       let asked = roles-action r updates on in
       let is : action r ≡ Assert c = asked ∙ asserts-role c b (ap isMalformed (sym asked) ∙ passed (earlier t p r) e 10) in
       answer-is d t q
-      ∙ ap numberOf (sym (skip-all (earlier t p r) (rowChecks (q .clock) t own b (action r) ++ roomChecks (q .room) (replyOf (q .clock) t r)) refl e refl))
+      ∙ ap numberOf (sym (skip-all (earlier t p r) (rowChecks (q .clock) t own b (action r) ++ roomChecks (q .room) (length (replyOf (q .clock) t r))) refl e refl))
       ∙ rw (is, no-reply-fits t q unread) (bool-cases (bothTaken b (rolesInForce (q .clock) own)) (λ x. rw x) (λ x. rw x))

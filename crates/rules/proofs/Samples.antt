@@ -8,7 +8,7 @@ use Rattle.rules.specs.declared.Tables.{Tables}
 use Rattle.rules.specs.declared.Table.the-variants.{Creds, Aces}
 use Rattle.rules.specs.Bits.{bit, bits, be16}
 use Rattle.rules.specs.Directory.{entryOf}
-use Rattle.rules.specs.Record.{Request, received, sender, payloadOf}
+use Rattle.rules.specs.Record.{Request, received, sender, passedOn}
 use Rattle.rules.specs.Bodies.{nil, isNil, ownerBody, stateBody, credStorable, credRowOf, setKnown, subjectStorable, aceStorable, everySecond, aceRowOf}
 use Rattle.rules.specs.Roles.{noRole, free, sameRole, unasserted, rolesInForce, rolesSound, credHeld, withRole, bothTaken, asserted}
 use Rattle.rules.specs.Tables.{rowsIn, withRows, rowsSound, headSound, sound, empty, rowOwner, withOwner, withState}
@@ -29,7 +29,7 @@ use Rattle.rules.specs.Run.{replies}
 -- `unfolding definitions` opens all that its own line names
 unfoldable pub definitions : Unit {0}
 unfolding ones onesIn rowsBefore gapOf rowsOf joined packed allZero same hasKey numberedAs placeFrom firstRow some every without
-    distinctNumbers stored unionOf withRow bit bits has entryOf be16 sender payloadOf nil isNil ownerBody stateBody credStorable
+    distinctNumbers stored unionOf withRow bit bits has entryOf be16 sender passedOn nil isNil ownerBody stateBody credStorable
     credRowOf noRole free sameRole rolesInForce rolesSound credHeld withRole bothTaken asserted setKnown subjectStorable aceStorable
     everySecond aceRowOf rowsIn rowsSound headSound sound empty goodList defaultRows fresh rowOwner forRole roleFits subjectIs
     subjectFits resourceFits inForce rowFits grants names isOwner byOwner byNoOwner byRoles effectiveOf permissionOf ownBody rowBytes

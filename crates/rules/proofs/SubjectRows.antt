@@ -95,5 +95,5 @@ module _ (d : Defaults) (t : Tables) (q : Request) (asks : deletes Creds (q .byt
       let is-delete = delete-is Creds r asks in
       let i : action r ≡ Remove Creds Subject = is-delete ∙ by-subject b long (ap isMalformed (sym is-delete) ∙ passed (earlier t p r) e 10) in
       answer-is d t q
-      ∙ ap numberOf (sym (skip-all (earlier t p r) (rowChecks (q .clock) t (senderRow t (sender r)) b (action r) ++ roomChecks (q .room) (replyOf (q .clock) t r)) refl e refl))
+      ∙ ap numberOf (sym (skip-all (earlier t p r) (rowChecks (q .clock) t (senderRow t (sender r)) b (action r) ++ roomChecks (q .room) (length (replyOf (q .clock) t r))) refl e refl))
       ∙ rw (i, key-subject b long, no-reply-fits t q unread) (bool-cases some-has (λ x. rw x) (λ x. rw x))

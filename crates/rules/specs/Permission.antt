@@ -1,6 +1,6 @@
 -- 'Permission': the effective permission of a sender on a resource.
 -- A sender's credential row is the one with its number; where there is none, its bytes are none.
-use Prim.Native.Nat.{ℕ, _/_, _%_}
+use Prim.Native.Nat.{ℕ, _+_, _/_, _%_}
 use mathlib.Core.Bool.{Bool, false, not, _&&_, _||_, cond}
 use mathlib.Core.List.{List, [], _∷_}
 use lib.Bits.{bitOr}
@@ -139,7 +139,7 @@ byNoOwner h e = cond (e .configuration && eqb (h .owned) 0) all 0
 -- ---- 4. every partner on /oic/sec/roles: R and U (U11)
 
 unfoldable pub byRoles : ℕ → Resource → ℕ
-byRoles connection e = cond (eqb (e .number) roles && eqb connection 1) 6 0
+byRoles connection e = cond (eqb (e .number) roles && eqb connection 1) (R + U) 0
 
 -- ---- the union
 

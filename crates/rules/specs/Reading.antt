@@ -47,9 +47,9 @@ replyTo clock t w h = cond (reads h) (contents clock t w (h .resource .number)) 
 abbrev pub replyOf : ℕ → Tables → List ℕ → List ℕ
 replyOf clock t r = replyTo clock t (senderRow t (sender r)) (headerOf r)
 
--- the buffer is shorter than the reply
-unfoldable pub tooShort : ℕ → List ℕ → Bool
-tooShort room reply = ltb room (length reply)
+-- the buffer is shorter than a reply of this length
+unfoldable pub tooShort : ℕ → ℕ → Bool
+tooShort room long = ltb room long
 
 -- the lent buffer afterwards: the reply, and then what stood there
 unfoldable pub filled : List ℕ → List ℕ → List ℕ

@@ -14,7 +14,7 @@ use Rattle.rules.specs.declared.Action.{Action}
 use Rattle.rules.specs.Keys.{goes}
 use Rattle.rules.specs.Kinds.{onRemove}
 use Rattle.rules.specs.Directory.{cred, acl2}
-use Rattle.rules.specs.Record.{verb, resource}
+use Rattle.rules.specs.Record.{delete, verb, resource}
 use Rattle.rules.specs.Tables.{rows}
 
 abbrev pub noRange : StoreRange
@@ -32,8 +32,8 @@ storeRangeOf t b = onRemove (λ k key. gapOf (goes key b) (rows k t)) noRange
 
 -- DELETE of the resource that holds the table's rows
 unfoldable pub deletes : Table → List ℕ → Bool
-deletes Creds r = eqb (verb r) 3 && eqb (resource r) cred
-deletes Aces r = eqb (verb r) 3 && eqb (resource r) acl2
+deletes Creds r = eqb (verb r) delete && eqb (resource r) cred
+deletes Aces r = eqb (verb r) delete && eqb (resource r) acl2
 
 -- the memory that wears, of rows of `stride` bytes: the old bytes, overwritten with the new ones at these places and nowhere else
 unfoldable pub overwritten : ℕ → StoreRange → List ℕ → List ℕ → List ℕ

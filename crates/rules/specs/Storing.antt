@@ -8,7 +8,7 @@ use Rattle.rows.specs.Rows.{Row}
 use Rattle.rules.specs.declared.Tables.{Tables}
 use Rattle.rules.specs.declared.Table.{Table}
 use Rattle.rules.specs.declared.Check.the-variants.{Pass}
-use Rattle.rules.specs.Record.{Request, verb, resource, body}
+use Rattle.rules.specs.Record.{Request, retrieve, update, verb, resource, body}
 use Rattle.rules.specs.Tables.{headOf, count, rows, withRows, sound}
 use Rattle.rules.specs.Defaults.{Defaults}
 use Rattle.rules.specs.Permission.{U, has, permission}
@@ -22,7 +22,7 @@ use Rattle.rules.specs.declared.Table.the-variants.{Creds}
 
 -- a permitted RETRIEVE of the table's resource
 pub record Retrieves (d : Defaults) (k : Table) (t : Tables) (q : Request) : Type 0 where
-  pub retrieves : verb (q .bytes) ≡ 1
+  pub retrieves : verb (q .bytes) ≡ retrieve
   pub on : resource (q .bytes) ≡ holder k
   pub permitted : responseTo d t q .answer ≡ 0
 
@@ -35,7 +35,7 @@ pub record TakesRows (k : Table) (t : Tables) : Type 0 where
 -- an UPDATE of the table's resource with this body, which passes 2 to 7, by one who may
 pub record MayStore (k : Table) (t : Tables) (q : Request) (b : List ℕ) : Type 0 where
   pub passes : verdict (senderChecks (rows Creds t) (q .bytes)) ≡ Pass
-  pub updates : verb (q .bytes) ≡ 2
+  pub updates : verb (q .bytes) ≡ update
   pub on : resource (q .bytes) ≡ holder k
   pub may : has (permission (q .clock) t (q .bytes)) U ≡ true
   pub carries : body (q .bytes) ≡ b

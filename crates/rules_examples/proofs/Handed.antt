@@ -1,9 +1,8 @@
 -- The theorems over hand-ins and takes are not empty: a morning at the yard, by computation. The owner has row 5, hauliers have rows 7 and 9.
 -- A record of 9 waits at the start. Partner 7 and the unauthenticated senders are chosen, and hand in whenever they can.
-use Rattle.rows.proofs.Prelude.{_≡_, refl, ap₂, Bool, true, false, not, _&&_, _||_, List, [], _∷_, _++_, map, ℕ, zero, suc, _+_, arith, contradiction, not-true}
+use Rattle.rows.proofs.Prelude.{_≡_, refl, Bool, true, false, not, _&&_, _||_, List, [], _∷_, _++_, map, ℕ, zero, suc, _+_, arith, not-true}
 use Rattle.rows.proofs.Prelude.{replicate, and-left, and-right, or-not-left}
 use Rattle.rows.specs.Rows.{same, some}
-use Rattle.rows.proofs.Kept.{same-true}
 use Rattle.rules.specs.declared.Tables.{Tables}
 use Rattle.rules.specs.Directory.{someSecurity}
 use Rattle.rules.specs.Record.{received}
@@ -13,10 +12,11 @@ use Rattle.rules.specs.Run.{kept, final}
 use Rattle.rules.specs.Isolation.{namesOwner, rowAlters, mayFit, mayAlter}
 use Rattle.rules.proofs.Samples.{samples, credRow, aceRow, weight, haulier, haulierRow, connected, serving, withCreds, yard}
 use Rattle.rules_waiting.specs.Slots.{anew, after, slotOf, queueOf, emptyQueue}
-use Rattle.rules_waiting.specs.Round.{seats}
+use Rattle.rules_waiting.specs.Round.{seats, sameSeats}
 use Rattle.rules_waiting.specs.Terminal.{Terminal, terminal, Transition}
 use Rattle.rules_waiting.specs.Inputs.{Input, handIn, takeAt, next, othersTurn, turns, recordsIn, countOf}
 use Rattle.rules_waiting.proofs.Isolated.{Premises, AsTheBook, turns-isolated}
+use Rattle.rules_waiting.proofs.RowsMoved.{seats-are}
 use Rattle.rules_waiting.proofs.Built.{Call, handedBack}
 use Rattle.rules_waiting.proofs.Shown.{allShown}
 use Rattle.rules_handed.specs.Events.{sentBy, newestOf, gathered}
@@ -102,25 +102,12 @@ dropping-requests = refl
 
 -- ---- no credential row comes or goes, and the tables are not cleared: as a test
 
-unfoldable pub sameAll : List (List ℕ) → List (List ℕ) → Bool
-sameAll [] [] = true
-sameAll [] (q ∷ qs) = false
-sameAll (p ∷ ps) [] = false
-sameAll (p ∷ ps) (q ∷ qs) = same p q && sameAll ps qs
-
-same-all : (ps qs : List (List ℕ)) → sameAll ps qs ≡ true → ps ≡ qs
-unfolding sameAll
-same-all [] [] e = refl
-same-all [] (q ∷ qs) e = contradiction e refl
-same-all (p ∷ ps) [] e = contradiction e refl
-same-all (p ∷ ps) (q ∷ qs) e = ap₂ (λ (a : List ℕ) (l : List (List ℕ)). a ∷ l) (same-true p q (and-left _ _ e)) (same-all ps qs (and-right (same p q) _ e))
-
 unfoldable pub steady : Terminal → Input → Transition → Bool
-steady x i a = sameAll (seats (a .terminal .tables)) (seats (x .tables)) && not (resets i a)
+steady x i a = sameSeats (seats (a .terminal .tables)) (seats (x .tables)) && not (resets i a)
 
 is-steady : (x : Terminal) (i : Input) (a : Transition) → steady x i a ≡ true → Steady x i a
 unfolding steady
-is-steady x i a e = (same-all _ _ (and-left _ _ e), not-true _ (and-right (sameAll (seats (a .terminal .tables)) (seats (x .tables))) _ e))
+is-steady x i a e = (seats-are _ _ (and-left _ _ e), not-true _ (and-right (sameSeats (seats (a .terminal .tables)) (seats (x .tables))) _ e))
 
 -- throughout
 unfoldable pub steadyAll : Terminal → List Input → List Transition → Bool
@@ -164,7 +151,7 @@ pressedCalls = callsAt noDefaults opened (handIn (ask 0x32 9) ∷ pressed 25)
 -- the second take hands it out: nothing is asked of that take and of what comes later
 pub pressed-served : some (same (ask 0x32 9)) (gathered recordTaken (pressed 25)
     (allShown (pressed 25) (callsAt noDefaults (next noDefaults opened (handIn (ask 0x32 9))) (pressed 25)))) ≡ true
-unfolding flooding pressed opened steadyFor steady sameAll
+unfolding flooding pressed opened steadyFor steady
 pressed-served =
     let is = pressed 25 in
     let x = next noDefaults opened (handIn (ask 0x32 9)) in
@@ -181,14 +168,14 @@ unfoldable pub takesAlone : List Input
 takesAlone = replicate 25 (takeAt 0 0)
 
 pub reset-served : some (same resetting) (gathered recordTaken takesAlone (allShown takesAlone (callsAt noDefaults resetWaits takesAlone))) ≡ true
-unfolding flooding resetting resetWaits takesAlone steadyFor steady sameAll
+unfolding flooding resetting resetWaits takesAlone steadyFor steady
 reset-served =
     let cs = callsAt noDefaults resetWaits takesAlone in
     built-served noDefaults resetWaits takesAlone cs (calls-built noDefaults resetWaits takesAlone) refl resetting refl
     (is-quiet-for resetting resetWaits takesAlone (allShown takesAlone cs) refl) (omega arith)
 
 pub reset-disturbs : steadyAll resetWaits takesAlone (allShown takesAlone (callsAt noDefaults resetWaits takesAlone)) ≡ false
-unfolding flooding resetting resetWaits takesAlone steadyAll steady sameAll
+unfolding flooding resetting resetWaits takesAlone steadyAll steady
 reset-disturbs = refl
 
 -- ---- none is lost: the morning of Waiting, with a hand-in too many, a sender without a row, and a take too many
@@ -197,7 +184,7 @@ pub morning-none-lost : (p : List ℕ → Bool)
     → countOf p (gathered recordTaken morning (allShown morning (callsAt noDefaults quiet morning)))
     + countOf p (recordsIn (handedBack quiet (callsAt noDefaults quiet morning)))
     ≡ countOf p (recordsIn quiet) + countOf p (gathered recordKept morning (allShown morning (callsAt noDefaults quiet morning)))
-unfolding flooding quiet morning steadyAll steady sameAll
+unfolding flooding quiet morning steadyAll steady
 morning-none-lost p =
     let cs = callsAt noDefaults quiet morning in
     built-none-lost noDefaults quiet morning cs (calls-built noDefaults quiet morning) refl p (is-quiet quiet morning (allShown morning cs) refl)

@@ -6,15 +6,15 @@ use Rattle.rules.specs.Defaults.{noDefaults}
 use Rattle.rules.specs.Run.{replies}
 use Rattle.rules.proofs.Samples.{samples, credRow, yard}
 use Rattle.rules_waiting.specs.Slots.{anew, after, seatOf, padded, slotOf, recordOf, roundOf, waiting, queueOf, emptyQueue}
-use Rattle.rules_waiting.specs.Round.{seats, held, occupied, start, inTurn, firstInTurn, orphaned}
+use Rattle.rules_waiting.specs.Round.{seats, held, occupied, start, inTurn, firstInTurn, sameSeats, orphaned}
 use Rattle.rules_waiting.specs.Terminal.{Terminal, terminal, slotSound, queueSound, soundTerminal, withRecord}
-use Rattle.rules_waiting.specs.Terminal.{handedIn, clears, sameCount, queueAfter, turn, due, taken, judged}
+use Rattle.rules_waiting.specs.Terminal.{handedIn, clears, queueAfter, turn, due, taken, judged}
 use Rattle.rules_waiting.specs.Inputs.{Input, handIn, takeAt, direct, transition, next, bytesOf, turns}
 
 -- `unfolding waitingDefinitions` opens all that its own line names
 unfoldable pub waitingDefinitions : Unit {0}
 unfolding samples seatOf padded slotOf recordOf roundOf waiting queueOf seats held occupied start inTurn firstInTurn orphaned slotSound queueSound
-    soundTerminal withRecord handedIn clears sameCount queueAfter turn due taken judged
+    soundTerminal withRecord handedIn clears sameSeats queueAfter turn due taken judged
 waitingDefinitions = tt
 
 unfoldable pub quiet : Terminal

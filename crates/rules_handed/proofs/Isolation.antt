@@ -49,12 +49,16 @@ module _ (chosen : Sender → Bool) where
   others-told [] = refl
   others-told (u ∷ us) = bool-cases (isOthers chosen (u .request)) (λ e. rw (e, others-told us)) (λ e. rw (e, others-told us))
 
+-- the book is fed the records of the others that are judged
+pub others-are : (d : Defaults) (chosen : Sender → Bool) (x : Terminal) (is : List Input)
+    → othersOf d chosen x is (answersTo d x is) ≡ map requestOf (kept (othersTurn chosen) (allJudged d x is))
+others-are d chosen x is = ap (kept (isOthers chosen)) (requests-are d x is) ∙ sym (others-requests chosen (allJudged d x is))
+
 pub isolated-handed : (d : Defaults) (chosen : Sender → Bool) (x : Terminal) (is : List Input)
     → BookPremise d chosen x is (answersTo d x is) → Isolated d chosen x is (answersTo d x is) (final (next d) x is)
 isolated-handed d chosen x is premise =
     let us = allJudged d x is in
-    let fed : othersOf d chosen x is (answersTo d x is) ≡ map requestOf (kept (othersTurn chosen) us) =
-    ap (kept (isOthers chosen)) (requests-are d x is) ∙ sym (others-requests chosen us) in
+    let fed = others-are d chosen x is in
     let told : keptOf (isOthers chosen) (requestsOf x is (answersTo d x is)) (allTold is (answersTo d x is)) ≡ map turnTold (kept (othersTurn chosen) us) =
     ap₂ (keptOf (isOthers chosen)) (requests-are d x is) (told-are d x is) ∙ sym (others-told chosen us) in
     let both = isolated d chosen x is (rw fed at premise) in

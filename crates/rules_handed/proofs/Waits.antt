@@ -16,12 +16,12 @@ use Rattle.rules.specs.Outcome.{tablesAfter}
 use Rattle.rules.specs.Run.{final}
 use Rattle.rules.proofs.CheckLaws.{check-cases}
 use Rattle.rules_waiting.specs.Slots.{Seat, Round, anew, after, seatOf, recordOf, roundOf, waiting}
-use Rattle.rules_waiting.specs.Round.{seats, held, orphaned, heldRound}
-use Rattle.rules_waiting.specs.Terminal.{Terminal, slotSound, soundTerminal, handInChecks, handedIn, clears, sameCount, queueAfter, takeChecks, turn, due, taken}
+use Rattle.rules_waiting.specs.Round.{seats, held, sameSeats, orphaned, heldRound}
+use Rattle.rules_waiting.specs.Terminal.{Terminal, slotSound, soundTerminal, handInChecks, handedIn, clears, queueAfter, takeChecks, turn, due, taken}
 use Rattle.rules_waiting.specs.Terminal.{freshTerminal, directChecks, judged}
 use Rattle.rules_waiting.specs.Inputs.{Input, handIn, takeAt, direct, next, transition, turnsAt, bytesOf, clearing, recordsIn, keptAt}
 use Rattle.rules_waiting.proofs.SlotLaws.{TwoLong, slot-key, waiting-back, round-back}
-use Rattle.rules_waiting.proofs.RowsMoved.{seats-same}
+use Rattle.rules_waiting.proofs.RowsMoved.{seats-are}
 use Rattle.rules_waiting.proofs.Sound.{terminal-parts, held-two, turn-is, take-passed, sound-next, fresh-is}
 use Rattle.rules_waiting.proofs.Stays.{direct-ready}
 use Rattle.rules_waiting.proofs.Takes.{reset-fresh}
@@ -148,8 +148,8 @@ module _ (d : Defaults) (t : Tables) (q : Request) (k : Round) (ws : List Row) (
       bool-cases (clears d t q)
       (λ c. rw (c, ← fresh-is, round-back anew [] tt))
       (λ c. rw c
-      (bool-cases (sameCount t t′)
-      (λ e. rw (e, round-back k ws two, seats-same d t q s c e) (sym (held-twice (seats t) k)))
+      (bool-cases (sameSeats (seats t) (seats t′))
+      (λ e. rw (e, round-back k ws two, ← seats-are (seats t) (seats t′) e) (sym (held-twice (seats t) k)))
       (λ e. rw (e, round-back _ (without (orphaned (seats t′)) ws) (held-two t′ (heldRound (seats t) k) (held-two t k two)))
       (held-twice (seats t′) (heldRound (seats t) k)))))
 

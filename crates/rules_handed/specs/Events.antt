@@ -36,6 +36,13 @@ requests rs (enqueued r ∷ es) = requests (r ∷ rs) es
 requests rs (dequeued n clock room ∷ es) = received clock (newestOf n rs) room ∷ requests (without (sentBy n) rs) es
 requests rs (immediate q ∷ es) = q ∷ requests rs es
 
+-- that list after these events
+abbrev pub recordsAfter : List (List ℕ) → List Event → List (List ℕ)
+recordsAfter rs [] = rs
+recordsAfter rs (enqueued r ∷ es) = recordsAfter (r ∷ rs) es
+recordsAfter rs (dequeued n clock room ∷ es) = recordsAfter (without (sentBy n) rs) es
+recordsAfter rs (immediate q ∷ es) = recordsAfter rs es
+
 -- ---- what the answers of a run show
 
 -- the input's record was judged: at a take, not with 1 or 27; at once, not with 1

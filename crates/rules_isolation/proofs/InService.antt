@@ -1,9 +1,10 @@
 -- Theorems, demand 3 in service: the question is asked of the terminal, and not of the book. It is asked at the start,
 -- and again after each permitted record of somebody else that endangers the chosen senders.
 -- Then each part of them, a yard with its hauliers or one haulier, changes nothing for all others.
-use Rattle.rows.proofs.Prelude.{_≡_, refl, sym, _∙_, Bool, true, false, List, [], _∷_, _++_, map, ℕ, _<_, bool-cases, contradiction}
-use Rattle.rows.proofs.Prelude.{subst, cond-cases, or-left, or-right}
-use Rattle.rows.specs.Rows.{Row, some}
+use Rattle.rows.proofs.Prelude.{_≡_, refl, sym, ap, ap₂, _∙_, Bool, true, false, List, [], _∷_, _++_, map, ℕ, _<_, bool-cases, contradiction}
+use Rattle.rows.proofs.Prelude.{subst, cond-cases, or-left, or-right, append-nil, append-cancel-left}
+use mathlib.Core.List.{map-append}
+use Rattle.rows.specs.Rows.{Row, some, without}
 use Rattle.rules.specs.declared.Tables.{Tables}
 use Rattle.rules.specs.declared.Check.the-variants.{Pass}
 use Rattle.rules.specs.declared.Sender.{Sender}
@@ -21,11 +22,17 @@ use Rattle.rules.proofs.SoundKept.{sound-same}
 use Rattle.rules.proofs.Alike.{Small, compared-at, harmless-alike}
 use Rattle.rules.proofs.Isolated.{Related, silent, congruent}
 use Rattle.rules_waiting.specs.Terminal.{Terminal, handInChecks, handedIn, takeChecks, due, taken, directChecks, judged}
-use Rattle.rules_waiting.specs.Inputs.{Input, handIn, takeAt, direct, next, Turn, turnIf, judgedAt, allJudged, requestOf, bytesOf, othersTurn}
-use Rattle.rules_waiting.proofs.Isolated.{others, AsTheBook, isolated}
+use Rattle.rules_waiting.specs.Inputs.{Input, handIn, takeAt, direct, transition, next, Turn, turnIf, judgedAt, allJudged, requestOf, turnTold, bytesOf}
+use Rattle.rules_waiting.specs.Inputs.{othersTurn, recordsIn}
+use Rattle.rules_waiting.proofs.Isolated.{others}
+use Rattle.rules_handed.specs.Events.{Event, enqueued, dequeued, immediate, sentBy, newestOf, requests, recordsAfter, eventOf, toldOf}
+use Rattle.rules_handed.specs.Isolation as handed
+use Rattle.rules_handed.proofs.Judged.{eventAt, events, judged-handed}
+use Rattle.rules_handed.proofs.Seen.{event-seen, told-seen}
+use Rattle.rules_handed.proofs.Isolation.{answersTo, requests-are, told-are, others-are, isolated-handed}
 use Rattle.rules_isolation.specs.declared.Isolation.the-variants.{Isolated}
 use Rattle.rules_isolation.specs.Question.{entries, anonymous, senderOf, sameSender, chosenBy, isolationOf}
-use Rattle.rules_isolation.specs.Service.{endangering, othersEndanger, Again}
+use Rattle.rules_isolation.specs.Service.{endangering, othersEndanger, paired, turnsHanded, Again}
 use Rattle.rules_isolation.proofs.Exact.{same-sender, isolated-harmless}
 use Rattle.rules_isolation.proofs.Kept.{SmallNumbers, harmless-kept}
 
@@ -43,6 +50,13 @@ moves d x (takeAt clock room) =
     (λ e. judges (received clock (due x) room) (rw e) (rw (e, next)))
     (λ n e. idle (rw e) (rw (e, next)))
 moves d x (direct q) = check-cases (verdict (directChecks x)) (λ e. judges q (rw e) (rw (e, next))) (λ n e. idle (rw e) (rw (e, next)))
+
+-- ---- what is asked again: over the definitions
+
+-- after each input by which somebody else endangers the chosen, the tables are such
+abbrev pub AgainAt : Defaults → (Sender → Bool) → (Tables → Type 0) → Terminal → List Input → Type 0
+AgainAt d chosen Such x [] = Unit {0}
+AgainAt d chosen Such x (i ∷ is) = (othersEndanger chosen (judgedAt d x i) ≡ true → Such (next d x i .tables)) × AgainAt d chosen Such (next d x i) is
 
 -- ---- sets of senders
 
@@ -98,16 +112,16 @@ module _ (d : Defaults) (chosen : Sender → Bool) (small : SmallNumbers chosen)
       (λ o. rw o (more b later (rw t (silent d part (x .tables) b q (rw o) now e))))
       (λ o. rw o (now, more (tablesAfter d b q) later (rw t (congruent d part (x .tables) b q (rw o) now e .1)))))
 
-  held-along : (x : Terminal) (is : List Input) → Again d chosen (Premise chosen) x is → Holds (x .tables) (allJudged d x is)
+  held-along : (x : Terminal) (is : List Input) → AgainAt d chosen (Premise chosen) x is → Holds (x .tables) (allJudged d x is)
   held-along x [] a = premise-of (x .tables)
   held-along x (i ∷ is) a = held-step x i (allJudged d (next d x i) is) (moves d x i) (a .0) (held-along (next d x i) is (a .1))
 
-  -- demand 3 for the part
-  pub service : (x : Terminal) (is : List Input) → Premise chosen (x .tables) → Again d chosen (Premise chosen) x is
-      → AsTheBook d part x (others d part x is) (final (next d) x is .tables)
-  service x is p a = isolated d part x is (λ _. held-along x is a (x .tables) p (record { same = refl; sound = refl }))
+  -- the premise of demand 3 for the part
+  pub service : (x : Terminal) (is : List Input) → Premise chosen (x .tables) → AgainAt d chosen (Premise chosen) x is
+      → Along (tablesAfter d) (Premise part) (x .tables) (map requestOf (others d part x is))
+  service x is p a = held-along x is a (x .tables) p (record { same = refl; sound = refl })
 
--- ---- what is asked again
+-- ---- nothing is asked again
 
 module _ (d : Defaults) (chosen : Sender → Bool) where
   endanger-parts : (us vs : List Turn) → othersEndanger chosen (us ++ vs) ≡ false
@@ -123,16 +137,64 @@ module _ (d : Defaults) (chosen : Sender → Bool) where
 
   -- where nobody else endangers the chosen, nothing is asked again
   pub never-again : (Such : Tables → Type 0) (x : Terminal) (is : List Input) → othersEndanger chosen (allJudged d x is) ≡ false
-      → Again d chosen Such x is
+      → AgainAt d chosen Such x is
   never-again Such x [] n = tt
   never-again Such x (i ∷ is) n =
       let both = endanger-parts (judgedAt d x i) (allJudged d (next d x i) is) n in
       ((λ e. contradiction e (both .0)), never-again Such (next d x i) is (both .1))
 
   pub again-map : (Such Other : Tables → Type 0) → ((t : Tables) → Such t → Other t) → (x : Terminal) (is : List Input)
-      → Again d chosen Such x is → Again d chosen Other x is
+      → AgainAt d chosen Such x is → AgainAt d chosen Other x is
   again-map Such Other f x [] a = tt
   again-map Such Other f x (i ∷ is) a = ((λ e. f (next d x i .tables) (a .0 e)), again-map Such Other f (next d x i) is (a .1))
+
+-- ---- what the answers show
+
+pub paired-turns : (us : List Turn) → paired (map requestOf us) (map turnTold us) ≡ us
+paired-turns [] = refl
+paired-turns (u ∷ us) = ap (λ (vs : List Turn). u ∷ vs) (paired-turns us)
+
+-- the records judged are those that were handed in
+pub turns-handed : (d : Defaults) (x : Terminal) (is : List Input) → turnsHanded x is (answersTo d x is) ≡ allJudged d x is
+turns-handed d x is = ap₂ paired (requests-are d x is) (told-are d x is) ∙ paired-turns (allJudged d x is)
+
+requests-append : (rs : List (List ℕ)) (es fs : List Event) → requests rs (es ++ fs) ≡ requests rs es ++ requests (recordsAfter rs es) fs
+requests-append rs [] fs = refl
+requests-append rs (enqueued r ∷ es) fs = requests-append (r ∷ rs) es fs
+requests-append rs (dequeued n clock room ∷ es) fs =
+    ap (λ (qs : List Request). received clock (newestOf n rs) room ∷ qs) (requests-append (without (sentBy n) rs) es fs)
+requests-append rs (immediate q ∷ es) fs = ap (λ (qs : List Request). q ∷ qs) (requests-append rs es fs)
+
+module _ (d : Defaults) (chosen : Sender → Bool) (Such : Tables → Type 0) where
+  -- the requests found with the records rs are those that are judged, whatever comes
+  abbrev Found : Terminal → List (List ℕ) → Type 0
+  Found x rs = (is : List Input) → requests rs (events d x is) ≡ map requestOf (allJudged d x is)
+
+  found-here : (x : Terminal) (rs : List (List ℕ)) (i : Input) → Found x rs → requests rs (eventAt x i) ≡ map requestOf (judgedAt d x i)
+  found-here x rs i f = let e = f (i ∷ []) in rw (append-nil (eventAt x i), append-nil (judgedAt d x i)) at e
+
+  found-next : (x : Terminal) (rs : List (List ℕ)) (i : Input) → Found x rs → Found (next d x i) (recordsAfter rs (eventAt x i))
+  found-next x rs i f is =
+      let after = recordsAfter rs (eventAt x i) in
+      append-cancel-left (map requestOf (judgedAt d x i)) _ _
+      (ap (λ (qs : List Request). qs ++ requests after (events d (next d x i) is)) (sym (found-here x rs i f))
+      ∙ sym (requests-append rs (eventAt x i) (events d (next d x i) is))
+      ∙ f (i ∷ is)
+      ∙ map-append requestOf (judgedAt d x i) (allJudged d (next d x i) is))
+
+  again-found : (x : Terminal) (rs : List (List ℕ)) (is : List Input) → Found x rs → Again chosen Such rs is (answersTo d x is) → AgainAt d chosen Such x is
+  again-found x rs [] f a = tt
+  again-found x rs (i ∷ is) f a =
+      let us = judgedAt d x i in
+      let turn : paired (requests rs (eventOf i (transition d x i))) (toldOf i (transition d x i)) ≡ us =
+      ap₂ paired (ap (requests rs) (event-seen d x i) ∙ found-here x rs i f) (told-seen d x i) ∙ paired-turns us in
+      ((rw turn at (a .0)), again-found (next d x i) _ is (found-next x rs i f) (rw (event-seen d x i) at (a .1)))
+
+  pub again-handed : (x : Terminal) (is : List Input) → Again chosen Such (recordsIn x) is (answersTo d x is) → AgainAt d chosen Such x is
+  again-handed x is = again-found x (recordsIn x) is (judged-handed d x)
+
+  pub never-handed : (x : Terminal) (is : List Input) → othersEndanger chosen (turnsHanded x is (answersTo d x is)) ≡ false → AgainAt d chosen Such x is
+  never-handed x is n = never-again d chosen Such x is (rw (turns-handed d x is) at n)
 
 -- ---- the senders of a list
 
@@ -155,15 +217,21 @@ list-small list n h = some-small n (entries list) h
 
 module _ (d : Defaults) (list : List ℕ) (x : Terminal) (is : List Input) (asked : isolationOf (x .tables) list ≡ Isolated)
     (part : Sender → Bool) (within : Within part (chosenBy list)) where
+  abbrev PartAlone : Type 0
+  PartAlone = handed.Isolated d part x is (answersTo d x is) (final (next d) x is)
+
+  part-alone : AgainAt d (chosenBy list) (λ t. isolationOf t list ≡ Isolated) x is → PartAlone
+  part-alone a =
+      isolated-handed d part x is
+      (λ _. rw (others-are d part x is)
+      (service d (chosenBy list) (list-small list) part within x is (λ _. isolated-harmless (x .tables) list asked .2)
+      (again-map d (chosenBy list) _ (Premise (chosenBy list)) (λ t e _. isolated-harmless t list e .2) x is a)))
+
   -- a list answered 'isolated', and again after each input by which somebody else endangers it: what any part of the list sends, all of it or
-  -- one haulier, changes nothing for the others, the rest of the list among them
-  pub in-service : Again d (chosenBy list) (λ t. isolationOf t list ≡ Isolated) x is
-      → AsTheBook d part x (others d part x is) (final (next d) x is .tables)
-  in-service a =
-      service d (chosenBy list) (list-small list) part within x is (λ _. isolated-harmless (x .tables) list asked .2)
-      (again-map d (chosenBy list) _ (Premise (chosenBy list)) (λ t e _. isolated-harmless t list e .2) x is a)
+  -- one haulier, changes nothing for the others, the rest of the list among them. The book is fed what was handed in
+  pub in-service : Again (chosenBy list) (λ t. isolationOf t list ≡ Isolated) (recordsIn x) is (answersTo d x is) → PartAlone
+  in-service a = part-alone (again-handed d (chosenBy list) _ x is a)
 
   -- or nobody else endangers it, and the question is asked once
-  pub in-quiet-service : othersEndanger (chosenBy list) (allJudged d x is) ≡ false
-      → AsTheBook d part x (others d part x is) (final (next d) x is .tables)
-  in-quiet-service n = in-service (never-again d (chosenBy list) _ x is n)
+  pub in-quiet-service : othersEndanger (chosenBy list) (turnsHanded x is (answersTo d x is)) ≡ false → PartAlone
+  in-quiet-service n = part-alone (never-handed d (chosenBy list) _ x is n)

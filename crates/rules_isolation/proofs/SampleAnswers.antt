@@ -24,7 +24,7 @@ question = tt
 -- ---- the answers
 
 -- of a yard: nobody; the haulier; the unauthenticated; both; the owner; the haulier and the owner; a byte too many
-pub yard-answers :
+pub question-answers :
     map (isolationOf yard)
     ([]
     ∷ (0 ∷ 7 ∷ [])
@@ -36,7 +36,7 @@ pub yard-answers :
     ∷ [])
     ≡ Isolated ∷ Isolated ∷ Isolated ∷ Isolated ∷ NamesOwner 1 ∷ NamesOwner 2 ∷ OddLength ∷ []
 unfolding question
-yard-answers = refl
+question-answers = refl
 
 -- of fresh tables: nobody, and the unauthenticated; of tables in a state that there is not
 pub fresh-answers :

@@ -3,23 +3,26 @@
 use Rattle.rows.proofs.Prelude.{_≡_, refl, sym, _∙_, true, replicate, List, [], _∷_, map, ℕ, eqb-true, contradiction, or-false}
 use Rattle.rules.specs.declared.Sender.the-variants.{Unauthenticated, Partner}
 use Rattle.rules.specs.Defaults.{noDefaults}
-use Rattle.rules.specs.Run.{final}
 use Rattle.rules.proofs.Samples.{lent, credRow, withCreds, serving, aceRow, weight, connected, haulierRow}
 use Rattle.rules_waiting.specs.Slots.{seatOf, padded, slotOf, recordOf, roundOf, waiting, queueOf, emptyQueue}
-use Rattle.rules_waiting.specs.Round.{seats, held, occupied, start, inTurn, firstInTurn, orphaned}
+use Rattle.rules_waiting.specs.Round.{seats, held, occupied, start, inTurn, firstInTurn, sameSeats, orphaned}
 use Rattle.rules_waiting.specs.Terminal.{Terminal, terminal, slotSound, queueSound, soundTerminal, withRecord}
-use Rattle.rules_waiting.specs.Terminal.{handedIn, clears, sameCount, queueAfter, turn, due, taken, judged}
-use Rattle.rules_waiting.specs.Inputs.{Input, handIn, takeAt, direct, next, Turn, turnTold, allJudged}
+use Rattle.rules_waiting.specs.Terminal.{handedIn, clears, queueAfter, turn, due, taken, judged}
+use Rattle.rules_waiting.specs.Inputs.{Input, handIn, takeAt, direct, Turn, turnTold}
+use Rattle.rules_waiting.proofs.Built.{Call, handedBack}
+use Rattle.rules_waiting.proofs.Shown.{allShown}
+use Rattle.rules_handed.specs.Events.{sentBy, newestOf}
+use Rattle.rules_handed.proofs.Exists.{callsAt, calls-built}
 use Rattle.rules_isolation.specs.Question.{chosenBy}
-use Rattle.rules_isolation.specs.Service.{endangering, othersEndanger}
-use Rattle.rules_isolation.specs.Yards.{ofYards, Disjoint, bookTurns, turnsOf, requestsWithout, Alone}
+use Rattle.rules_isolation.specs.Service.{endangering, othersEndanger, turnsHanded}
+use Rattle.rules_isolation.specs.Yards.{ofYards, Disjoint, bookTurns, turnsOf, requestsWithout, BothAlone}
 use Rattle.rules_isolation.proofs.SampleAnswers.{question}
-use Rattle.rules_isolation.proofs.Separate.{two-yards-quiet}
+use Rattle.rules_isolation.proofs.BuiltYards.{built-two-yards-quiet}
 
 -- `unfolding service` opens the question, and the terminal with its queue
 service : Unit {0}
 unfolding question endangering seatOf padded slotOf recordOf roundOf waiting queueOf seats held occupied start inTurn firstInTurn orphaned
-    slotSound queueSound soundTerminal withRecord handedIn clears sameCount queueAfter turn due taken judged
+    slotSound queueSound soundTerminal withRecord handedIn clears sameSeats queueAfter turn due taken judged sentBy newestOf
 service = tt
 
 -- every partner may read resource 8
@@ -47,13 +50,17 @@ morning =
     ∷ direct (lent (0x32 ∷ 0x00 ∷ 0x00 ∷ 0x08 ∷ []))
     ∷ []
 
+-- any calls that meet the contracts; these give just what is promised
+unfoldable pub morningCalls : List Call
+morningCalls = callsAt noDefaults plate morning
+
 abbrev pub answers : List Turn → List ℕ
 answers us = map (λ (u : Turn). turnTold u .answer) us
 
--- of the records judged
-pub morning-answers : answers (allJudged noDefaults plate morning) ≡ 8 ∷ 0 ∷ 0 ∷ 0 ∷ 0 ∷ 0 ∷ 0 ∷ []
-unfolding service plate morning
-morning-answers = refl
+-- of the records judged, as they were handed in
+pub plate-answers : answers (turnsHanded plate morning (allShown morning morningCalls)) ≡ 8 ∷ 0 ∷ 0 ∷ 0 ∷ 0 ∷ 0 ∷ 0 ∷ []
+unfolding service plate morning morningCalls
+plate-answers = refl
 
 disjoint : Disjoint yardA yardB
 unfolding service
@@ -61,11 +68,9 @@ disjoint Unauthenticated c = contradiction c refl
 disjoint (Partner n) c = let is = eqb-true 7 n (sym (or-false _) ∙ c) in rw (← is)
 
 -- each yard has its morning as if the other were not there
-pub morning-alone :
-    Alone noDefaults (chosenBy yardA) (chosenBy yardB) (plate .tables) (allJudged noDefaults plate morning) (final (next noDefaults) plate morning .tables)
-    × Alone noDefaults (chosenBy yardB) (chosenBy yardA) (plate .tables) (allJudged noDefaults plate morning) (final (next noDefaults) plate morning .tables)
-unfolding service plate morning
-morning-alone = two-yards-quiet noDefaults yardA yardB plate morning disjoint (refl, (refl, tt)) refl
+pub morning-alone : BothAlone noDefaults yardA yardB plate morning (allShown morning morningCalls) (handedBack plate morningCalls)
+unfolding service plate morning morningCalls
+morning-alone = built-two-yards-quiet noDefaults plate morning morningCalls (calls-built noDefaults plate morning) yardA yardB disjoint (refl, (refl, tt)) refl
 
 -- ---- asking again is needed: the owner lets every partner update pstat, which endangers both yards, and A resets the terminal
 
@@ -78,12 +83,15 @@ ended =
     ∷ direct (lent (0x32 ∷ 0x00 ∷ 0x00 ∷ 0x08 ∷ []))
     ∷ []
 
+unfoldable pub endedCalls : List Call
+endedCalls = callsAt noDefaults plate ended
+
 -- what yard B is answered: it has no credential row any more; without A's record it reads the weight
 pub ended-answers :
-    let us = allJudged noDefaults plate ended in
+    let us = turnsHanded plate ended (allShown ended endedCalls) in
     let book = bookTurns noDefaults (plate .tables) (requestsWithout (chosenBy yardA) us) in
     (othersEndanger (ofYards (yardA ∷ yardB ∷ [])) us ≡ true)
     × (answers (turnsOf (chosenBy yardB) us) ≡ 7 ∷ [])
     × (answers (turnsOf (chosenBy yardB) book) ≡ 0 ∷ [])
-unfolding service plate ended
+unfolding service plate ended endedCalls
 ended-answers = (refl, refl, refl)

@@ -10,14 +10,15 @@ use Rattle.rules.specs.Outcome.{Response, responseTo, tablesAfter}
 use Rattle.rules.specs.Run.{replies, final, kept}
 use Rattle.rules.specs.Isolation.{Harmless, Premise}
 use Rattle.rules_waiting.specs.Terminal.{Terminal}
-use Rattle.rules_waiting.specs.Inputs.{Input, next, Turn, allJudged, requestOf, turnTold, bytesOf, othersTurn}
-use Rattle.rules_waiting.proofs.Isolated.{AsTheBook}
+use Rattle.rules_waiting.specs.Inputs.{Input, next, Turn, requestOf, turnTold, bytesOf, othersTurn, recordsIn}
+use Rattle.rules_waiting.proofs.Isolated.{AsTheBook, isolated}
+use Rattle.rules_handed.proofs.Isolation.{answersTo}
 use Rattle.rules_isolation.specs.Question.{chosenBy}
-use Rattle.rules_isolation.specs.Service.{othersEndanger, Again}
-use Rattle.rules_isolation.specs.Yards.{ofYards, ofOtherYards, Disjoint, AllIsolated, bookTurns, turnsOf, Alone}
+use Rattle.rules_isolation.specs.Service.{othersEndanger, turnsHanded, Again}
+use Rattle.rules_isolation.specs.Yards.{ofYards, ofOtherYards, Disjoint, AllIsolated, bookTurns, turnsOf, Alone, AloneIn, YardAlone, BothAlone}
 use Rattle.rules_isolation.proofs.Exact.{isolated-harmless}
 use Rattle.rules_isolation.proofs.Kept.{SmallNumbers}
-use Rattle.rules_isolation.proofs.InService.{Within, list-small, service, never-again, again-map}
+use Rattle.rules_isolation.proofs.InService.{AgainAt, Within, list-small, service, again-map, turns-handed, again-handed, never-handed}
 
 -- ---- the yards together
 
@@ -68,44 +69,49 @@ alone d ours theirs x us end apart e = record {
   tables = e .1;
 }
 
--- ---- the theorems
+-- ---- the theorems. The book is fed the records as they were handed in
 
 module _ (d : Defaults) (yards : List (List ℕ)) (x : Terminal) (is : List Input) (asked : AllIsolated yards (x .tables)) where
   -- for any senders, and any others of the yards
-  separate : (ours theirs : Sender → Bool) → Apart ours theirs → Within theirs (ofYards yards) → Again d (ofYards yards) (AllIsolated yards) x is
-      → Alone d ours theirs (x .tables) (allJudged d x is) (final (next d) x is .tables)
+  separate : (ours theirs : Sender → Bool) → Apart ours theirs → Within theirs (ofYards yards) → AgainAt d (ofYards yards) (AllIsolated yards) x is
+      → AloneIn d ours theirs x is (answersTo d x is) (final (next d) x is)
   separate ours theirs apart within a =
-      alone d ours theirs x _ _ apart
-      (service d (ofYards yards) (yards-small yards) theirs within x is (λ _. yards-harmless yards (x .tables) asked)
-      (again-map d (ofYards yards) _ (Premise (ofYards yards)) (λ t e _. yards-harmless yards t e) x is a))
+      rw (turns-handed d x is)
+      (alone d ours theirs x _ _ apart
+      (isolated d theirs x is
+      (λ _. service d (ofYards yards) (yards-small yards) theirs within x is (λ _. yards-harmless yards (x .tables) asked)
+      (again-map d (ofYards yards) _ (Premise (ofYards yards)) (λ t e _. yards-harmless yards t e) x is a))))
 
-  -- any number of yards: each has its run as if those who are of the others alone sent nothing
-  pub each-yard : (yard : List ℕ) → Again d (ofYards yards) (AllIsolated yards) x is
-      → Alone d (chosenBy yard) (ofOtherYards yards yard) (x .tables) (allJudged d x is) (final (next d) x is .tables)
-  each-yard yard a =
+  yard-alone : (yard : List ℕ) → AgainAt d (ofYards yards) (AllIsolated yards) x is → YardAlone d yards yard x is (answersTo d x is) (final (next d) x is)
+  yard-alone yard a =
       separate (chosenBy yard) (ofOtherYards yards yard)
       (λ s c. rw (c, and-false))
       (λ s c. and-left (ofYards yards s) _ c) a
 
+  -- any number of yards: each has its run as if those who are of the others alone sent nothing
+  pub each-yard : (yard : List ℕ) → Again (ofYards yards) (AllIsolated yards) (recordsIn x) is (answersTo d x is)
+      → YardAlone d yards yard x is (answersTo d x is) (final (next d) x is)
+  each-yard yard a = yard-alone yard (again-handed d (ofYards yards) _ x is a)
+
   -- where nobody outside the yards endangers them, the question is asked once
-  pub each-yard-quiet : (yard : List ℕ) → othersEndanger (ofYards yards) (allJudged d x is) ≡ false
-      → Alone d (chosenBy yard) (ofOtherYards yards yard) (x .tables) (allJudged d x is) (final (next d) x is .tables)
-  each-yard-quiet yard n = each-yard yard (never-again d (ofYards yards) _ x is n)
+  pub each-yard-quiet : (yard : List ℕ) → othersEndanger (ofYards yards) (turnsHanded x is (answersTo d x is)) ≡ false
+      → YardAlone d yards yard x is (answersTo d x is) (final (next d) x is)
+  each-yard-quiet yard n = yard-alone yard (never-handed d (ofYards yards) _ x is n)
 
 -- two yards with nobody in both
 module _ (d : Defaults) (a b : List ℕ) (x : Terminal) (is : List Input) (disjoint : Disjoint a b) (asked : AllIsolated (a ∷ b ∷ []) (x .tables)) where
-  abbrev Both : Type 0
-  Both =
-      Alone d (chosenBy a) (chosenBy b) (x .tables) (allJudged d x is) (final (next d) x is .tables)
-      × Alone d (chosenBy b) (chosenBy a) (x .tables) (allJudged d x is) (final (next d) x is .tables)
-
-  pub two-yards : Again d (ofYards (a ∷ b ∷ [])) (AllIsolated (a ∷ b ∷ [])) x is → Both
-  two-yards again =
+  both-alone : AgainAt d (ofYards (a ∷ b ∷ [])) (AllIsolated (a ∷ b ∷ [])) x is → BothAlone d a b x is (answersTo d x is) (final (next d) x is)
+  both-alone again =
       let one = separate d (a ∷ b ∷ []) x is asked in (
         one (chosenBy a) (chosenBy b) disjoint (λ s c. rw c (or-true-right (chosenBy a s) _ refl)) again,
         one (chosenBy b) (chosenBy a)
             (λ s c. bool-cases (chosenBy a s) (λ e. contradiction c (disjoint s e)) (λ e. e)) (λ s c. rw c) again,
       )
 
-  pub two-yards-quiet : othersEndanger (ofYards (a ∷ b ∷ [])) (allJudged d x is) ≡ false → Both
-  two-yards-quiet n = two-yards (never-again d (ofYards (a ∷ b ∷ [])) _ x is n)
+  pub two-yards : Again (ofYards (a ∷ b ∷ [])) (AllIsolated (a ∷ b ∷ [])) (recordsIn x) is (answersTo d x is)
+      → BothAlone d a b x is (answersTo d x is) (final (next d) x is)
+  two-yards again = both-alone (again-handed d (ofYards (a ∷ b ∷ [])) _ x is again)
+
+  pub two-yards-quiet : othersEndanger (ofYards (a ∷ b ∷ [])) (turnsHanded x is (answersTo d x is)) ≡ false
+      → BothAlone d a b x is (answersTo d x is) (final (next d) x is)
+  two-yards-quiet n = both-alone (never-handed d (ofYards (a ∷ b ∷ [])) _ x is n)

@@ -1,10 +1,10 @@
 -- Theorem: only an UPDATE of doxm, pstat, cred or acl2 endangers. No DELETE does, no assertion of a role, and no record for an application.
-use Rattle.rows.proofs.Prelude.{_≡_, refl, Bool, true, false, _&&_, List, [], _∷_, ℕ, _<_, arith, length, eqb, eq-eqb, eqb-true, lt-ltb}
+use Rattle.rows.proofs.Prelude.{_≡_, refl, Bool, true, false, _&&_, List, [], _∷_, ℕ, _≤_, arith, length, eqb, eq-eqb, eqb-true, le-leb}
 use Rattle.rows.proofs.Prelude.{cond-cases, bool-cases, contradiction, and-left, and-right, or-left, or-right, or-neither, and-both}
 use Rattle.rules.specs.declared.Action.{Action}
 use Rattle.rules.specs.declared.Sender.{Sender}
 use Rattle.rules.specs.Directory.{isSecurity, doxm, pstat, cred, acl2, roles}
-use Rattle.rules.specs.Record.{verb, connection, resource, body}
+use Rattle.rules.specs.Record.{retrieve, update, delete, observe, verb, connection, resource, body}
 use Rattle.rules.specs.Action.{ifAllowed, updateRoles, updateAction, deleteNumber, deleteAces, deleteCreds, deleteAction}
 use Rattle.rules.specs.Action.{readAction, securityAction, actionOf, action}
 use Rattle.rules_waiting.specs.Inputs.{Turn, bytesOf}
@@ -13,7 +13,7 @@ use Rattle.rules_isolation.specs.Service.{endangers, wasPermitted, endan
 module _ (chosen : Sender → Bool) (v c n : ℕ) (b : List ℕ) where
   -- an action that endangers is of such a record
   abbrev Tells : Action → Type 0
-  Tells a = endangers chosen b a ≡ true → (v ≡ 2) × (n < 4)
+  Tells a = endangers chosen b a ≡ true → (v ≡ update) × (n ≤ acl2)
 
   read-tells : Tells (readAction b)
   unfolding readAction
@@ -35,7 +35,7 @@ module _ (chosen : Sender → Bool) (v c n : ℕ) (b : List ℕ) where
       (λ _. cond-cases Tells (eqb (length b) 2) (λ _. allowed-tells _ _ (λ h. contradiction h refl)) (λ _ h. contradiction h refl)))
       (λ _ h. contradiction h refl))
 
-  update-tells : v ≡ 2 → Tells (updateAction c n b)
+  update-tells : v ≡ update → Tells (updateAction c n b)
   unfolding updateAction updateRoles
   update-tells e =
       cond-cases Tells (eqb n doxm) (λ f _. (e, omega (arith, eqb-true n doxm f)))
@@ -49,12 +49,12 @@ module _ (chosen : Sender → Bool) (v c n : ℕ) (b : List ℕ) where
   security-tells : Tells (securityAction v c n b)
   unfolding securityAction
   security-tells =
-      cond-cases Tells (eqb v 1) (λ _. read-tells)
-      (λ _. cond-cases Tells (eqb v 2) (λ e. update-tells (eqb-true v 2 e))
-      (λ _. cond-cases Tells (eqb v 3) (λ _. delete-tells)
-      (λ _. cond-cases Tells (eqb v 4) (λ _. read-tells) (λ _ h. contradiction h refl))))
+      cond-cases Tells (eqb v retrieve) (λ _. read-tells)
+      (λ _. cond-cases Tells (eqb v update) (λ e. update-tells (eqb-true v update e))
+      (λ _. cond-cases Tells (eqb v delete) (λ _. delete-tells)
+      (λ _. cond-cases Tells (eqb v observe) (λ _. read-tells) (λ _ h. contradiction h refl))))
 
-pub only-updates : (chosen : Sender → Bool) (r : List ℕ) → endangers chosen (body r) (action r) ≡ true → (verb r ≡ 2) × (resource r < 4)
+pub only-updates : (chosen : Sender → Bool) (r : List ℕ) → endangers chosen (body r) (action r) ≡ true → (verb r ≡ update) × (resource r ≤ acl2)
 unfolding actionOf
 only-updates chosen r =
     cond-cases (Tells chosen (verb r) (connection r) (resource r) (body r)) (isSecurity (resource r))
@@ -70,8 +70,8 @@ not-updating chosen u h =
     let yes = and-left (wasPermitted u) _ e in
     let is = only-updates chosen (bytesOf u) (and-right (wasPermitted u) _ e) in
     contradiction
-    (and-both (wasPermitted u && eqb (verb (bytesOf u)) 2) _
-    (and-both (wasPermitted u) _ yes (eq-eqb (verb (bytesOf u)) 2 (is .0))) (lt-ltb (resource (bytesOf u)) 4 (is .1))) h)
+    (and-both (wasPermitted u && eqb (verb (bytesOf u)) update) _
+    (and-both (wasPermitted u) _ yes (eq-eqb (verb (bytesOf u)) update (is .0))) (le-leb (resource (bytesOf u)) acl2 (is .1))) h)
     (λ e. e)
 
 -- nor does a list of records without one

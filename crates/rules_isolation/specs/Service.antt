@@ -4,22 +4,26 @@ use Prim.Native.Nat.{ℕ}
 use mathlib.Core.Path.{_≡_}
 use mathlib.Core.Bool.{Bool, true, false, _&&_, _||_}
 use mathlib.Core.List.{List, [], _∷_}
-use lib.Dec.{eqb, ltb}
+use lib.Dec.{eqb, leb}
 use Rattle.rules.specs.declared.Tables.{Tables}
 use Rattle.rules.specs.declared.Table.the-variants.{Creds, Aces}
 use Rattle.rules.specs.declared.Action.{Action}
 use Rattle.rules.specs.declared.Action.the-variants.{Serve, Read, SetRowOwner, SetOwner, SetState, Store, Remove, Assert, Malformed}
 use Rattle.rules.specs.declared.Sender.{Sender}
 use Rattle.rules.specs.declared.Sender.the-variants.{Partner}
-use Rattle.rules.specs.Record.{verb, resource, body}
+use Rattle.rules.specs.Record.{Request, update, verb, resource, body}
+use Rattle.rules.specs.Directory.{acl2}
 use Rattle.rules.specs.Bodies.{rowNumber}
 use Rattle.rules.specs.Tables.{rowOf}
 use Rattle.rules.specs.Action.{action}
-use Rattle.rules.specs.Defaults.{Defaults}
+use Rattle.rules.specs.States.{reset}
+use Rattle.rules.specs.Outcome.{Response}
 use Rattle.rules.specs.Run.{kept}
 use Rattle.rules.specs.Isolation.{rowAlters}
-use Rattle.rules_waiting.specs.Terminal.{Terminal}
-use Rattle.rules_waiting.specs.Inputs.{Input, next, Turn, judgedAt, bytesOf, turnTold, othersTurn}
+use Rattle.rules_waiting.specs.Terminal.{Terminal, Transition}
+use Rattle.rules_waiting.specs.Inputs.{Input, Turn, bytesOf, turnTold, othersTurn}
+use Rattle.rules_handed.specs.Events.{requests, recordsAfter, eventOf, toldOf}
+use Rattle.rules_handed.specs.Isolation.{requestsOf, allTold}
 
 -- by the action, with the body b: an owner is set, the terminal is cleared, a credential row with a chosen partner's
 -- number is stored, or an access row that gives create, update or delete on a security resource
@@ -28,7 +32,7 @@ endangers chosen b Serve = false
 endangers chosen b Read = false
 endangers chosen b (SetRowOwner n) = true
 endangers chosen b (SetOwner owned) = true
-endangers chosen b (SetState target) = eqb target 0
+endangers chosen b (SetState target) = eqb target reset
 endangers chosen b (Store Creds) = chosen (Partner (rowNumber (rowOf Creds b)))
 endangers chosen b (Store Aces) = rowAlters (rowOf Aces b)
 endangers chosen b (Remove k key) = false
@@ -45,7 +49,7 @@ endangering chosen u = wasPermitted u && endangers chosen (body (bytesOf u)) (ac
 
 -- so much of it stands in the header: a permitted UPDATE of doxm, pstat, cred or acl2
 unfoldable pub updating : Turn → Bool
-updating u = wasPermitted u && eqb (verb (bytesOf u)) 2 && ltb (resource (bytesOf u)) 4
+updating u = wasPermitted u && eqb (verb (bytesOf u)) update && leb (resource (bytesOf u)) acl2
 
 -- some of these passes the test
 abbrev pub someTurn : (Turn → Bool) → List Turn → Bool
@@ -56,9 +60,23 @@ someTurn passes (u ∷ us) = passes u || someTurn passes us
 abbrev pub othersEndanger : (Sender → Bool) → List Turn → Bool
 othersEndanger chosen us = someTurn (endangering chosen) (kept (othersTurn chosen) us)
 
--- after each input by which somebody else endangers the chosen, the tables are such (as: the question is answered 'isolated' again)
-abbrev pub Again : Defaults → (Sender → Bool) → (Tables → Type 0) → Terminal → List Input → Type 0
-Again d chosen Such x [] = Unit {0}
-Again d chosen Such x (i ∷ is) =
-    (othersEndanger chosen (judgedAt d x i) ≡ true → Such (next d x i .tables))
-    × Again d chosen Such (next d x i) is
+-- ---- a run, of inputs and their answers. The bytes of the records are those of the hand-ins and of the queue at the start
+
+-- each request with what its sender is told
+abbrev pub paired : List Request → List Response → List Turn
+paired [] ys = []
+paired (q ∷ qs) [] = []
+paired (q ∷ qs) (y ∷ ys) = record { request = q; response = y } ∷ paired qs ys
+
+-- the records judged, from the terminal x on
+abbrev pub turnsHanded : Terminal → List Input → List Transition → List Turn
+turnsHanded x is answers = paired (requestsOf x is answers) (allTold is answers)
+
+-- after each answer by which somebody else endangers the chosen, the tables are such (as: the question is answered 'isolated' again);
+-- rs are the records that wait at the start
+abbrev pub Again : (Sender → Bool) → (Tables → Type 0) → List (List ℕ) → List Input → List Transition → Type 0
+Again chosen Such rs [] answers = Unit {0}
+Again chosen Such rs (i ∷ is) [] = Unit {0}
+Again chosen Such rs (i ∷ is) (a ∷ answers) =
+    (othersEndanger chosen (paired (requests rs (eventOf i a)) (toldOf i a)) ≡ true → Such (a .terminal .tables))
+    × Again chosen Such (recordsAfter rs (eventOf i a)) is answers

@@ -10,9 +10,11 @@ use Rattle.rules.specs.Defaults.{Defaults}
 use Rattle.rules.specs.Outcome.{responseTo, tablesAfter}
 use Rattle.rules.specs.Run.{final, kept}
 use Rattle.rules.specs.Isolation.{compared}
-use Rattle.rules_waiting.specs.Inputs.{Turn, bytesOf, requestOf, othersTurn}
+use Rattle.rules_waiting.specs.Terminal.{Terminal, Transition}
+use Rattle.rules_waiting.specs.Inputs.{Input, Turn, bytesOf, requestOf, othersTurn}
 use Rattle.rules_isolation.specs.declared.Isolation.the-variants.{Isolated}
 use Rattle.rules_isolation.specs.Question.{chosenBy, isolationOf}
+use Rattle.rules_isolation.specs.Service.{turnsHanded}
 
 -- ---- the yards' senders
 
@@ -54,3 +56,17 @@ requestsWithout theirs us = map requestOf (kept (othersTurn theirs) us)
 pub record Alone (d : Defaults) (ours theirs : Sender → Bool) (t : Tables) (us : List Turn) (end : Tables) : Type 0 where
   pub response : turnsOf ours us ≡ turnsOf ours (bookTurns d t (requestsWithout theirs us))
   pub tables : compared theirs end ≡ compared theirs (final (tablesAfter d) t (requestsWithout theirs us))
+
+-- ---- the same of a run: from the terminal x, by the inputs and their answers, to the terminal `end`. The records are fed as they were handed in
+
+module _ (d : Defaults) where
+  abbrev pub AloneIn : (ours theirs : Sender → Bool) → Terminal → List Input → List Transition → Terminal → Type 0
+  AloneIn ours theirs x is answers end = Alone d ours theirs (x .tables) (turnsHanded x is answers) (end .tables)
+
+  -- this yard, without those who are of the other yards alone
+  abbrev pub YardAlone : List (List ℕ) → List ℕ → Terminal → List Input → List Transition → Terminal → Type 0
+  YardAlone yards yard = AloneIn (chosenBy yard) (ofOtherYards yards yard)
+
+  -- each of two yards, without the other
+  abbrev pub BothAlone : List ℕ → List ℕ → Terminal → List Input → List Transition → Terminal → Type 0
+  BothAlone a b x is answers end = AloneIn (chosenBy a) (chosenBy b) x is answers end × AloneIn (chosenBy b) (chosenBy a) x is answers end

@@ -12,6 +12,7 @@ use Rattle.rules.specs.declared.Sender.{Sender}
 use Rattle.rules.specs.declared.Sender.the-variants.{Partner}
 use Rattle.rules.specs.Record.{Request}
 use Rattle.rules.specs.Tables.{sound}
+use Rattle.rules.specs.States.{rfpro}
 use Rattle.rules.specs.Defaults.{Defaults}
 use Rattle.rules.specs.Permission.{senderRow, isRow, names}
 use Rattle.rules.specs.Storing.{AllStored}
@@ -41,7 +42,7 @@ Stores t (q ∷ qs) (w ∷ ws) = OwnerStores t q w × Stores t qs ws
 -- sound tables in RFPRO with no access rows
 pub record Ready (t : Tables) : Type 0 where
   pub isSound : sound t ≡ true
-  pub inRfpro : t .state ≡ 2
+  pub inRfpro : t .state ≡ rfpro
   pub noAces : t .naces ≡ 0
 
 -- each record is permitted; the access rows are then these, in their order, and nothing else is changed

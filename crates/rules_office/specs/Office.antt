@@ -15,6 +15,7 @@ use Rattle.rules.specs.declared.Check.the-variants.{Pass, Refuse}
 use Rattle.rules.specs.Lookup.{lookup}
 use Rattle.rules.specs.Bodies.{rowNumber, aceKind, acePermission, acePlus, aceMinus, aceStar, inSet}
 use Rattle.rules.specs.Bodies.{aceSubject, aceAuthority, aceRole, aceConnection, aceFirst, aceLast}
+use Rattle.rules.specs.Directory.{doxm, pstat, cred, acl2, roles, yard}
 use Rattle.rules.specs.Tables.{rows}
 use Rattle.rules.specs.Checks.{verdict}
 use Rattle.rules_waiting.specs.Terminal.{Terminal, soundTerminal}
@@ -71,9 +72,9 @@ subjectText w = lookup (aceKind w) ((0, uuidSubject w) ∷ (1, roleSubject w) �
 
 abbrev pub names : List (ℕ × String)
 names =
-    (0, "/oic/sec/doxm") ∷ (1, "/oic/sec/pstat") ∷ (2, "/oic/sec/cred") ∷ (3, "/oic/sec/acl2") ∷ (4, "/oic/sec/roles")
+    (doxm, "/oic/sec/doxm") ∷ (pstat, "/oic/sec/pstat") ∷ (cred, "/oic/sec/cred") ∷ (acl2, "/oic/sec/acl2") ∷ (roles, "/oic/sec/roles")
     ∷ (8, "/weight") ∷ (9, "/tare") ∷ (10, "/zero") ∷ (11, "/ticket")
-    ∷ (12, "/lamp") ∷ (13, "/calib") ∷ (14, "/display") ∷ (16, "/yard")
+    ∷ (12, "/lamp") ∷ (13, "/calib") ∷ (14, "/display") ∷ (yard, "/yard")
     ∷ []
 
 unfoldable pub href : String → List ℕ

@@ -1,6 +1,6 @@
 -- One input to two terminals in step: a hand-in, a take or a record that is judged at once gets the same answer but for the order, and leaves them in step.
 -- What waits is found by the credential rows alone, so the queue of one is that of the other.
-use Rattle.rows.proofs.Prelude.{_≡_, refl, sym, ap, ap₂, subst, true, List, ℕ, length, eqb}
+use Rattle.rows.proofs.Prelude.{_≡_, refl, sym, ap, ap₂, subst, true, List, ℕ, length}
 use Rattle.rows.specs.Rows.{Row, same}
 use Rattle.rules.specs.declared.Tables.{Tables}
 use Rattle.rules.specs.declared.Table.the-variants.{Aces}
@@ -11,7 +11,7 @@ use Rattle.rules.specs.Checks.{verdict}
 use Rattle.rules.specs.Outcome.{responseTo, tablesAfter}
 use Rattle.rules_waiting.specs.Slots.{Round}
 use Rattle.rules_waiting.specs.Round.{seats, firstInTurn}
-use Rattle.rules_waiting.specs.Terminal.{Terminal, terminal, Transition, numberTransition, soundTerminal, handInChecks, handedIn, clears, sameCount, queueAfter}
+use Rattle.rules_waiting.specs.Terminal.{Terminal, terminal, Transition, numberTransition, soundTerminal, handInChecks, handedIn, clears, queueAfter}
 use Rattle.rules_waiting.specs.Terminal.{takeChecks, turn, due, taken, directChecks, judged}
 use Rattle.rules_waiting.specs.Inputs.{Input, handIn, takeAt, direct, transition, next}
 use Rattle.rules.proofs.CheckLaws.{check-cases}
@@ -29,13 +29,9 @@ seats-same t u o = ap seats (o .others)
 
 module _ (d : Defaults) (t u : Tables) (q : Request) (o : OrderOnly t u)
     (a : responseTo d t q .answer ≡ responseTo d u q .answer) (p : OrderOnly (tablesAfter d t q) (tablesAfter d u q)) where
-  many-same : sameCount t (tablesAfter d t q) ≡ sameCount u (tablesAfter d u q)
-  unfolding sameCount
-  many-same = ap₂ (λ (x y : Tables). eqb (x .ncreds) (y .ncreds)) (o .others) (p .others)
-
   queue-same : (k : Round) (ws : List Row) → queueAfter d t q k ws ≡ queueAfter d u q k ws
   unfolding queueAfter clears
-  queue-same k ws = rw (a, many-same, seats-same t u o, seats-same (tablesAfter d t q) (tablesAfter d u q) p)
+  queue-same k ws = rw (a, seats-same t u o, seats-same (tablesAfter d t q) (tablesAfter d u q) p)
 
 -- ---- an answer on two sides
 

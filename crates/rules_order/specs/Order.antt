@@ -10,7 +10,7 @@ use Rattle.rows.specs.Rows.{Row}
 use Rattle.rules.specs.declared.Tables.{Tables}
 use Rattle.rules.specs.declared.Table.the-variants.{Aces}
 use Rattle.rules.specs.Directory.{acl2}
-use Rattle.rules.specs.Record.{verb, resource}
+use Rattle.rules.specs.Record.{retrieve, verb, resource}
 use Rattle.rules.specs.Tables.{rows, withRows}
 use Rattle.rules.specs.Reading.{ownerOfReply, rowsOfReply}
 use Rattle.rules.specs.Outcome.{Response}
@@ -41,7 +41,7 @@ withAccess x ws = terminal (withRows Aces (x .tables) ws) (x .queue)
 
 -- RETRIEVE of acl2
 unfoldable pub listsAccess : List ℕ → Bool
-listsAccess r = eqb (verb r) 1 && eqb (resource r) acl2
+listsAccess r = eqb (verb r) retrieve && eqb (resource r) acl2
 
 -- equal in length, with the same row owner, and the same rows in another order
 pub record SameListed (x y : List ℕ) : Type 0 where

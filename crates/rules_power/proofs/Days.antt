@@ -1,6 +1,6 @@
 -- A day of any machine is one without a store, in which each input that was cut counts or is left out.
 -- Where a restart loses nothing it is a run without power cuts.
-use Rattle.rows.proofs.Prelude.{_≡_, sym, ap, subst, _∙_, List, [], _∷_, _++_, map, ℕ, length}
+use Rattle.rows.proofs.Prelude.{_≡_, refl, sym, ap, subst, _∙_, Bool, true, false, List, [], _∷_, _++_, map, ℕ, length, contradiction}
 use mathlib.Core.List.{flatten}
 use mathlib.Core.Logic.{_⊎_, inl, inr, ⊎-elim}
 use Rattle.rules_store.specs.declared.Step.the-variants.{Done}
@@ -84,13 +84,15 @@ module _ {State Input Answer : Type 0} (m : Machine State Input Answer) (Good : 
 -- ---- several inputs are stored at once
 
 module _ {State Input Answer : Type 0} (m : Machine State Input Answer) where
-  run-good : (Good : State → Type 0) → Keeps m Good → (x z : State) (is : List Input) (bs : List Answer) → Run m x is bs z → Good x → Good z
-  run-good Good k x z is bs day.none h = h
-  run-good Good k x z is bs (day.more {y = y} {is = is′} {bs = bs′} i a g rest) h = run-good Good k y z is′ bs′ rest (k .goes-on x y i a g h)
+  -- what each input keeps, a run keeps
+  module _ (Good : State → Type 0) (each : (x y : State) (i : Input) (a : Answer) → m .Gives x i a y → Good x → Good y) where
+    pub run-keeps : (x z : State) (is : List Input) (bs : List Answer) → Run m x is bs z → Good x → Good z
+    run-keeps x z is bs day.none h = h
+    run-keeps x z is bs (day.more {y = y} {is = is′} {bs = bs′} i a g rest) h = run-keeps y z is′ bs′ rest (each x y i a g h)
 
   pub rounds-keep : (Good : State → Type 0) → Keeps m Good → Keeps (inRounds m) Good
   rounds-keep Good k =
-      record { loads = k .loads; goes-on = λ x y is bs r h. run-good Good k x y is bs r h; sized = k .sized; back = k .back; rests = k .rests }
+      record { loads = k .loads; goes-on = run-keeps Good (k .goes-on); sized = k .sized; back = k .back; rests = k .rests }
 
   joined : (x y z : State) (is js : List Input) (bs cs : List Answer) → Run m x is bs y → Run m y js cs z → Run m x (is ++ js) (bs ++ cs) z
   joined x y z is js bs cs day.none r = r
@@ -103,6 +105,24 @@ module _ {State Input Answer : Type 0} (m : Machine State Input Answer) where
   rounds-run x z rounds rs day.none = day.none
   rounds-run x z rounds rs (day.more {y = y} {is = later} {bs = bs} is cs g rest) =
       joined x y z is (flatten later) cs (flatten bs) g (rounds-run y z later bs rest)
+
+-- ---- a stretch in which every input is answered
+
+abbrev pub allAnswered : {Input Answer : Type 0} → List (Event Input Answer) → Bool
+allAnswered [] = true
+allAnswered (day.told i a ∷ es) = allAnswered es
+allAnswered (day.cut i ∷ es) = false
+allAnswered (day.idle ∷ es) = false
+
+module _ {State Input Answer : Type 0} (m : Machine State Input Answer) where
+  pub stretch-run : (x z : State) (es : List (Event Input Answer)) → Restarts m x es z → allAnswered es ≡ true → AsRun m x es z
+  stretch-run x z es day.ends h = record { inputs = []; replies = []; run = day.none; seen = day.none }
+  stretch-run x z es (day.answers {y = y} {es = more} i a g rest) h =
+      let r = stretch-run y z more rest h in
+      record { inputs = i ∷ r .inputs; replies = a ∷ r .replies; run = day.more i a g (r .run); seen = day.transition i a (r .seen) }
+  stretch-run x z es (day.counts i a g rest) h = contradiction h refl
+  stretch-run x z es (day.leaves-out i rest) h = contradiction h refl
+  stretch-run x z es (day.idles rest) h = contradiction h refl
 
 -- ---- where a restart loses nothing
 

@@ -1,24 +1,26 @@
 -- Theorems: a day of a terminal whose power is cut again and again, by the rules and by any calls that meet the contracts.
 -- With tables and what waits as one image it is a run without power cuts; with the tables alone nothing waits after each restart.
-use Rattle.rows.proofs.Prelude.{_≡_, refl, ap, Bool, true, List, [], _∷_, map, ℕ, _+_, _≤_, arith, length, and-left, and-right, contradiction}
+use Rattle.rows.proofs.Prelude.{_≡_, refl, ap, subst, Bool, true, List, [], _∷_, map, ℕ, _+_, _≤_, arith, length, and-left, and-right, contradiction}
 use Rattle.rows.specs.Rows.{same, some}
 use Rattle.rules.specs.Defaults.{Defaults}
 use Rattle.rules.specs.declared.Sender.{Sender}
-use Rattle.rules.specs.Run.{replies, final, kept}
+use Rattle.rules.specs.Run.{replies, final}
 use Rattle.rules_waiting.specs.Terminal.{Terminal, Transition, soundTerminal}
-use Rattle.rules_waiting.specs.Inputs.{Input, handIn, takeAt, direct, transition, next, turns, bytesOf, takes, Undisturbed, recordsIn, othersTurn}
-use Rattle.rules_waiting.proofs.Served.{served}
-use Rattle.rules_waiting.proofs.Built.{Call, Built, handedBack, callTurns, built-isolation}
-use Rattle.rules_waiting.proofs.Isolated.{Premises, AsTheBook}
+use Rattle.rules_waiting.specs.Inputs.{Input, handIn, takeAt, direct, transition, next, takes, recordsIn}
+use Rattle.rules_waiting.proofs.Built.{Call, Meets, left, Built, handedBack}
+use Rattle.rules_waiting.proofs.Shown.{allShown}
+use Rattle.rules_handed.specs.Events.{gathered}
+use Rattle.rules_handed.specs.Isolation.{BookPremise, Isolated}
+use Rattle.rules_handed.specs.Waits.{recordTaken, QuietFor}
+use Rattle.rules_handed.proofs.Calls.{handed-isolation, built-served}
 use Rattle.rules_store.specs.Store.{sizeFor}
-use Rattle.rules_power.specs.Image.{tablesSize, terminalSize, SizedTerminal}
+use Rattle.rules_power.specs.Image.{tablesSize, terminalSize}
 use Rattle.rules_power.specs.Day as day
 use Rattle.rules_power.specs.Day.{Machine, Event, told, found, Day, Restarts, Run, SeenOf, AsRun, inRounds}
 use Rattle.rules_power.specs.Kept as acted
 use Rattle.rules_power.specs.Kept.{Act, input, clear, isInput, noClear, Answers, Calls, takeOf, takesTold, nothingWaits, whole, tablesAlone}
-use Rattle.rules_power.proofs.Days.{power-on, day-restarts, restarts-run, rounds-keep}
 use Rattle.rules_power.proofs.Terminals as terminals
-use Rattle.rules_power.proofs.Terminals.{answers-next, calls-next, whole-keeps}
+use Rattle.rules_power.proofs.Terminals.{answers-next, calls-next}
 
 module _ (d : Defaults) where
   abbrev pub byRules : Machine Terminal Act Transition
@@ -37,49 +39,60 @@ module _ (d : Defaults) where
 
   pub whole-run : (s end : List ℕ) (es : List (Event Act Transition)) (z : Terminal) → length s ≡ sizeFor terminalSize
       → Day byRules (found byRules s) s es z end → AsRun byRules (found byRules s) es z × (found byRules end ≡ z)
-  whole-run s end es z f = terminals.whole-run (Answers d) d (answers-next d) s end f es z
+  whole-run s end es z f = terminals.any-whole-run (Answers d) d (answers-next d) s end f es z
 
   pub whole-calls : (s end : List ℕ) (es : List (Event Act Call)) (z : Terminal) → length s ≡ sizeFor terminalSize
       → Day byCalls (found byCalls s) s es z end → AsRun byCalls (found byCalls s) es z × (found byCalls end ≡ z)
-  whole-calls s end es z f = terminals.whole-run (Calls d) d (calls-next d) s end f es z
+  whole-calls s end es z f = terminals.any-whole-run (Calls d) d (calls-next d) s end f es z
 
   pub whole-sound : (s end : List ℕ) (es : List (Event Act Call)) (z : Terminal) → length s ≡ sizeFor terminalSize
       → Day byCalls (found byCalls s) s es z end → soundTerminal (found byCalls s) ≡ true → soundTerminal z ≡ true
-  whole-sound s end es z f = terminals.whole-sound (Calls d) d (calls-next d) s end f es z
+  whole-sound s end es z f = terminals.any-whole-sound (Calls d) d (calls-next d) s end f es z
 
   -- a store of any content, and the first image
   pub whole-first : (s end : List ℕ) (c : Call) (es : List (Event Act Call)) (z : Terminal) → length s ≡ sizeFor terminalSize
       → Day byCalls (found byCalls s) s (told clear c ∷ es) z end → soundTerminal z ≡ true
-  whole-first s end c es z f = terminals.whole-first (Calls d) d (calls-next d) s end f c es z
+  whole-first s end c es z f = terminals.any-whole-first (Calls d) d (calls-next d) s end f c es z
 
   -- several inputs, stored at once and then answered
   pub whole-rounds : (s end : List ℕ) (es : List (Event (List Act) (List Call))) (z : Terminal) → length s ≡ sizeFor terminalSize
-      → Day (inRounds byCalls) (found (inRounds byCalls) s) s es z end → AsRun (inRounds byCalls) (found (inRounds byCalls) s) es z
-  whole-rounds s end es z f days =
-      let keeps = rounds-keep byCalls SizedTerminal (whole-keeps (Calls d) d (calls-next d)) in
-      let x = found (inRounds byCalls) s in
-      restarts-run (inRounds byCalls) (λ x. refl) x z es
-      (day-restarts (inRounds byCalls) SizedTerminal keeps x z s end es (power-on (inRounds byCalls) SizedTerminal keeps s f) days .0)
+      → Day (inRounds byCalls) (found byCalls s) s es z end → AsRun (inRounds byCalls) (found byCalls s) es z × (found byCalls end ≡ z)
+  whole-rounds s end es z f = terminals.any-whole-rounds (Calls d) d (calls-next d) s end f es z
 
   -- ---- the tables alone
 
   pub tables-run : (s end : List ℕ) (es : List (Event Act Transition)) (z : Terminal) → length s ≡ sizeFor tablesSize
       → Day tablesByRules (found tablesByRules s) s es z end
       → Restarts tablesByRules (found tablesByRules s) es z × (found tablesByRules end ≡ nothingWaits z)
-  tables-run s end es z f = terminals.tables-run (Answers d) d (answers-next d) s end f es z
+  tables-run s end es z f = terminals.any-tables-run (Answers d) d (answers-next d) s end f es z
 
   pub tables-calls : (s end : List ℕ) (es : List (Event Act Call)) (z : Terminal) → length s ≡ sizeFor tablesSize
       → Day tablesByCalls (found tablesByCalls s) s es z end
       → Restarts tablesByCalls (found tablesByCalls s) es z × (found tablesByCalls end ≡ nothingWaits z)
-  tables-calls s end es z f = terminals.tables-run (Calls d) d (calls-next d) s end f es z
+  tables-calls s end es z f = terminals.any-tables-run (Calls d) d (calls-next d) s end f es z
 
   pub tables-sound : (s end : List ℕ) (es : List (Event Act Call)) (z : Terminal) → length s ≡ sizeFor tablesSize
       → Day tablesByCalls (found tablesByCalls s) s es z end → soundTerminal (found tablesByCalls s) ≡ true → soundTerminal z ≡ true
-  tables-sound s end es z f = terminals.tables-sound (Calls d) d (calls-next d) s end f es z
+  tables-sound s end es z f = terminals.any-tables-sound (Calls d) d (calls-next d) s end f es z
 
   pub tables-first : (s end : List ℕ) (c : Call) (es : List (Event Act Call)) (z : Terminal) → length s ≡ sizeFor tablesSize
       → Day tablesByCalls (found tablesByCalls s) s (told clear c ∷ es) z end → soundTerminal z ≡ true
-  tables-first s end c es z f = terminals.tables-first (Calls d) d (calls-next d) s end f c es z
+  tables-first s end c es z f = terminals.any-tables-first (Calls d) d (calls-next d) s end f c es z
+
+  -- several inputs, stored at once and then answered
+  pub tables-rounds : (s end : List ℕ) (es : List (Event (List Act) (List Transition))) (z : Terminal) → length s ≡ sizeFor tablesSize
+      → Day (inRounds tablesByRules) (found tablesByRules s) s es z end
+      → Restarts (inRounds tablesByRules) (found tablesByRules s) es z × (found tablesByRules end ≡ nothingWaits z)
+  tables-rounds s end es z f = terminals.any-tables-rounds (Answers d) d (answers-next d) s end f es z
+
+  pub tables-rounds-calls : (s end : List ℕ) (es : List (Event (List Act) (List Call))) (z : Terminal) → length s ≡ sizeFor tablesSize
+      → Day (inRounds tablesByCalls) (found tablesByCalls s) s es z end
+      → Restarts (inRounds tablesByCalls) (found tablesByCalls s) es z × (found tablesByCalls end ≡ nothingWaits z)
+  tables-rounds-calls s end es z f = terminals.any-tables-rounds (Calls d) d (calls-next d) s end f es z
+
+  pub tables-rounds-sound : (s end : List ℕ) (es : List (Event (List Act) (List Call))) (z : Terminal) → length s ≡ sizeFor tablesSize
+      → Day (inRounds tablesByCalls) (found tablesByCalls s) s es z end → soundTerminal (found tablesByCalls s) ≡ true → soundTerminal z ≡ true
+  tables-rounds-sound s end es z f = terminals.any-tables-rounds-sound (Calls d) d (calls-next d) s end f es z
 
   -- ---- runs are those of the other theorems, where the clear button is not pressed
 
@@ -89,10 +102,17 @@ module _ (d : Defaults) where
   rules-run x z (i ∷ is) rs (day.more {bs = bs} _ _ (acted.gives _ _) rest) =
       let r = rules-run (next d x i) z is bs rest in (ap (λ (l : List Transition). transition d x i ∷ l) (r .0), r .1)
 
-  pub calls-built : (x z : Terminal) (is : List Input) (cs : List Call) → Run byCalls x (map input is) cs z → Built d x is cs × (z ≡ handedBack x cs)
-  calls-built x z [] cs day.none = (tt, refl)
-  calls-built x z (i ∷ is) cs (day.more {bs = bs} _ c (acted.gives _ _ _ m) rest) =
-      let r = calls-built _ z is bs rest in ((m, r .0), r .1)
+  calls-meet : (x y : Terminal) (i : Input) (c : Call) → Calls d x (input i) c y → Meets d x i c × (y ≡ left c)
+  calls-meet x y i c (acted.gives _ _ _ m) = (m, refl)
+
+  -- whatever is stored; so of a round
+  module _ (m : Machine Terminal Act Call) (gives : (x y : Terminal) (act : Act) (c : Call) → m .Gives x act c y → Calls d x act c y) where
+    pub run-built : (x z : Terminal) (is : List Input) (cs : List Call) → Run m x (map input is) cs z → Built d x is cs × (z ≡ handedBack x cs)
+    run-built x z [] cs day.none = (tt, refl)
+    run-built x z (i ∷ is) cs (day.more {y = y} {bs = bs} _ c g rest) =
+        let here = calls-meet x y i c (gives x y (input i) c g) in
+        let r = run-built (left c) z is bs (subst (λ (v : Terminal). Run m v (map input is) bs z) (here .1) rest) in
+        ((here .0, r .0), r .1)
 
   -- a day on which it is not pressed, as calls that the other theorems take: each on what was handed back last
   pub record AsCalls (x : Terminal) (es : List (Event Act Call)) (z : Terminal) : Type 0 where
@@ -121,19 +141,20 @@ module _ (d : Defaults) where
   all-inputs acts rs es (day.left-out {es = later} act seen) h = all-inputs acts rs later seen (and-right (isInput act) (noClear later) h)
   all-inputs acts rs es (day.unseen {es = later} seen) h = all-inputs acts rs later seen h
 
-  pub as-calls : (x z : Terminal) (es : List (Event Act Call)) → AsRun byCalls x es z → noClear es ≡ true → AsCalls x es z
-  as-calls x z es r h =
+  -- whatever is stored: so of a day with what waits stored, and with the tables alone of each stretch without a cut
+  pub as-calls : (m : Machine Terminal Act Call) → ((x y : Terminal) (act : Act) (c : Call) → m .Gives x act c y → Calls d x act c y)
+      → (x z : Terminal) (es : List (Event Act Call)) → AsRun m x es z → noClear es ≡ true → AsCalls x es z
+  as-calls m gives x z es r h =
       let e = all-inputs (r .inputs) (r .replies) es (r .seen) h in
-      let b = calls-built x z (inputsOf (r .inputs)) (r .replies) (rw e (r .run)) in
+      let b = run-built m gives x z (inputsOf (r .inputs)) (r .replies) (rw e (r .run)) in
       record { inputs = inputsOf (r .inputs); calls = r .replies; built = b .0; ends = b .1; seen = rw e (r .seen) }
 
-  -- so demand 3 holds across power cuts: for instance of these calls
+  -- so demand 3 holds across power cuts: the book is fed the records as they were handed in or waited at the start
   pub day-isolation : (chosen : Sender → Bool) (x z : Terminal) (es : List (Event Act Call)) → (c : AsCalls x es z)
-      → Premises d chosen x (kept (othersTurn chosen) (callTurns (c .inputs) (c .calls)))
-      → AsTheBook d chosen x (kept (othersTurn chosen) (callTurns (c .inputs) (c .calls))) (z .tables)
-  day-isolation chosen x z es c p = rw (c .ends) (built-isolation d chosen x (c .inputs) (c .calls) (c .built) p)
+      → BookPremise d chosen x (c .inputs) (allShown (c .inputs) (c .calls)) → Isolated d chosen x (c .inputs) (allShown (c .inputs) (c .calls)) z
+  day-isolation chosen x z es c p = rw (c .ends) (handed-isolation d x (c .inputs) (c .calls) (c .built) chosen p)
 
-  -- ---- a record that waits is judged within 25 takes that are answered, however often the power is cut
+  -- ---- a record that waits is handed out within 25 takes that are answered, however often the power is cut
 
   abbrev takesIn : List Act → ℕ
   takesIn [] = 0
@@ -152,7 +173,10 @@ module _ (d : Defaults) where
   takes-inputs (takeAt clock room ∷ is) = omega (arith, takes-inputs is)
   takes-inputs (direct q ∷ is) = omega (arith, takes-inputs is)
 
-  pub day-served : (x : Terminal) (is : List Input) (r : List ℕ) (rs : List Transition) (es : List (Event Act Transition)) → SeenOf (map input is) rs es
-      → soundTerminal x ≡ true → some (same r) (recordsIn x) ≡ true → Undisturbed d x is → 25 ≤ takesTold es
-      → some (same r) (map bytesOf (turns d x is)) ≡ true
-  day-served x is r rs es seen h w u n = served d x is r h w u (omega (arith, takes-inputs is, takes-told (map input is) rs es seen))
+  -- nothing is asked of the take that hands it out, nor of what comes later; that take may be one that was cut
+  pub day-served : (x z : Terminal) (es : List (Event Act Call)) → (c : AsCalls x es z) → (r : List ℕ)
+      → soundTerminal x ≡ true → some (same r) (recordsIn x) ≡ true → QuietFor r x (c .inputs) (allShown (c .inputs) (c .calls)) → 25 ≤ takesTold es
+      → some (same r) (gathered recordTaken (c .inputs) (allShown (c .inputs) (c .calls))) ≡ true
+  day-served x z es c r h w q n =
+      built-served d x (c .inputs) (c .calls) (c .built) h r w q
+      (omega (arith, takes-inputs (c .inputs), takes-told (map input (c .inputs)) (c .calls) es (c .seen)))

@@ -11,10 +11,10 @@ use Rattle.rules_waiting.proofs.Built.{Call, call-left}
 use Rattle.rules_store.specs.Store.{sizeFor}
 use Rattle.rules_power.specs.Image.{tablesSize, terminalSize, SizedTables, SizedTerminal}
 use Rattle.rules_power.specs.Day as day
-use Rattle.rules_power.specs.Day.{Machine, Event, told, found, Day, Restarts, AsRun, Kept}
+use Rattle.rules_power.specs.Day.{Machine, Event, told, found, Day, Restarts, AsRun, Kept, inRounds}
 use Rattle.rules_power.specs.Kept as kept
 use Rattle.rules_power.specs.Kept.{Act, input, clear, actNext, Answers, Calls, nothingWaits, whole, tablesAlone}
-use Rattle.rules_power.proofs.Days.{Keeps, power-on, day-restarts, restarts-run}
+use Rattle.rules_power.proofs.Days.{Keeps, power-on, day-restarts, restarts-run, run-keeps, rounds-keep}
 use Rattle.rules_power.proofs.Images.{length-tables, length-terminal, sized-tables, sized-terminal, tables-back, terminal-back}
 use Rattle.rules_power.proofs.Lengths.{tables-sized, next-sized, fresh-sized}
 
@@ -46,6 +46,24 @@ act-sound d x clear h = fresh-terminal d
 nothing-sound : (x : Terminal) → soundTerminal x ≡ true → soundTerminal (nothingWaits x) ≡ true
 nothing-sound x h = fresh-whole (x .tables) (terminal-parts x h .tables)
 
+-- ---- a sound terminal stays sound
+
+module _ {Input Answer : Type 0} (m : Machine Terminal Input Answer)
+    (gives-sound : (x y : Terminal) (i : Input) (a : Answer) → m .Gives x i a y → soundTerminal x ≡ true → soundTerminal y ≡ true)
+    (restart-sound : (x : Terminal) → soundTerminal x ≡ true → soundTerminal (m .restart x) ≡ true) where
+  restarts-sound : (x z : Terminal) (es : List (Event Input Answer)) → Restarts m x es z → soundTerminal x ≡ true → soundTerminal z ≡ true
+  restarts-sound x z es day.ends h = h
+  restarts-sound x z es (day.answers {y = y} {es = more} i a g rest) h = restarts-sound y z more rest (gives-sound x y i a g h)
+  restarts-sound x z es (day.counts {y = y} {es = more} i a g rest) h =
+      restarts-sound (m .restart y) z more rest (restart-sound y (gives-sound x y i a g h))
+  restarts-sound x z es (day.leaves-out {es = more} i rest) h = restarts-sound (m .restart x) z more rest (restart-sound x h)
+  restarts-sound x z es (day.idles {es = more} rest) h = restarts-sound (m .restart x) z more rest (restart-sound x h)
+
+  -- after an input that leaves a sound terminal, whatever was there before
+  restarts-first : (x z : Terminal) (i : Input) (a : Answer) (es : List (Event Input Answer)) → Restarts m x (told i a ∷ es) z
+      → ((y : Terminal) → m .Gives x i a y → soundTerminal y ≡ true) → soundTerminal z ≡ true
+  restarts-first x z i a es (day.answers {y = y} _ _ g rest) first = restarts-sound y z es rest (first y g)
+
 -- ---- any way to give what the rules give
 
 module _ {Answer : Type 0} (Gives : Terminal → Act → Answer → Terminal → Type 0) (d : Defaults)
@@ -70,23 +88,12 @@ module _ {Answer : Type 0} (Gives : Terminal → Act → Answer → Terminal →
 
   -- ---- a sound terminal stays sound
 
-  module _ (m : Machine Terminal Act Answer) (gives : (x y : Terminal) (act : Act) (a : Answer) → m .Gives x act a y → Gives x act a y)
-      (restart-sound : (x : Terminal) → soundTerminal x ≡ true → soundTerminal (m .restart x) ≡ true) where
-    sound-after : (x y : Terminal) (act : Act) (a : Answer) → m .Gives x act a y → soundTerminal x ≡ true → soundTerminal y ≡ true
-    sound-after x y act a g h = rw (gives-next x y act a (gives x y act a g)) (act-sound d x act h)
+  sound-after : (x y : Terminal) (act : Act) (a : Answer) → Gives x act a y → soundTerminal x ≡ true → soundTerminal y ≡ true
+  sound-after x y act a g h = rw (gives-next x y act a g) (act-sound d x act h)
 
-    restarts-sound : (x z : Terminal) (es : List (Event Act Answer)) → Restarts m x es z → soundTerminal x ≡ true → soundTerminal z ≡ true
-    restarts-sound x z es day.ends h = h
-    restarts-sound x z es (day.answers {y = y} {es = more} i a g rest) h = restarts-sound y z more rest (sound-after x y i a g h)
-    restarts-sound x z es (day.counts {y = y} {es = more} i a g rest) h =
-        restarts-sound (m .restart y) z more rest (restart-sound y (sound-after x y i a g h))
-    restarts-sound x z es (day.leaves-out {es = more} i rest) h = restarts-sound (m .restart x) z more rest (restart-sound x h)
-    restarts-sound x z es (day.idles {es = more} rest) h = restarts-sound (m .restart x) z more rest (restart-sound x h)
-
-    cleared-sound : (x z : Terminal) (a : Answer) (es : List (Event Act Answer)) → Restarts m x (told clear a ∷ es) z → soundTerminal z ≡ true
-    unfolding clearedTerminal
-    cleared-sound x z a es (day.answers {y = y} _ _ g rest) =
-        restarts-sound y z es rest (rw (gives-next x y clear a (gives x y clear a g)) (fresh-terminal d))
+  cleared-sound : (x y : Terminal) (a : Answer) → Gives x clear a y → soundTerminal y ≡ true
+  unfolding clearedTerminal
+  cleared-sound x y a g = rw (gives-next x y clear a g) (fresh-terminal d)
 
   -- ---- one image of tables and what waits: a run without power cuts, whose end is in the store
 
@@ -98,20 +105,31 @@ module _ {Answer : Type 0} (Gives : Terminal → Act → Answer → Terminal →
         → Restarts (whole Gives) start es z × Kept (whole Gives) SizedTerminal z end
     whole-restarts es z = day-restarts (whole Gives) SizedTerminal whole-keeps start z s end es (power-on (whole Gives) SizedTerminal whole-keeps s f)
 
-    pub whole-run : (es : List (Event Act Answer)) (z : Terminal) → Day (whole Gives) start s es z end
+    pub any-whole-run : (es : List (Event Act Answer)) (z : Terminal) → Day (whole Gives) start s es z end
         → AsRun (whole Gives) start es z × (found (whole Gives) end ≡ z)
-    whole-run es z days =
+    any-whole-run es z days =
         let r = whole-restarts es z days in (restarts-run (whole Gives) (λ x. refl) start z es (r .0), r .1 .finds)
 
-    pub whole-sound : (es : List (Event Act Answer)) (z : Terminal) → Day (whole Gives) start s es z end
+    pub any-whole-sound : (es : List (Event Act Answer)) (z : Terminal) → Day (whole Gives) start s es z end
         → soundTerminal start ≡ true → soundTerminal z ≡ true
-    whole-sound es z days = restarts-sound (whole Gives) (λ x y act a g. g) (λ x h. h) start z es (whole-restarts es z days .0)
+    any-whole-sound es z days = restarts-sound (whole Gives) sound-after (λ x h. h) start z es (whole-restarts es z days .0)
 
     -- whatever the store held before the clear button, or before the first image
-    pub whole-first : (a : Answer) (es : List (Event Act Answer)) (z : Terminal) → Day (whole Gives) start s (told clear a ∷ es) z end
+    pub any-whole-first : (a : Answer) (es : List (Event Act Answer)) (z : Terminal) → Day (whole Gives) start s (told clear a ∷ es) z end
         → soundTerminal z ≡ true
-    whole-first a es z days =
-        cleared-sound (whole Gives) (λ x y act a g. g) (λ x h. h) start z a es (whole-restarts (told clear a ∷ es) z days .0)
+    any-whole-first a es z days =
+        restarts-first (whole Gives) sound-after (λ x h. h) start z clear a es (whole-restarts (told clear a ∷ es) z days .0)
+        (λ y. cleared-sound start y a)
+
+    -- several inputs are stored at once, and then answered
+    pub any-whole-rounds : (es : List (Event (List Act) (List Answer))) (z : Terminal) → Day (inRounds (whole Gives)) start s es z end
+        → AsRun (inRounds (whole Gives)) start es z × (found (whole Gives) end ≡ z)
+    unfolding found
+    any-whole-rounds es z days =
+        let m = inRounds (whole Gives) in
+        let keeps = rounds-keep (whole Gives) SizedTerminal whole-keeps in
+        let r = day-restarts m SizedTerminal keeps start z s end es (power-on m SizedTerminal keeps s f) days in
+        (restarts-run m (λ x. refl) start z es (r .0), r .1 .finds)
 
   -- ---- the tables alone: a run in which nothing waits after a restart, and the tables of its end are in the store
 
@@ -122,17 +140,34 @@ module _ {Answer : Type 0} (Gives : Terminal → Act → Answer → Terminal →
     abbrev Good : Terminal → Type 0
     Good x = SizedTables (x .tables)
 
-    pub tables-run : (es : List (Event Act Answer)) (z : Terminal) → Day (tablesAlone Gives) started s es z end
+    pub any-tables-run : (es : List (Event Act Answer)) (z : Terminal) → Day (tablesAlone Gives) started s es z end
         → Restarts (tablesAlone Gives) started es z × (found (tablesAlone Gives) end ≡ nothingWaits z)
-    tables-run es z days =
+    any-tables-run es z days =
         let r = day-restarts (tablesAlone Gives) Good tables-keep started z s end es (power-on (tablesAlone Gives) Good tables-keep s f) days in
         (r .0, r .1 .finds)
 
-    pub tables-sound : (es : List (Event Act Answer)) (z : Terminal) → Day (tablesAlone Gives) started s es z end
+    pub any-tables-sound : (es : List (Event Act Answer)) (z : Terminal) → Day (tablesAlone Gives) started s es z end
         → soundTerminal started ≡ true → soundTerminal z ≡ true
-    tables-sound es z days = restarts-sound (tablesAlone Gives) (λ x y act a g. g) nothing-sound started z es (tables-run es z days .0)
+    any-tables-sound es z days = restarts-sound (tablesAlone Gives) sound-after nothing-sound started z es (any-tables-run es z days .0)
 
-    pub tables-first : (a : Answer) (es : List (Event Act Answer)) (z : Terminal) → Day (tablesAlone Gives) started s (told clear a ∷ es) z end
+    pub any-tables-first : (a : Answer) (es : List (Event Act Answer)) (z : Terminal) → Day (tablesAlone Gives) started s (told clear a ∷ es) z end
         → soundTerminal z ≡ true
-    tables-first a es z days =
-        cleared-sound (tablesAlone Gives) (λ x y act a g. g) nothing-sound started z a es (tables-run (told clear a ∷ es) z days .0)
+    any-tables-first a es z days =
+        restarts-first (tablesAlone Gives) sound-after nothing-sound started z clear a es (any-tables-run (told clear a ∷ es) z days .0)
+        (λ y. cleared-sound started y a)
+
+    -- several inputs are stored at once, and then answered
+    pub any-tables-rounds : (es : List (Event (List Act) (List Answer))) (z : Terminal) → Day (inRounds (tablesAlone Gives)) started s es z end
+        → Restarts (inRounds (tablesAlone Gives)) started es z × (found (tablesAlone Gives) end ≡ nothingWaits z)
+    unfolding found
+    any-tables-rounds es z days =
+        let m = inRounds (tablesAlone Gives) in
+        let keeps = rounds-keep (tablesAlone Gives) Good tables-keep in
+        let r = day-restarts m Good keeps started z s end es (power-on m Good keeps s f) days in
+        (r .0, r .1 .finds)
+
+    pub any-tables-rounds-sound : (es : List (Event (List Act) (List Answer))) (z : Terminal) → Day (inRounds (tablesAlone Gives)) started s es z end
+        → soundTerminal started ≡ true → soundTerminal z ≡ true
+    any-tables-rounds-sound es z days =
+        restarts-sound (inRounds (tablesAlone Gives)) (run-keeps (tablesAlone Gives) (λ x. soundTerminal x ≡ true) sound-after) nothing-sound started z es
+        (any-tables-rounds es z days .0)

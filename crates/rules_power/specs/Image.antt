@@ -1,6 +1,6 @@
 -- The image of a terminal: the bytes of the tables in the order of the struct, and with them the memory of waiting records.
 -- Every field is a byte or an array of bytes, so no image depends on padding or on the order of bytes.
-use Prim.Native.Nat.{ℕ, _+_}
+use Prim.Native.Nat.{ℕ}
 use mathlib.Core.Path.{_≡_}
 use mathlib.Core.List.{List, _∷_, _++_}
 use lib.ListN.{length, take, drop, getD}
@@ -40,7 +40,7 @@ tablesIn bytes = record {
 }
 
 unfoldable pub terminalIn : List ℕ → Terminal
-terminalIn bytes = terminal (tablesIn bytes) (field queueSize 2172 bytes)
+terminalIn bytes = terminal (tablesIn bytes) (field queueSize tablesSize bytes)
 
 -- ---- the lengths of the struct's arrays
 

@@ -31,9 +31,9 @@ unfolding layout
 second-image = refl
 
 -- (3, 5) goes over (3, 4): one byte differs, then the first mark is raised
-pub whole-run : writes 9 (1 ∷ 2 ∷ 3 ∷ 4 ∷ none) (3 ∷ 5 ∷ []) 0 ≡ Write 3 5 ∷ Write 4 1 ∷ []
+pub first-run : writes 9 (1 ∷ 2 ∷ 3 ∷ 4 ∷ none) (3 ∷ 5 ∷ []) 0 ≡ Write 3 5 ∷ Write 4 1 ∷ []
 unfolding layout step writes
-whole-run = refl
+first-run = refl
 
 pub after-it : stored (3 ∷ 5 ∷ []) (1 ∷ 2 ∷ 3 ∷ 4 ∷ none) ≡ 1 ∷ 2 ∷ 3 ∷ 5 ∷ one
 unfolding layout step writes written stored

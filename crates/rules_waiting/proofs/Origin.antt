@@ -19,15 +19,15 @@ use Rattle.rules.specs.Run.{final, kept}
 use Rattle.rules.proofs.Answers.{passed}
 use Rattle.rules.proofs.SoundKept.{sound-kept}
 use Rattle.rules_waiting.specs.Slots.{Seat, Round, anew, after, slotOf, recordOf, roundOf, waiting}
-use Rattle.rules_waiting.specs.Round.{seats, occupied, orphaned, heldRound}
-use Rattle.rules_waiting.specs.Terminal.{Terminal, slotSound, soundTerminal, handInChecks, handedIn, clears, sameCount, queueAfter, takeChecks, turn, due}
+use Rattle.rules_waiting.specs.Round.{seats, occupied, sameSeats, orphaned, heldRound}
+use Rattle.rules_waiting.specs.Terminal.{Terminal, slotSound, soundTerminal, handInChecks, handedIn, clears, queueAfter, takeChecks, turn, due}
 use Rattle.rules_waiting.specs.Terminal.{takeOf, taken, directChecks, directOf, judged}
 use Rattle.rules_waiting.specs.Inputs.{Input, handIn, takeAt, direct, next, bytesOf, turns, Undisturbed, recordsIn, recordIf, allKept, droppedBy}
 use Rattle.rules_waiting.specs.Inputs.{allDropped, countOf}
 use Rattle.rules.proofs.CheckLaws.{check-cases}
 use Rattle.rules_waiting.proofs.SlotLaws.{TwoLong, waiting-back, record-back, short-record}
 use Rattle.rules_waiting.proofs.Held.{slot-held}
-use Rattle.rules_waiting.proofs.RowsMoved.{seats-same}
+use Rattle.rules_waiting.proofs.RowsMoved.{seats-are}
 use Rattle.rules_waiting.proofs.Sound.{terminal-parts, made-waits, hand-passed, held-two, every-same, every-staying, turn-is, take-passed, sound-next}
 use Rattle.rules_waiting.proofs.Sound.{fresh-is}
 use Rattle.rules_waiting.proofs.Stays.{direct-ready}
@@ -57,8 +57,8 @@ after-waiting d t q k ws s two h a c =
     let t′ = tablesAfter d t q in
     let s′ = sound-kept d t q s in
     rw c
-    (cond-cases (λ (m : List ℕ). waiting m ≡ without (orphaned (seats t′)) ws) (sameCount t t′)
-    (λ e. let all = every-same t t′ ws (seats-same d t q s c e) h in
+    (cond-cases (λ (m : List ℕ). waiting m ≡ without (orphaned (seats t′)) ws) (sameSeats (seats t) (seats t′))
+    (λ e. let all = every-same t t′ ws (sym (seats-are (seats t) (seats t′) e)) h in
     made-waits t′ k ws s′ two all a ∙ sym (none-goes (orphaned (seats t′)) ws (none-gone t′ ws all)))
     (λ _. made-waits t′ _ _ s′ (held-two t′ (heldRound (seats t) k) (held-two t k two)) (every-staying t t′ ws h) (distinct-without _ ws a)))
 

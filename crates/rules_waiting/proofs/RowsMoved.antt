@@ -1,16 +1,16 @@
--- Theorem: a record that leaves as many credential rows as there were leaves the same seats, unless it clears the tables.
+-- Theorem: a record leaves the same seats exactly where it leaves as many credential rows as there were, unless it clears the tables.
 -- One record never both adds and removes rows, so their number tells whether the queue is to be looked through.
-use Rattle.rows.proofs.Prelude.{_≡_, refl, sym, ap, _∙_, Bool, true, false, List, [], _∷_, map, _+_, arith, length, take, length-map, eq-eqb, eqb-true}
-use Rattle.rows.proofs.Prelude.{bool-cases, contradiction}
-use Rattle.rows.specs.Rows.{Row, numberedAs, some, without, stored}
+use Rattle.rows.proofs.Prelude.{_≡_, refl, sym, ap, ap₂, _∙_, Bool, true, false, List, [], _∷_, map, _+_, arith, length, take, length-map, eqb, eq-eqb}
+use Rattle.rows.proofs.Prelude.{eqb-true, bool-cases, contradiction, and-left, and-right, and-both}
+use Rattle.rows.specs.Rows.{Row, same, numberedAs, some, without, stored}
 use Rattle.rows.proofs.Gap.{fewer-stay, none-goes}
-use Rattle.rows.proofs.Kept.{same-true, length-stored}
+use Rattle.rows.proofs.Kept.{same-true, same-refl, length-stored}
 use Rattle.rules.specs.declared.Tables.{Tables}
 use Rattle.rules.specs.declared.Table.the-variants.{Creds, Aces}
 use Rattle.rules.specs.declared.Action.{Action}
 use Rattle.rules.specs.declared.Action.the-variants.{Serve, Read, SetRowOwner, SetOwner, SetState, Store, Remove, Assert, Malformed}
 use Rattle.rules.specs.Record.{Request, body}
-use Rattle.rules.specs.Tables.{rowOf, rows, withRows, sound}
+use Rattle.rules.specs.Tables.{headOf, rowOf, rows, count, withRows, sound}
 use Rattle.rules.specs.Defaults.{Defaults}
 use Rattle.rules.specs.Action.{action}
 use Rattle.rules.specs.Permission.{permission}
@@ -18,10 +18,30 @@ use Rattle.rules.specs.Checks.{checks, verdict}
 use Rattle.rules.specs.Outcome.{outcome, outcomeAt, effectBy, entered, responseTo, tablesAfter}
 use Rattle.rules.proofs.Answers.{rows-count}
 use Rattle.rules.proofs.TableLaws.{rows-with}
-use Rattle.rules.proofs.SoundKept.{SoundRows, Passed, passed-all, stored-sound, removed-sound, asserted-sound}
-use Rattle.rules_waiting.specs.Round.{nobody, seats}
-use Rattle.rules_waiting.specs.Terminal.{isReset, clears, sameCount}
+use Rattle.rules.proofs.SoundKept.{SoundRows, Passed, passed-all, stored-sound, removed-sound, asserted-sound, sound-kept}
+use Rattle.rules_waiting.specs.Slots.{Seat}
+use Rattle.rules_waiting.specs.Round.{nobody, seats, sameSeats}
+use Rattle.rules_waiting.specs.Terminal.{isReset, clears}
 use Rattle.rules.proofs.CheckLaws.{check-cases}
+
+-- as many credential rows as before
+unfoldable pub sameCount : Tables → Tables → Bool
+sameCount t t′ = eqb (count Creds (headOf t)) (count Creds (headOf t′))
+
+-- ---- the test of seats
+
+pub seats-are : (ps qs : List Seat) → sameSeats ps qs ≡ true → ps ≡ qs
+unfolding sameSeats
+seats-are [] [] e = refl
+seats-are [] (q ∷ qs) e = contradiction e refl
+seats-are (p ∷ ps) [] e = contradiction e refl
+seats-are (p ∷ ps) (q ∷ qs) e =
+    ap₂ (λ (a : Seat) (l : List Seat). a ∷ l) (same-true p q (and-left _ _ e)) (seats-are ps qs (and-right (same p q) _ e))
+
+pub seats-again : (ps : List Seat) → sameSeats ps ps ≡ true
+unfolding sameSeats
+seats-again [] = refl
+seats-again (p ∷ ps) = and-both (same p p) _ (same-refl p) (seats-again ps)
 
 -- ---- rows stored and removed
 
@@ -82,3 +102,14 @@ unfolding sameCount seats
 as-many t t′ h h′ e =
     eq-eqb (t .ncreds) (t′ .ncreds)
     (omega (arith, rows-count Creds t h, rows-count Creds t′ h′, length-map (rows Creds t) (take 2), length-map (rows Creds t′) (take 2), ap length e))
+
+-- so the number of rows tells whether one was added or removed
+pub count-tells : (d : Defaults) (t : Tables) (q : Request) → sound t ≡ true → clears d t q ≡ false
+    → sameSeats (seats t) (seats (tablesAfter d t q)) ≡ sameCount t (tablesAfter d t q)
+count-tells d t q h c =
+    let t′ = tablesAfter d t q in
+    bool-cases (sameCount t t′)
+    (λ e. rw (e, seats-same d t q h c e) (seats-again (seats t)))
+    (λ e. bool-cases (sameSeats (seats t) (seats t′))
+    (λ f. contradiction (as-many t t′ h (sound-kept d t q h) (sym (seats-are (seats t) (seats t′) f))) e)
+    (λ f. f ∙ sym e))

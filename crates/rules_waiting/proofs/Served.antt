@@ -13,7 +13,6 @@ use Rattle.rules.specs.Tables.{rows, sound}
 use Rattle.rules.specs.Defaults.{Defaults}
 use Rattle.rules.specs.Checks.{verdict}
 use Rattle.rules.specs.Outcome.{tablesAfter}
-use Rattle.rules.proofs.SoundKept.{sound-kept}
 use Rattle.rules_waiting.specs.Slots.{Seat, after, slotOf, recordOf, roundOf, waiting}
 use Rattle.rules_waiting.specs.Round.{seats, held, occupied, inTurn, firstInTurn}
 use Rattle.rules_waiting.specs.Terminal.{Terminal, slotSound, soundTerminal, handInChecks, withRecord, handedIn, clears, queueAfter, turn, due, takeOf}
@@ -23,7 +22,7 @@ use Rattle.rules_waiting.proofs.SeatLaws.{Unmoved, first-least, first-w
 use Rattle.rules.proofs.CheckLaws.{check-cases}
 use Rattle.rules_waiting.proofs.SlotLaws.{round-back, slot-length}
 use Rattle.rules_waiting.proofs.Held.{tables-apart, tables-seats, seat-long, slot-held}
-use Rattle.rules_waiting.proofs.RowsMoved.{as-many}
+use Rattle.rules_waiting.proofs.RowsMoved.{seats-again}
 use Rattle.rules_waiting.proofs.Sound.{terminal-parts, made-waits, hand-free, hand-keeps, own-key, turn-is, sound-next}
 use Rattle.rules_waiting.proofs.Stays.{direct-ready, queue-stays}
 use Rattle.rules_waiting.proofs.Refused.{take-ready}
@@ -72,7 +71,7 @@ take-queue d x q h n c e =
     let two = turn-is x h n .two in
     let ws = without (hasKey 0 (turn x)) (waiting (x .queue)) in
     let all = every-without (slotSound (rows Creds t)) (hasKey 0 (turn x)) (waiting (x .queue)) (s .keeps) in
-    rw (c, as-many t (tablesAfter d t q) (s .tables) (sound-kept d t q (s .tables)) e) (
+    rw (c, e, seats-again (seats t)) (
       made-waits t (after (turn x)) ws (s .tables) two all (distinct-without (hasKey 0 (turn x)) (waiting (x .queue)) (s .apart)),
       round-back (after (turn x)) ws two,
     )
@@ -100,9 +99,7 @@ module _ (d : Defaults) (n : Seat) where
   direct-waits : (x : Terminal) (q : Request) → soundTerminal x ≡ true → some (hasKey 0 n) (waiting (x .queue)) ≡ true
       → clears d (x .tables) q ≡ false → seats (tablesAfter d (x .tables) q) ≡ seats (x .tables)
       → Waits x (directOf d x q Pass .terminal) × (distance (directOf d x q Pass .terminal) ≡ distance x)
-  direct-waits x q h o c e =
-      let s = terminal-parts x h .tables in
-      rw (queue-stays d x q h c (as-many (x .tables) (tablesAfter d (x .tables) q) s (sound-kept d (x .tables) q s) e), e) ((o, refl), refl)
+  direct-waits x q h o c e = rw (queue-stays d x q h c e, e) ((o, refl), refl)
 
   module _ (l : length n ≡ 2) where
     -- the seat whose turn it is stands before seat n: once it was taken, seat n is nearer

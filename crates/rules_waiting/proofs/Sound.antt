@@ -16,16 +16,16 @@ use Rattle.rules.specs.Run.{final}
 use Rattle.rules.proofs.Answers.{passed}
 use Rattle.rules.proofs.SoundKept.{sound-kept, fresh-sound}
 use Rattle.rules_waiting.specs.Slots.{Round, anew, after, slotOf, roundOf, waiting, queueOf, emptyQueue}
-use Rattle.rules_waiting.specs.Round.{seats, held, occupied, inTurn, firstInTurn, orphaned, heldRound}
+use Rattle.rules_waiting.specs.Round.{seats, held, occupied, inTurn, firstInTurn, sameSeats, orphaned, heldRound}
 use Rattle.rules_waiting.specs.Terminal.{Terminal, slotSound, queueSound, soundTerminal, freshTerminal, handInChecks, withRecord, handedIn, clears}
-use Rattle.rules_waiting.specs.Terminal.{sameCount, queueAfter, takeChecks, turn, due, taken, directChecks, judged}
+use Rattle.rules_waiting.specs.Terminal.{queueAfter, takeChecks, turn, due, taken, directChecks, judged}
 use Rattle.rules_waiting.specs.Inputs.{Input, handIn, takeAt, direct, next}
 use Rattle.rules_waiting.proofs.SeatLaws.{first-passes, first-in, first-least, turn-in, turn-of}
 use Rattle.rules.proofs.CheckLaws.{check-cases}
 use Rattle.rules_waiting.proofs.SlotLaws.{TwoLong, waiting-back, slots-long, queue-parts, queue-sound, round-two, slot-length, slot-made}
 use Rattle.rules_waiting.proofs.SlotLaws.{slot-seat, slot-two}
 use Rattle.rules_waiting.proofs.Held.{slot-held, slot-in, seat-long, few-slots}
-use Rattle.rules_waiting.proofs.RowsMoved.{seats-same}
+use Rattle.rules_waiting.proofs.RowsMoved.{seats-are}
 use Rattle.rules.specs.declared.Table.the-variants.{Creds}
 
 pub record Sound (x : Terminal) : Type 0 where
@@ -128,8 +128,8 @@ sound-after d t q k ws s two h a =
     let still = held-two t k two in
     cond-cases (λ (m : List ℕ). queueSound (rows Creds t′) m ≡ true) (clears d t q)
     (λ _. fresh-queue t′ s′)
-    (λ c. cond-cases (λ (m : List ℕ). queueSound (rows Creds t′) m ≡ true) (sameCount t t′)
-    (λ e. made t′ _ _ s′ (search) (every-same t t′ ws (seats-same d t q s c e) h) a)
+    (λ _. cond-cases (λ (m : List ℕ). queueSound (rows Creds t′) m ≡ true) (sameSeats (seats t) (seats t′))
+    (λ e. made t′ _ _ s′ (search) (every-same t t′ ws (sym (seats-are (seats t) (seats t′) e)) h) a)
     (λ _. made t′ _ _ s′ (held-two t′ (heldRound (seats t) k) still) (every-staying t t′ ws h) (distinct-without _ ws a)))
 
 -- ---- take
@@ -204,6 +204,6 @@ sound-next d x (direct q) h =
     (sound-after d (x .tables) q _ _ (s .tables) (s .two) (s .keeps) (s .apart))))
     (λ n e. rw (e, next) h)
 
-pub run-sound : (d : Defaults) (x : Terminal) (is : List Input) → soundTerminal x ≡ true → soundTerminal (final (next d) x is) ≡ true
-run-sound d x [] h = h
-run-sound d x (i ∷ is) h = run-sound d (next d x i) is (sound-next d x i h)
+pub inputs-sound : (d : Defaults) (x : Terminal) (is : List Input) → soundTerminal x ≡ true → soundTerminal (final (next d) x is) ≡ true
+inputs-sound d x [] h = h
+inputs-sound d x (i ∷ is) h = inputs-sound d (next d x i) is (sound-next d x i h)

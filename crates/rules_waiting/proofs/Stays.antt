@@ -1,7 +1,7 @@
 -- Theorems: what a record that is judged at once leaves of the memory. It stays byte for
 -- byte unless a credential row is added or removed or the tables are cleared;
 -- cleared tables hold no waiting record, whatever rows they hold. A round whose row is not held is not revived by a row that comes with its number.
-use Rattle.rows.proofs.Prelude.{_≡_, refl, ap, _∙_, true, false, List, ℕ, suc, arith, eqb, eq-eqb, ne-eqb}
+use Rattle.rows.proofs.Prelude.{_≡_, ap, _∙_, true, false, List, ℕ, suc, arith, ne-eqb}
 use Rattle.rows.specs.Rows.{Row}
 use Rattle.rules.specs.declared.Tables.{Tables}
 use Rattle.rules.specs.declared.Check.the-variants.{Pass}
@@ -10,13 +10,12 @@ use Rattle.rules.specs.Defaults.{Defaults}
 use Rattle.rules.specs.Checks.{verdict}
 use Rattle.rules.specs.Outcome.{Outcome, responseTo, tablesAfter}
 use Rattle.rules.proofs.Refusals.{refusal-is}
-use Rattle.rules.proofs.SoundKept.{sound-kept}
 use Rattle.rules_waiting.specs.Slots.{Round, anew, roundOf, waiting, queueOf, emptyQueue}
-use Rattle.rules_waiting.specs.Round.{seats, heldRound}
-use Rattle.rules_waiting.specs.Terminal.{Terminal, terminal, Transition, soundTerminal, clears, sameCount, queueAfter, terminalAfter, directChecks, directOf}
+use Rattle.rules_waiting.specs.Round.{seats, sameSeats, heldRound}
+use Rattle.rules_waiting.specs.Terminal.{Terminal, terminal, Transition, soundTerminal, clears, queueAfter, terminalAfter, directChecks, directOf}
 use Rattle.rules_waiting.specs.Terminal.{judged}
 use Rattle.rules_waiting.proofs.SlotLaws.{queue-is, round-back}
-use Rattle.rules_waiting.proofs.RowsMoved.{as-many}
+use Rattle.rules_waiting.proofs.RowsMoved.{seats-again}
 use Rattle.rules_waiting.proofs.Sound.{terminal-parts}
 
 -- a record on a sound terminal is judged
@@ -31,34 +30,28 @@ never-clears d t q n a = rw (ne-eqb (responseTo d t q .answer) 0 (omega arith))
 
 pub refused-after : (d : Defaults) (t : Tables) (q : Request) (k : Round) (ws : List Row) (n : ℕ) → responseTo d t q .answer ≡ suc n
     → terminalAfter d t q k ws ≡ terminal t (queueOf k ws)
-unfolding queueAfter sameCount
-refused-after d t q k ws n a = rw (never-clears d t q n a, ap (λ (o : Outcome). o .tables) (refusal-is d t q n a), eq-eqb (t .ncreds) (t .ncreds) refl)
+unfolding queueAfter
+refused-after d t q k ws n a = rw (never-clears d t q n a, ap (λ (o : Outcome). o .tables) (refusal-is d t q n a), seats-again (seats t))
 
 module _ (d : Defaults) (x : Terminal) (q : Request) (h : soundTerminal x ≡ true) where
   pub judged-is : judged d x q ≡ directOf d x q Pass
   unfolding judged
   judged-is = ap (directOf d x q) (direct-ready x h)
 
-  -- as many rows: the memory stays byte for byte
-  pub queue-stays : clears d (x .tables) q ≡ false → sameCount (x .tables) (tablesAfter d (x .tables) q) ≡ true
+  -- no row is added or removed: the memory stays byte for byte
+  pub queue-stays : clears d (x .tables) q ≡ false → seats (tablesAfter d (x .tables) q) ≡ seats (x .tables)
       → queueAfter d (x .tables) q (roundOf (x .queue)) (waiting (x .queue)) ≡ x .queue
   unfolding queueAfter
-  queue-stays c e = rw (c, e) (queue-is (x .tables) (x .queue) (terminal-parts x h .queue))
+  queue-stays c e = rw (c, e, seats-again (seats (x .tables))) (queue-is (x .tables) (x .queue) (terminal-parts x h .queue))
 
-  -- no row is added or removed
   pub undisturbed-stays : clears d (x .tables) q ≡ false → seats (tablesAfter d (x .tables) q) ≡ seats (x .tables) → judged d x q .terminal .queue ≡ x .queue
-  undisturbed-stays c e =
-      let s = terminal-parts x h .tables in
-      ap (λ (a : Transition). a .terminal .queue) judged-is
-      ∙ queue-stays c (as-many (x .tables) (tablesAfter d (x .tables) q) s (sound-kept d (x .tables) q s) e)
+  undisturbed-stays c e = ap (λ (a : Transition). a .terminal .queue) judged-is ∙ queue-stays c e
 
   -- tables that stay leave the terminal as it was: a record that is read, served or refused
   pub unchanged-stays : tablesAfter d (x .tables) q ≡ x .tables → clears d (x .tables) q ≡ false
       → terminalAfter d (x .tables) q (roundOf (x .queue)) (waiting (x .queue)) ≡ x
-  unfolding sameCount
   unchanged-stays e c =
-      ap (terminal (tablesAfter d (x .tables) q))
-      (queue-stays c (ap (λ (t : Tables). eqb (x .tables .ncreds) (t .ncreds)) e ∙ eq-eqb (x .tables .ncreds) (x .tables .ncreds) refl))
+      ap (terminal (tablesAfter d (x .tables) q)) (queue-stays c (ap seats e))
       ∙ ap (λ (t : Tables). terminal t (x .queue)) e
 
   -- cleared tables hold no waiting record
@@ -70,7 +63,7 @@ module _ (d : Defaults) (x : Terminal) (q : Request) (h : soundTerminal x ≡ tr
 
 -- what a record leaves where the round stood at a seat that the tables do not hold: anew once a row comes or goes
 pub not-revived : (d : Defaults) (x : Terminal) (q : Request) → soundTerminal x ≡ true → heldRound (seats (x .tables)) (roundOf (x .queue)) ≡ anew
-    → sameCount (x .tables) (tablesAfter d (x .tables) q) ≡ false → clears d (x .tables) q ≡ false
+    → sameSeats (seats (x .tables)) (seats (tablesAfter d (x .tables) q)) ≡ false → clears d (x .tables) q ≡ false
     → roundOf (judged d x q .terminal .queue) ≡ anew
 unfolding queueAfter
 not-revived d x q h n m c =

@@ -1,7 +1,7 @@
 -- Whose turn it is: takes go round from the unauthenticated seat through the credential rows, starting after the last seat taken.
 use Prim.Native.Nat.{ℕ, suc}
-use mathlib.Core.Bool.{Bool, not, cond}
-use mathlib.Core.List.{List, _∷_, _++_, map}
+use mathlib.Core.Bool.{Bool, true, false, not, _&&_, cond}
+use mathlib.Core.List.{List, [], _∷_, _++_, map}
 use lib.ListN.{take, drop}
 use Rattle.rows.specs.Rows.{Row, same, hasKey, some, firstRow, rowsBefore}
 use Rattle.rules.specs.declared.Tables.{Tables}
@@ -43,6 +43,13 @@ unfoldable pub firstInTurn : Round → List Seat → List Row → Seat
 firstInTurn k ps ws = firstRow (occupied ws) (inTurn k ps)
 
 -- ---- when credential rows come and go
+
+-- the seats are the same: no credential row was added, and none removed
+unfoldable pub sameSeats : List Seat → List Seat → Bool
+sameSeats [] [] = true
+sameSeats [] (q ∷ qs) = false
+sameSeats (p ∷ ps) [] = false
+sameSeats (p ∷ ps) (q ∷ qs) = same p q && sameSeats ps qs
 
 -- the slot's seat is none of these
 unfoldable pub orphaned : List Seat → Row → Bool

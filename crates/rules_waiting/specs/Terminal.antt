@@ -11,8 +11,9 @@ use Rattle.rules.specs.declared.Check.{Check}
 use Rattle.rules.specs.declared.Check.the-variants.{Pass, Refuse}
 use Rattle.rules.specs.declared.Action.{Action}
 use Rattle.rules.specs.Kinds.{onMove}
+use Rattle.rules.specs.States.{reset}
 use Rattle.rules.specs.Record.{Request, received}
-use Rattle.rules.specs.Tables.{headOf, rows, count, sound}
+use Rattle.rules.specs.Tables.{rows, sound}
 use Rattle.rules.specs.Defaults.{Defaults, fresh}
 use Rattle.rules.specs.Action.{action}
 use Rattle.rules.specs.Checks.{verdict, isPass}
@@ -21,7 +22,7 @@ use Rattle.rules.specs.Outcome.{Response, numberResponse, Said, responseTo, tab
 use Rattle.rules_waiting.specs.declared.Taken.{Taken}
 use Rattle.rules_waiting.specs.Slots.{Seat, Round, after, slotLong, slotsMost, queueSize, seatOf, padded, slotOf}
 use Rattle.rules_waiting.specs.Slots.{recordOf, roundBytes, roundOf, waiting, queueOf, emptyQueue}
-use Rattle.rules_waiting.specs.Round.{seats, occupied, firstInTurn, orphaned, heldRound}
+use Rattle.rules_waiting.specs.Round.{seats, occupied, firstInTurn, sameSeats, orphaned, heldRound}
 
 pub record Terminal : Type 0 where
   pub tables : Tables
@@ -88,23 +89,20 @@ handedIn x r = handInOf x r (verdict (handInChecks x r))
 -- ---- what a judged record leaves of the queue
 
 abbrev pub isReset : Action → Bool
-isReset = onMove (λ target. eqb target 0) false
+isReset = onMove (λ target. eqb target reset) false
 
 -- a permitted record that gives the fresh tables
 unfoldable pub clears : Defaults → Tables → Request → Bool
 clears d t q = eqb (responseTo d t q .answer) 0 && isReset (action (q .bytes))
 
--- as many credential rows as before: but for fresh tables, none was added and none removed (`seats-same`)
-unfoldable pub sameCount : Tables → Tables → Bool
-sameCount t t′ = eqb (count Creds (headOf t)) (count Creds (headOf t′))
-
--- the memory beside the tables that a record leaves, where k was the round and ws the slots: fresh tables hold no waiting record,
--- with a credential row its waiting record goes, and the round begins anew where its row goes or was not held
+-- the memory beside the tables that a record leaves, where k was the round and ws the slots: fresh tables hold no waiting record;
+-- while no credential row is added or removed it stays; with a row its waiting record goes, and the round begins anew where its row goes or
+-- was not held
 unfoldable pub queueAfter : Defaults → Tables → Request → Round → List Row → List ℕ
 queueAfter d t q k ws =
     let t′ = tablesAfter d t q in
     cond (clears d t q) emptyQueue
-    (cond (sameCount t t′) (queueOf k ws)
+    (cond (sameSeats (seats t) (seats t′)) (queueOf k ws)
     (queueOf (heldRound (seats t′) (heldRound (seats t) k)) (without (orphaned (seats t′)) ws)))
 
 abbrev pub terminalAfter : Defaults → Tables → Request → Round → List Row → Terminal

@@ -40,7 +40,7 @@ module _ (s : tie.Start) where
   of-rows = rowChecks (s .args .clock) tables row (now (s .args .b)) asked
 
   abbrev room : List (ℕ × Bool)
-  room = roomChecks (s .args .capacity) (replyTo (s .args .clock) tables row (s .args .caller .header))
+  room = roomChecks (s .args .capacity) (length (replyTo (s .args .clock) tables row (s .args .caller .header)))
 
   abbrev all : List (ℕ × Bool)
   all = (requests ++ (states ++ of-rows)) ++ room

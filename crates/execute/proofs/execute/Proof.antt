@@ -2,7 +2,9 @@
 use Rattle.rows.proofs.Prelude.{refl, ap, _∙_, List, ℕ, length, now, needs}
 use Rattle.text.proofs.Buffers.{puts-length}
 use Rattle.rules.specs.declared.Tables.{Tables}
-use Rattle.rules.specs.Record.{Request, received}
+use Rattle.rows.specs.Rows.{Row}
+use Rattle.rules.specs.Record.{Request, received, body}
+use Rattle.rules.specs.Outcome.{effect}
 use Rattle.rules.specs.Tables.{tablesOf}
 use Rattle.rules.specs.Defaults.{Defaults, defaults}
 use Rattle.rules.specs.StoreRange.{storeRangeOf}
@@ -48,7 +50,9 @@ returns c =
           (measured .payload-length .ensures ∙ payload-as (tables s) (request s) (s .args .d) (s .pre .1) (s .pre .2) _ body-is)
           (at .places-of .ensures ∙ ap (λ (b : List ℕ). storeRangeOf (tables s) b (s .args .d .action)) body-is)
           (measured .before .before .links-of .ensures ∙ links-as (tables s) (request s) (s .args .d) (s .pre .1) (s .pre .2) (s .pre .0))
-          (c .apply .ensures);
+          (c .apply .ensures
+          ∙ ap (λ (w : Row). effect (lists s) (s .args .clock) (tables s) w (body (request s .bytes)) (s .args .d .action))
+          (row-is (tables s) (request s) (s .args .d) (s .pre .1) (s .pre .2)));
       fills = fills (tables s) (request s) (s .args .d) (s .pre .1) (s .pre .2) (s .pre .0) (lists s) _ _ _ refl
           (reply-as (tables s) (request s) (s .args .d) (s .pre .1) (s .pre .2)) (put .put-reply .ensures);
     }
