@@ -25,10 +25,10 @@ NOTE = re.compile(r"requires holds at this call")
 
 
 def first_of(lines):
-    """The first error, or else the first note."""
-    for mark in (": error", "note: "):
+    """The first error, or else the first note of something that is not proved."""
+    for mark in (r": error\b", r"^note: .*it is not proved that"):
         for line in lines:
-            if mark in line:
+            if re.search(mark, line):
                 return line
     return ""
 
