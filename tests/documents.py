@@ -5,12 +5,13 @@
     tests/documents.py --write    first makes the pictures of docs/PICTURES.md and the tables of docs/ANSWERS.md anew
 
 README.md       the layers with crates.txt; what must be believed with what the contracts cite
-PROOFS.md       each theorem and function that its tables name stands in the file named, or in the crate
+PROOFS.md       each theorem that its tables name is exported with a statement by a file named; each function stands in the file or crate;
+                each public function with a `requires` is in the table of what is asked for; each function for C is an entry point
 README.md, SECURITY.md, CHANGELOG.md, SECURITY-MODEL.md, ASSESSOR.md, ANSWERS.md, PICTURES.md
                 each theorem that is named before its file, as `name` (crate/proofs/File.antt), stands there, and each
                 `crate::function` is one
 CHANGELOG.md    its first heading is the header's version; the lengths of tables, rows and waiting records are today's
-MUST-FAIL.md    each edit has a row, and each row its edit
+MUST-FAIL.md    each edit has a row, and each row its edit; the rows of two edits or more name each entry point
 PICTURES.md     the pictures with those made from the definitions
 ANSWERS.md      the tables with those made from the header, the words of names.rs and the definitions; the columns
                 'usual cause' and 'what to do' are written by hand in the page, and kept
@@ -25,7 +26,7 @@ import sys
 
 sys.dont_write_bytecode = True
 from answers import ANSWERS, answers, order_picture, sequence_picture, states_picture, writes_table  # noqa: E402
-from sources import HEADER, Changed, declares, faults, fault, found, functions_of, number, read, right_side, rows_of  # noqa: E402
+from sources import HEADER, Changed, asks, contracts, exports, faults, fault, found, functions_of, number, read, right_side, rows_of  # noqa: E402
 
 PAGE = "docs/PICTURES.md"
 CITED = ["README.md", "SECURITY.md", "CHANGELOG.md", "docs/SECURITY-MODEL.md", "docs/ASSESSOR.md", "docs/ANSWERS.md", PAGE]
@@ -430,49 +431,71 @@ def files_of(cells):
 
 def check_proofs():
     text = read("docs/PROOFS.md")
-    theorems, contracts = text.split("## Theorems over the definitions")[1].split("## Contracts")
+    theorems, told = text.split("## Theorems over the definitions")[1].split("## Contracts")
     for cells in rows_of(theorems)[1:]:
-        sources = "\n".join(read(path) for path in files_of(cells[1:]))
+        paths = files_of(cells[1:])
         for name in re.findall(r"`([^`]+)`", cells[1]):
-            if not declares(sources, name):
+            if not any(exports(path, name) for path in paths):
                 fault(f"PROOFS.md: {name} is exported with a statement by no file that its row names")
-    contracts = contracts.split("## The reviewer's")[0]
-    check_functions(contracts)
-    check_asked_for(contracts.split("Some of them ask something")[1])
+    told = told.split("## The reviewer's")[0]
+    entries, rest = told.split("Between the layers")
+    between, asked = rest.split("Some of them ask something")
+    for part in (entries, between, asked):
+        check_functions(part)
+    check_asked_for(named_in(asked))
+    check_entry_points(named_in(entries))
 
 
-def check_functions(text):
-    """A function in a row's first cell stands in its crate, in a file of it that the last cell names, if that names any.
-    A name without a crate has that of the name before it, and one like `_clear` begins as that does."""
+def named_in(text):
+    """(crate, function) of each function in the rows' first cells. A name without a crate has that of the name before it, and one
+    like `_clear` begins as that does."""
+    named = []
     for cells in rows_of(text):
-        named = re.findall(r"\w+/src(?:/\w+\.rt)?", cells[-1])
         crate = before = ""
         for words in re.findall(r"`((?:\w+::)*\w+)`", cells[0]):
             first, name = words.split("::")[0], words.split("::")[-1]
             crate = first if os.path.isdir(f"crates/{first}") else crate
-            if words == crate:
-                continue
-            before = before.split("_")[0] + name if name.startswith("_") else name
-            paths = [path for path in named if path.startswith(f"{crate}/") or not crate] if named else [f"{crate}/src"]
-            if not any(before in functions_of(f"crates/{path}") for path in paths):
-                fault(f"PROOFS.md: there is no function {before} in {' or '.join(paths) or crate}")
+            if words != crate:
+                before = before.split("_")[0] + name if name.startswith("_") else name
+                named.append((crate, before))
+    return named
 
 
-def check_asked_for(text):
-    """Each public function with a `requires` has a row in the table of what is asked for."""
-    named = set()
+def check_functions(text):
+    """A function in a row's first cell stands in its crate, in a file of it that the last cell names, if that names any."""
     for cells in rows_of(text):
-        crate = ""
-        for words in re.findall(r"`((?:\w+::)*\w+)`", cells[0]):
-            crate = words.split("::")[0] if "::" in words else crate
-            named.add((crate, words.split("::")[-1]))
-    for path in glob.glob("crates/*/src/**/*.rt", recursive=True):
-        crate, module = path.split("/")[1], os.path.basename(path)[:-3]
-        if module not in ("lib", "main") and not re.search(rf"^pub mod {module};", read(f"crates/{crate}/src/lib.rt"), re.M):
-            continue
-        for name, contract in re.findall(r"^ *pub (?:extern \"C\" )?fn (\w+)(.*?)^ *\{$", read(path), re.M | re.S):
-            if re.search(r"^ *requires\b", contract, re.M) and (crate, name) not in named:
-                fault(f"PROOFS.md: {crate}::{name} has a requires, and no row says what it asks for")
+        files = re.findall(r"\w+/src(?:/\w+\.rt)?", cells[-1])
+        for crate, name in named_in("| " + " | ".join(cells) + " |"):
+            paths = [path for path in files if path.startswith(f"{crate}/") or not crate] if files else [f"{crate}/src"]
+            if not any(name in functions_of(f"crates/{path}") for path in paths):
+                fault(f"PROOFS.md: there is no function {name} in {' or '.join(paths) or crate}")
+
+
+def check_asked_for(named):
+    """The table of what is asked for has each public function with a `requires`, and no other."""
+    asking = {(crate, name) for crate, name, contract in contracts() if asks(contract)}
+    for crate, name in sorted(asking - set(named)):
+        fault(f"PROOFS.md: {crate}::{name} has a requires, and no row says what it asks for")
+    for crate, name in sorted(set(named) - asking):
+        fault(f"PROOFS.md: {crate}::{name} asks for nothing, and a row says what")
+
+
+# crates whose entry points do not have two edits each
+FEWER = {"terminal"}
+
+
+def check_entry_points(named):
+    """An entry point has no `requires`, and two edits of its crate whose rows name it. Each function for C is one."""
+    public = {(crate, name): contract for crate, name, contract in contracts()}
+    for crate, name in sorted(key for key, contract in public.items() if 'extern "C"' in contract and key not in named):
+        fault(f"PROOFS.md: {crate}::{name} is no entry point of the table, and C calls it")
+    rows = rows_of(read("docs/MUST-FAIL.md"))[1:]
+    for crate, name in named:
+        if asks(public.get((crate, name), "requires")):
+            fault(f"PROOFS.md: the entry point {crate}::{name} is not public, or has a requires")
+        many = sum(cells[0] == crate and f"`{name}`" in cells[2] for cells in rows)
+        if many < 2 and crate not in FEWER:
+            fault(f"MUST-FAIL.md: {many} edits of the entry point {crate}::{name}, and two are asked for")
 
 
 def check_cited(page):
@@ -483,7 +506,7 @@ def check_cited(page):
             fault(f"{page}: there is no file crates/{path}")
             continue
         for name in re.findall(r"`([^`]+)`", names):
-            if not declares(read(f"crates/{path}"), name):
+            if not exports(f"crates/{path}", name):
                 fault(f"{page}: {name} does not stand in crates/{path}")
     for crate, name in re.findall(r"`(\w+)::(?:\w+::)*(\w+)`", text):
         # `tillerclover::..` is the library's name in CMake and in Rust

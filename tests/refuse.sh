@@ -82,10 +82,13 @@ if [ -n "$wanted" ] && [ -n "$has" ]; then
 fi
 echo "The first error:"
 head -n 12 "$work/first" | sed "s#$work/target/must-fail/$crate/own/#crates/$crate/#g; s#^#    #" | cut -c 1-900
-# shellcheck source=tests/form.sh
-. tests/form.sh
-if grep -qE "$form" "$work/first"; then
-    echo "This error is of the edit's form: a name, a type or a number of arguments that does not fit. It says nothing of the contract."
+case $(tests/refused.py "$log") in
+*": is refused for its form: "*)
+    echo "An error is of the edit's form: a name, a type or a number of arguments that does not fit. It says nothing of the contract."
     echo "Exchange a constant, an argument or a comparison instead."
-fi
+    ;;
+*": is refused first for "*)
+    echo "This error is of what a callee asks for, and not of what the edited function promises. Exchange something behind that call."
+    ;;
+esac
 exit 0

@@ -106,7 +106,24 @@ def functions_of(path):
     return {name for file in files if os.path.exists(file) for name in re.findall(r"\bfn (\w+)", read(file))}
 
 
-def declares(text, name):
-    """Whether an .antt text declares the name."""
+def exports(path, name):
+    """Whether an .antt file exports the name with a statement, or as a record or data type, and its crate exports the file."""
+    folder, file = os.path.split(path)
+    if not re.search(rf"^pub mod {file[:-5]}$", read(f"{folder}/Lib.antt"), re.M):
+        return False
     word = re.escape(name)
-    return re.search(rf"^ *(?:(?:pub|unfoldable|abbrev) )*(?:{word} :|(?:record|data) {word}\s)", text, re.M)
+    return bool(re.search(rf"^ *(?:(?:unfoldable|abbrev) )?pub (?:{word} :|(?:record|data) {word}\s)", read(path), re.M))
+
+
+def contracts():
+    """(crate, function, contract) of each public function that another crate, or C, can call; the contract with the parameters."""
+    for path in sorted(glob.glob("crates/*/src/**/*.rt", recursive=True)):
+        crate, module = path.split("/")[1], os.path.basename(path)[:-3]
+        seen = module in ("lib", "main") or re.search(rf"^pub mod {module};", read(f"crates/{crate}/src/lib.rt"), re.M)
+        for c, name, contract in re.findall(r"^ *pub (extern \"C\" )?fn (\w+)(.*?)^ *\{$", read(path), re.M | re.S):
+            if seen or c:
+                yield crate, name, c + contract
+
+
+def asks(contract):
+    return bool(re.search(r"^ *requires\b", contract, re.M))

@@ -1,2 +1,2 @@
--- What the contracts of `directory` say of its table's bytes.
-pub mod Flags
+-- What the contracts of `directory` say of its table's rows.
+pub mod Row

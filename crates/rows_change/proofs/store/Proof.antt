@@ -22,6 +22,18 @@ place-is c = sym (c .find .ensures ∙ rw (numbered-key (now (start c .args .row
 missing : (c : tie.After-enum-told) → let s = start (c .before .before) in placeFrom 0 (numberedAs (now (s .args .row))) (table s) ≡ Nothing
 missing c = place-is (c .before .before) ∙ c .enum-told .given .1
 
+returns : tie.Need-returns
+returns c =
+    let at = c .before .before .before .before .before in
+    let call = c .before .before .put-row in
+    stored-at _ _ _ _ (start (at .before .before) .pre .0) _ (place-is (at .before .before) ∙ at .place .given .1) _ (call .ensures) (call .kept .0)
+
+returns-2 : tie.Need-returns-2
+returns-2 c =
+    let at = c .before .before .before .before in
+    let call = c .before .before .put-row2 in
+    stored-end _ _ _ _ (start (at .before .before) .pre .0) (missing at) _ (call .ensures) (call .kept .0)
+
 put-row-requires : tie.Need-put-row-requires
 put-row-requires c κs =
     let at = c .before .before in
@@ -41,18 +53,6 @@ add-result c =
     let two : 2 ≤ s .args .stride = s .pre .0 .numbered in
     let room = end-inside _ _ _ _ (s .pre .0) (missing at) (s .pre .1 .1) in
     omega (arith, le-mul-of-pos-right {m = s .args .stride} (s .args .count) (omega arith), s .good .0 .0)
-
-returns : tie.Need-returns
-returns c =
-    let at = c .before .before .before .before .before in
-    let call = c .before .before .put-row in
-    stored-at _ _ _ _ (start (at .before .before) .pre .0) _ (place-is (at .before .before) ∙ at .place .given .1) _ (call .ensures) (call .kept .0)
-
-returns-2 : tie.Need-returns-2
-returns-2 c =
-    let at = c .before .before .before .before in
-    let call = c .before .before .put-row2 in
-    stored-end _ _ _ _ (start (at .before .before) .pre .0) (missing at) _ (call .ensures) (call .kept .0)
 
 pub store-spec : {M : Type 1} → Rattle.rows_change.proofs.store.Statement.statement M
 store-spec = tie.close (tie.spec

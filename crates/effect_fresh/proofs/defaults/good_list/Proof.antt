@@ -5,17 +5,6 @@ use Rattle.rules.proofs.BodyLaws.{two-long, positive}
 use Rattle.effect_fresh.proofs.DefaultLaws.{listed-fits, listed-rows, listed-length}
 use Rattle.effect_fresh.proofs.defaults.good_list.Tie as tie
 
-distinct-requires : tie.Need-distinct-requires
-distinct-requires c κs =
-    let test = c .before .before in
-    let s = test .before .before .before .before in
-    let few = rw (test .before .longest-of .ensures) at (test .if1 .left) in
-    rw (
-      c .stride-of .ensures,
-      test .before .longest-of .ensures,
-      listed-length (s .args .table) (now (s .args .list)) (now (s .args .rows)) few (s .pre),
-    ) (two-long (s .args .table), listed-fits (s .args .table) (now (s .args .list)) (now (s .args .rows)) few (s .pre))
-
 returns-2 : tie.Need-returns-2
 unfolding goodList
 returns-2 c =
@@ -30,6 +19,17 @@ returns-2 c =
       test .before .longest-of .ensures,
       listed-rows (s .args .table) (now (s .args .list)) (now (s .args .rows)) few (s .pre),
     )
+
+distinct-requires : tie.Need-distinct-requires
+distinct-requires c κs =
+    let test = c .before .before in
+    let s = test .before .before .before .before in
+    let few = rw (test .before .longest-of .ensures) at (test .if1 .left) in
+    rw (
+      c .stride-of .ensures,
+      test .before .longest-of .ensures,
+      listed-length (s .args .table) (now (s .args .list)) (now (s .args .rows)) few (s .pre),
+    ) (two-long (s .args .table), listed-fits (s .args .table) (now (s .args .list)) (now (s .args .rows)) few (s .pre))
 
 pub good-list-spec : {M : Type 1} → Rattle.effect_fresh.proofs.defaults.good_list.Statement.statement M
 unfolding goodList
