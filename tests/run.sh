@@ -274,9 +274,9 @@ test_refuse() {
     [ "$status" -eq 2 ] || { echo "refuse: a text that is not there, and the status is $status" && return 1; }
 }
 
-# What the documents and the header say of the sources is so.
+# What the documents and the header say of the sources is so; each sentence of the papers has its row.
 test_documents() {
-    need python3 python3 && log tests/documents.py
+    need python3 python3 && log tests/documents.py && log tests/trace.py
 }
 
 # The vectors are those that the model writes today.
