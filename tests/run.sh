@@ -11,8 +11,7 @@ cd "$(dirname "$0")/.." || exit 2
 ALL=(layout model crates clippy binding tool compare runs example interface store same install refuse documents vectors inputs terminal)
 root=$PWD
 work=$(mktemp -d) || exit 2
-# shellcheck disable=SC2046
-trap 'kill $(jobs -p) 2>/dev/null; wait; rm -rf "$work"' EXIT
+trap 'wait; rm -rf "$work"' EXIT
 
 # ---- what the tests need
 
@@ -88,7 +87,7 @@ library() {
 second=$work/second/of/it
 begin_second() {
     mkdir -p "$second/target" && cp -R crates crates.txt "$second" && ln -s "$root/target/rlib" "$root/target/stamp" "$second/target" &&
-        { (cd "$second" && rt staticlib terminal) >"$work/second.log" 2>&1 & }
+        { (cd "$second" && rt staticlib terminal) >"$work/second.log" 2>&1 & } && second_build=$!
 }
 run_program() { log rt check run; }
 
@@ -228,9 +227,8 @@ test_store() {
 
 # Two builds in two folders give the same archive, and where kit and sources are those of packaging/KIT it is the one of its sum.
 test_same() {
-    library && { wait %%; } 2>/dev/null
-    cmp target/staticlib/libterminal.a "$second/target/staticlib/libterminal.a" || { tail -n 5 "$work/second.log" && return 1; }
-    packaging/kit.sh
+    library && wait "$second_build" || { tail -n 5 "$work/second.log" && return 1; }
+    cmp target/staticlib/libterminal.a "$second/target/staticlib/libterminal.a" && packaging/kit.sh
 }
 
 # What `make install` wrote is enough for a project outside the repository, in C by pkg-config, by CMake and in Rust; a staged
@@ -240,8 +238,7 @@ test_install() {
     need cc gcc && need make make && need pkg-config pkg-config && need cmake cmake && need_crates && need_coap && need python3 python3 || return 1
     [ -n "${INSTALL_ARCHIVE-}" ] || library || return 1
     local archive=${INSTALL_ARCHIVE:-target/staticlib/libterminal.a} prefix="$work/prefix" outside="$work/outside"
-    TILLERCLOVER_LIB=${INSTALL_ARCHIVE+$(realpath "$archive")} log tool_cargo build &&
-        touch "$archive" && cp -R tests/install "$outside" && sed -i "s|@BINDING@|$root/bindings/rust|" "$outside/Cargo.toml" || return 1
+    log tool_of "$archive" && touch "$archive" && cp -R tests/install "$outside" && sed -i "s|@BINDING@|$root/bindings/rust|" "$outside/Cargo.toml" || return 1
     log make install PREFIX="$prefix" ARCHIVE="$archive" &&
         log outside_c "$prefix/lib" "$outside" && log diff - "$work/text" <<<"version 1000, state 1, answer 8" &&
         log cmake -S "$outside" -B "$outside/build" -DCMAKE_PREFIX_PATH="$prefix" && log cmake --build "$outside/build" &&
@@ -252,6 +249,9 @@ test_install() {
         log make uninstall PREFIX=/usr DESTDIR="$work/stage" && [ -z "$(find "$work/stage" -type f)" ] || return 1
     released "$archive" "$outside" && packaged_deb "$archive" "$outside"
 }
+
+# tool_of ARCHIVE: the tool, linked with this archive
+tool_of() { ([ -z "${INSTALL_ARCHIVE-}" ] || export TILLERCLOVER_LIB="$root/$1" && tool_cargo build); }
 
 # make_release TARGET ARCHIVE: with the tool as the tests have it, and packages that are not compressed
 make_release() {
