@@ -1,8 +1,9 @@
 #!/usr/bin/env bash
 # The kit that the project is proved and built with, and the archive that it gives: packaging/KIT has both, with the sum of the sources.
 #
-#     packaging/kit.sh            says whether they are the same here; where the kit or the sources are others, it says so and goes on
-#     packaging/kit.sh --write    writes packaging/KIT, of the archive in target/staticlib
+#     packaging/kit.sh              says whether the kit here is that one; where it is another, says so, and goes on
+#     packaging/kit.sh --archive    also compares the archive in target/staticlib, where kit and sources are those of packaging/KIT
+#     packaging/kit.sh --write      writes packaging/KIT, of that archive
 #
 # Exit status 1: the same kit made another archive of the same sources.
 set -euo pipefail
@@ -23,14 +24,16 @@ if [ "${1-}" = --write ]; then
 fi
 
 if [ "$kit" != "$(written kit)" ]; then
-    echo "kit: another one, '$kit'; packaging/KIT has '$(written kit)'. The proofs are made anew with the one that is here."
-elif [ ! -e "$archive" ]; then
-    echo "kit: the one of packaging/KIT; there is no archive yet to compare"
-elif [ "$(sources)" != "$(written sources)" ]; then
-    echo "kit: the one of packaging/KIT; the sources are others than it is of, so the archive is not compared (make sums renews it)"
+    echo "kit: another one, '$kit'; packaging/KIT has '$(written kit)'. What is proved here is proved by the one that is here."
+    exit
+fi
+echo "kit: the one of packaging/KIT"
+[ "${1-}" = --archive ] || exit 0
+if [ "$(sources)" != "$(written sources)" ]; then
+    echo "archive: not compared, since the sources are others than those of packaging/KIT; make sums renews it"
 elif [ "$(sum "$archive")" != "$(written libterminal.a)" ]; then
-    echo "kit: the one of packaging/KIT, and it made another archive of the same sources: $(sum "$archive")"
+    echo "archive: another one than that of packaging/KIT, by the same kit and of the same sources: $(sum "$archive")"
     exit 1
 else
-    echo "kit: the one of packaging/KIT, and so is the archive"
+    echo "archive: the one of packaging/KIT"
 fi

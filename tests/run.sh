@@ -228,7 +228,7 @@ test_store() {
 # Two builds in two folders give the same archive, and where kit and sources are those of packaging/KIT it is the one of its sum.
 test_same() {
     library && wait "$second_build" || { tail -n 5 "$work/second.log" && return 1; }
-    cmp target/staticlib/libterminal.a "$second/target/staticlib/libterminal.a" && packaging/kit.sh
+    cmp target/staticlib/libterminal.a "$second/target/staticlib/libterminal.a" && packaging/kit.sh --archive
 }
 
 # What `make install` wrote is enough for a project outside the repository, in C by pkg-config, by CMake and in Rust; a staged
