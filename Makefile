@@ -89,7 +89,7 @@ uninstall: ## removes what `make install` with the same PREFIX and DESTDIR wrote
 
 dist: $(ARCHIVE) $(TOOL) $(TERMINAL) ## writes target/dist/tillerclover-VERSION.tar.gz: libraries, headers, tool, examples, documents, SBOM, SHA256SUMS
 	rm -rf $(DIST)
-	@$(MAKE) -s install DESTDIR=$(DIST) PREFIX= ARCHIVE=$(ARCHIVE)
+	@$(MAKE) -s -o $(ARCHIVE) install DESTDIR=$(DIST) PREFIX= ARCHIVE=$(ARCHIVE)
 	@packaging/install-tool.sh $(TOOL) $(DIST)
 	@sed -i -e 's|^prefix=.*|prefix=$${pcfiledir}/../..|' -e 's|^libdir=.*|libdir=$${prefix}/lib|' \
 	    -e 's|^includedir=.*|includedir=$${prefix}/include|' $(DIST)/lib/pkgconfig/tillerclover.pc
@@ -114,7 +114,7 @@ endef
 
 deb: $(ARCHIVE) $(TOOL) ## writes the Debian packages libtillerclover-dev and tillerclover for amd64 to target/deb
 	rm -rf $(DEBS)
-	@$(MAKE) -s install DESTDIR=$(LIBRARY_DEB) PREFIX=/usr LIBDIR=/usr/lib/x86_64-linux-gnu ARCHIVE=$(ARCHIVE)
+	@$(MAKE) -s -o $(ARCHIVE) install DESTDIR=$(LIBRARY_DEB) PREFIX=/usr LIBDIR=/usr/lib/x86_64-linux-gnu ARCHIVE=$(ARCHIVE)
 	@packaging/install-tool.sh $(TOOL) $(TOOL_DEB)/usr
 	@$(INSTALL) -d $(TOOL_DEB)/usr/share/doc/tillerclover
 	@CARGOFLAGS="$(CARGOFLAGS)" packaging/sbom.py $(ARCHIVE) $(TOOL) - >$(TOOL_DEB)/usr/share/doc/tillerclover/sbom.json

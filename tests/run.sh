@@ -11,7 +11,7 @@ cd "$(dirname "$0")/.." || exit 2
 ALL=(layout model crates clippy binding tool compare runs example interface store same install refuse documents vectors inputs terminal)
 root=$PWD
 work=$(mktemp -d) || exit 2
-trap 'wait; rm -rf "$work"' EXIT
+trap 'rm -rf "$work"' EXIT
 
 # ---- what the tests need
 
@@ -75,21 +75,13 @@ log() {
 }
 
 # The archive and the program are built from today's sources; rt proves the archive's crate each time, so once is enough.
-library_built=
+# LIBRARY_BUILT says that the caller has built both.
+library_built=${LIBRARY_BUILT-}
 library() {
-    [ -n "$library_built" ] && return
-    log rt staticlib terminal || return 1
+    [ -n "$library_built" ] || log rt staticlib terminal || return 1
     library_built=yes
-    [[ " ${groups[*]} " != *" same "* ]] || begin_second
 }
-
-# The archive once more, in another folder, while other tests run; what was proved is lent, the code is made anew.
-second=$work/second/of/it
-begin_second() {
-    mkdir -p "$second/target" && cp -R crates crates.txt "$second" && ln -s "$root/target/rlib" "$root/target/stamp" "$second/target" &&
-        { (cd "$second" && rt staticlib terminal) >"$work/second.log" 2>&1 & } && second_build=$!
-}
-run_program() { log rt check run; }
+run_program() { [ -n "${LIBRARY_BUILT-}" ] || log rt check run; }
 
 in_model() { (cd model && "$@"); }
 in_binding() { (cd bindings/rust && "$@"); }
@@ -225,10 +217,14 @@ test_store() {
     log in_model cargo run --quiet --profile gate --locked --features linked --bin stores && tail -n 1 "$work/log"
 }
 
-# Two builds in two folders give the same archive, and where kit and sources are those of packaging/KIT it is the one of its sum.
+# Two builds in two folders give the same archive: what was proved is lent to the second, its code is made anew. Where kit and sources
+# are those of packaging/KIT, it is the archive of its sum.
 test_same() {
-    library && wait "$second_build" || { tail -n 5 "$work/second.log" && return 1; }
-    cmp target/staticlib/libterminal.a "$second/target/staticlib/libterminal.a" && packaging/kit.sh --archive
+    library || return 1
+    local second=$work/second/of/it
+    mkdir -p "$second/target" && cp -R crates crates.txt "$second" && ln -s "$root/target/rlib" "$root/target/stamp" "$second/target" &&
+        (cd "$second" && log rt staticlib terminal) &&
+        log cmp target/staticlib/libterminal.a "$second/target/staticlib/libterminal.a" && packaging/kit.sh --archive
 }
 
 # What `make install` wrote is enough for a project outside the repository, in C by pkg-config, by CMake and in Rust; a staged
@@ -238,13 +234,13 @@ test_install() {
     need cc gcc && need make make && need pkg-config pkg-config && need cmake cmake && need_crates && need_coap && need python3 python3 || return 1
     [ -n "${INSTALL_ARCHIVE-}" ] || library || return 1
     local archive=${INSTALL_ARCHIVE:-target/staticlib/libterminal.a} prefix="$work/prefix" outside="$work/outside"
-    log tool_of "$archive" && touch "$archive" && cp -R tests/install "$outside" && sed -i "s|@BINDING@|$root/bindings/rust|" "$outside/Cargo.toml" || return 1
-    log make install PREFIX="$prefix" ARCHIVE="$archive" &&
+    log tool_of "$archive" && cp -R tests/install "$outside" && sed -i "s|@BINDING@|$root/bindings/rust|" "$outside/Cargo.toml" || return 1
+    log make_with "$archive" install PREFIX="$prefix" &&
         log outside_c "$prefix/lib" "$outside" && log diff - "$work/text" <<<"version 1000, state 1, answer 8" &&
         log cmake -S "$outside" -B "$outside/build" -DCMAKE_PREFIX_PATH="$prefix" && log cmake --build "$outside/build" &&
         log "$outside/build/outside" &&
         log env TILLERCLOVER_LIB="$prefix/lib" cargo run --quiet --offline --manifest-path "$outside/Cargo.toml" || return 1
-    log make install PREFIX=/usr DESTDIR="$work/stage" ARCHIVE="$archive" &&
+    log make_with "$archive" install PREFIX=/usr DESTDIR="$work/stage" &&
         log grep -qx 'prefix=/usr' "$work/stage/usr/lib/pkgconfig/tillerclover.pc" &&
         log make uninstall PREFIX=/usr DESTDIR="$work/stage" && [ -z "$(find "$work/stage" -type f)" ] || return 1
     released "$archive" "$outside" && packaged_deb "$archive" "$outside"
@@ -253,9 +249,12 @@ test_install() {
 # tool_of ARCHIVE: the tool, linked with this archive
 tool_of() { ([ -z "${INSTALL_ARCHIVE-}" ] || export TILLERCLOVER_LIB="$root/$1" && tool_cargo build); }
 
+# make_with ARCHIVE WORD..: make, with an archive that is not built again
+make_with() { make --assume-old="$1" ARCHIVE="$1" "${@:2}"; }
+
 # make_release TARGET ARCHIVE: with the tool as the tests have it, and packages that are not compressed
 make_release() {
-    log make "$1" ARCHIVE="$2" TOOL=tool/target/debug/tillerclover CARGOFLAGS="--offline --config ../tests/debian.toml" DEBFLAGS=-Znone
+    log make_with "$2" "$1" TOOL=tool/target/debug/tillerclover CARGOFLAGS="--offline --config ../tests/debian.toml" DEBFLAGS=-Znone
 }
 
 # of_one_build TOOL ARCHIVE: the command prints the sum of the archive
@@ -396,7 +395,6 @@ expect_file() {
 if [ $# -eq 0 ]; then
     set -- "${ALL[@]}"
 fi
-groups=("$@")
 for name in "$@"; do
     if [[ " ${ALL[*]} " != *" $name "* ]]; then
         echo "no test '$name'; the tests are: ${ALL[*]}" >&2
