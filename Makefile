@@ -8,7 +8,7 @@ INCLUDEDIR ?= $(PREFIX)/include
 DESTDIR ?=
 # The archive that is installed; another one than the repository's must be of the same sources.
 ARCHIVE ?= target/staticlib/libterminal.a
-# The command and the example terminal that a release holds, or is told about. CARGOFLAGS: where cargo finds the crates; DEBFLAGS: for dpkg-deb.
+# The command that a release holds; the example terminal, of which it says what it is linked with ('-': of none). CARGOFLAGS: where cargo finds the crates; DEBFLAGS: for dpkg-deb.
 TOOL ?= tool/target/release/tillerclover
 TERMINAL ?= target/terminal
 CARGOFLAGS ?=
@@ -87,13 +87,14 @@ uninstall: ## removes what `make install` with the same PREFIX and DESTDIR wrote
 	rm -f $(INSTALLED)
 	-rmdir $(LIB)/cmake/tillerclover 2>/dev/null
 
-dist: $(ARCHIVE) $(TOOL) $(TERMINAL) ## writes target/dist/tillerclover-VERSION.tar.gz: libraries, headers, tool, examples, documents, SBOM, SHA256SUMS
+dist: $(ARCHIVE) $(TOOL) $(filter-out -,$(TERMINAL)) ## writes target/dist/tillerclover-VERSION.tar.gz: libraries, headers, binding, tool, examples, documents, SBOM, SHA256SUMS
 	rm -rf $(DIST)
 	@$(MAKE) -s -o $(ARCHIVE) install DESTDIR=$(DIST) PREFIX= ARCHIVE=$(ARCHIVE)
 	@packaging/install-tool.sh $(TOOL) $(DIST)
 	@sed -i -e 's|^prefix=.*|prefix=$${pcfiledir}/../..|' -e 's|^libdir=.*|libdir=$${prefix}/lib|' \
 	    -e 's|^includedir=.*|includedir=$${prefix}/include|' $(DIST)/lib/pkgconfig/tillerclover.pc
 	@for target in $(wildcard target/lib/*); do cp -R $$target $(DIST)/lib/; done
+	@tar -ch --exclude=target bindings/rust | tar -x -C $(DIST)
 	@cp -R README.md SECURITY.md CHANGELOG.md CONTRIBUTING.md docs examples packaging/KIT $(DIST)/
 	CARGOFLAGS="$(CARGOFLAGS)" packaging/sbom.py $(ARCHIVE) $(TOOL) $(TERMINAL) >$(DIST)/sbom.json && packaging/sbom.py --check $(DIST)/sbom.json
 	cd $(DIST) && find . -type f ! -name SHA256SUMS | LC_ALL=C sort | xargs sha256sum >SHA256SUMS

@@ -247,7 +247,7 @@ test_install() {
 }
 
 # tool_of ARCHIVE: the tool, linked with this archive
-tool_of() { ([ -z "${INSTALL_ARCHIVE-}" ] || export TILLERCLOVER_LIB="$root/$1" && tool_cargo build); }
+tool_of() { ([ -z "${INSTALL_ARCHIVE-}" ] || { TILLERCLOVER_LIB=$(realpath "$1") && export TILLERCLOVER_LIB; } && tool_cargo build); }
 
 # make_with ARCHIVE WORD..: make, with an archive that is not built again
 make_with() { make --assume-old="$1" ARCHIVE="$1" "${@:2}"; }
@@ -269,6 +269,7 @@ released() {
         make_release dist "$1" && log cmp "$release" "$work/first.tar.gz" &&
         tar -xf "$release" -C "$work" && release=$work/$(basename "$release" .tar.gz) &&
         (cd "$release" && log sha256sum --quiet --check SHA256SUMS) && log outside_c "$release/lib" "$2" &&
+        log cmp "$release/include/tillerclover.h" "$release/bindings/rust/include/tillerclover.h" &&
         of_one_build "$release/bin/tillerclover" "$release/lib/libtillerclover.a" && bill_of "$release/sbom.json" &&
         log make -C "$release/examples/terminal" INCLUDE=../../include ARCHIVE=../../lib/libtillerclover.a OUT="$work" CFLAGS=-O0
 }
@@ -277,8 +278,8 @@ released() {
 bill_of() {
     local name
     log packaging/sbom.py --check "$1" || return 1
-    for name in libtillerclover.a tillerclover clap terminal libcoap3 libssl3 libc6; do
-        grep -qF "\"name\": \"$name\"" "$1" || { echo "install: the SBOM has no $name" && return 1; }
+    for name in 'libtillerclover\.a' tillerclover clap terminal 'libcoap3(t64)?' 'libssl3(t64)?' libc6; do
+        grep -qE "\"name\": \"$name\"" "$1" || { echo "install: the SBOM has no $name" && return 1; }
     done
     for name in '/"specVersion"/d' 's/"SHA-256"/"MD5"/' 's/"ref": "terminal"/"ref": "another"/' '/"licenses"/,/\]/d'; do
         sed "$name" "$1" >"$work/spoilt.json"
