@@ -22,6 +22,8 @@ SOURCE, PAGE = "docs/trace.txt", "docs/TRACE.md"
 PARTS = ["definition", "code", "theorem", "edit", "test"]
 # programs: no contract can say what is read or written
 NO_CONTRACT = {"run::main", "vectors::walk"}
+# a name that an .antt file exports
+EXPORTED = r"^ *(?:(?:unfoldable|abbrev) )?pub (?:record |data )?(\S+)(?= |$)"
 
 
 class Row:
@@ -89,8 +91,11 @@ class Names:
     def __init__(self, folder):
         self.folder, self.places = folder, {}
         for path in sorted(glob.glob(f"crates/*/{folder}/**/*.antt", recursive=True)):
-            for name in re.findall(r"^ *(?:(?:unfoldable|abbrev) )?pub (?:record |data )?(\S+)(?= |$)", read(path), re.M):
+            for name in re.findall(EXPORTED, read(path), re.M):
                 self.places.setdefault(name, []).append(path)
+
+    def paths(self):
+        return {path for paths in self.places.values() for path in paths}
 
     def file_of(self, name):
         crate, rest = name.split("/") if "/" in name else (None, name)
@@ -152,6 +157,53 @@ def test_file(name, files):
     return paths[0]
 
 
+# ---- what stands in a row belongs together
+
+
+class Reach:
+    """The words that a contract or a theorem's statement leads to, through definitions."""
+
+    def __init__(self, specs, proofs):
+        self.uses, self.statements, self.sources = {}, {}, {}
+        for path, block in ((path, block) for path in specs.paths() for block in self.blocks(path)):
+            for name in re.findall(EXPORTED, block, re.M):
+                self.uses.setdefault(name, set()).update(re.findall(r"[\w′]+", block))
+        for path, block in ((path, block) for path in proofs.paths() for block in self.blocks(path)):
+            words = re.findall(r"[\w′]+", block)
+            for name in re.findall(EXPORTED, block, re.M):
+                self.statements.setdefault((path, name), set()).update(words)
+            # what a statement says, in a record beside it
+            for name in re.findall(r"^ *pub record (\S+)", block, re.M):
+                self.uses.setdefault(name, set()).update(words)
+        for path in glob.glob("crates/*/src/**/*.rt", recursive=True):
+            crate = path.split("/")[1]
+            self.sources[crate] = self.sources.get(crate, "") + read(path)
+
+    @staticmethod
+    def blocks(path):
+        return re.split(r"\n\s*\n", re.sub(r"^ *--.*\n", "", read(path), flags=re.M))
+
+    def contract(self, name):
+        crate, word = name.split("::")
+        return set(re.findall(r"[\w′]+", " ".join(re.findall(rf"\bfn {word}\b(.*?)^ *\{{$", self.sources.get(crate, ""), re.M | re.S))))
+
+    def check(self, row, theorems):
+        """Each definition of the row is reached from the contract of its code, or from the statement of its theorems."""
+        if not row.parts["code"] and not row.parts["theorem"]:
+            return
+        ahead = [word for name in row.parts["code"] for word in self.contract(name)]
+        ahead += [word for place in theorems for word in self.statements.get(place, ())]
+        reached = set()
+        while ahead:
+            word = ahead.pop()
+            if word not in reached:
+                reached.add(word)
+                ahead += self.uses.get(word, ())
+        for name in row.parts["definition"]:
+            if name.split("/")[-1].split(".")[-1] not in reached:
+                fault(f"{SOURCE}: {row.label()}: neither a contract nor a theorem of the row speaks of {name}")
+
+
 # ---- the page
 
 
@@ -165,8 +217,10 @@ def grouped(places):
     return "; ".join(f"{file}: {', '.join(words)}" for file, words in files.items())
 
 
-def cells_of(row, specs, proofs, files):
+def cells_of(row, specs, proofs, files, reach):
     parts = row.parts
+    theorems = [proofs.file_of(name) for name in parts["theorem"]]
+    reach.check(row, theorems)
     for name in parts["code"]:
         check_code(name)
     for name in parts["edit"]:
@@ -182,7 +236,7 @@ def cells_of(row, specs, proofs, files):
     return [
         grouped([specs.file_of(name) for name in parts["definition"]]),
         ", ".join(f"`{name}`" for name in parts["code"]),
-        grouped([proofs.file_of(name) for name in parts["theorem"]]),
+        grouped(theorems),
         ", ".join(f"`{name}`" for name in parts["edit"]),
         "; ".join(shown),
     ]
@@ -194,7 +248,7 @@ def listed(rows):
 
 INTRO = """# Traceability
 
-Each sentence of the papers with the definition that states it, the code that does it, the theorems over it, the must-fail edits that show what is refused, and the tests. Made by tests/trace.py from docs/trace.txt; `tests/run.sh documents` sees that the page is today's, that every sentence has one row, and that every name below is there. Whether a row is right a reader has to judge.
+Each sentence of the papers with the definition that states it, the code that does it, the theorems over it, the must-fail edits that show what is refused, and the tests. Made by tests/trace.py from docs/trace.txt; `tests/run.sh documents` sees that the page is today's, that every sentence has one row, that every name below is there, and that each definition of a row is reached, through definitions, from a contract or a theorem of that row. Whether a row is right a reader has to judge.
 
 The papers are not in the repository. A sentence is named by its section and its number there. Who has the papers prints each sentence before its row, after a comparison of the sums, by `tests/trace.py --papers 01 02` with the two files.
 
@@ -205,7 +259,7 @@ The papers are not in the repository. A sentence is named by its section and its
 How to read a row:
 
 - **definition**: `crate/File: name` stands in crates/CRATE/specs/FILE.antt. Definitions are what has to be believed.
-- **code**: `crate::function`. Its contract equates what it does with definitions, for every input, and is proved; so a row with code is proved also where its column of theorems is empty. `run::main` and `vectors::walk` have no contract, since none can say what a program reads or writes.
+- **code**: `crate::function`. Its contract equates what it does with the row's definitions, or with some that are made of them, for every input, and is proved; so a row with code is proved also where its column of theorems is empty. `run::main` and `vectors::walk` have no contract, since none can say what a program reads or writes.
 - **theorem**: `crate/File: name` stands in crates/CRATE/proofs/FILE.antt. General theorems, and examples that compute. docs/PROOFS.md says in words what each states.
 - **must-fail edit**: crates/CRATE/must-fail/EDIT.edit. docs/MUST-FAIL.md has its words.
 - **test**: a test of that name. systematic.rs: cases by enumeration, on which the library and the second model are compared, call by call (`compare`); with them go 300,000 random ones, of every kind. interface.c and the groups of run.sh are tests of the library and of the programs themselves. Other .rs files of model/ are tests of the second model, by hand or at random: they speak of the library through that comparison. model/tests/mutants sees that the cases tell wrong programs apart. A path is a page or an expected output.
@@ -214,6 +268,7 @@ How to read a row:
 
 def page(papers, rows):
     specs, proofs, files = Names("specs"), Names("proofs"), test_files()
+    reach = Reach(specs, proofs)
     text = [INTRO % "\n".join(f"| {number} | `{total}` |" for number, total, _ in papers)]
     rules = [row for row in rows if row.is_rule()]
     without = {part: [row for row in rules if not row.parts[part]] for part in PARTS}
@@ -239,7 +294,7 @@ def page(papers, rows):
         if word != section:
             section = word
             text.append(f"\n## {word}\n\n| sentence | what it asks | definition | code | theorem | must-fail edit | test |\n|---|---|---|---|---|---|---|")
-        cells = cells_of(row, specs, proofs, files) if row.is_rule() else ["no rule"] + [""] * 4
+        cells = cells_of(row, specs, proofs, files, reach) if row.is_rule() else ["no rule"] + [""] * 4
         text.append(f"| {row.label()} | {row.words} | " + " | ".join(cells) + " |")
     text.append("\n## Where the tests stand\n\n| file | |\n|---|---|")
     used = {test_file(name, files) for row in rules for name in row.parts["test"] if ":" in name}
