@@ -491,7 +491,7 @@ def check_cited(page):
         # `tillerclover::..` is the library's name in CMake and in Rust
         if crate != "tillerclover" and name not in functions_of(f"crates/{crate}/src"):
             fault(f"{page}: there is no function {name} in crates/{crate}/src")
-    for path in set(re.findall(r"(?<![\w/.])((?:docs|tests|include|examples|model|bindings|tool|bench|crates)/[\w./-]*\w)", text)):
+    for path in set(re.findall(r"(?<![\w/.])((?:docs|tests|include|examples|model|bindings|tool|bench|crates|packaging)/[\w./-]*\w)", text)):
         if not os.path.exists(path) and "target" not in path:
             fault(f"{page}: there is no {path}")
 
