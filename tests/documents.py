@@ -11,12 +11,12 @@ README.md, SECURITY.md, CHANGELOG.md, SECURITY-MODEL.md, ASSESSOR.md, ANSWERS.md
                 `crate::function` is one
 CHANGELOG.md    its first heading is the header's version; the lengths of tables, rows and waiting records are today's
 MUST-FAIL.md    each edit has a row, and each row its edit
-GLOSSARY.md     sorted; each word of CONTRIBUTING's table stands there, and each name in code letters is in the sources
-SECURITY-MODEL.md   the trust boundary with the functions of the headers
 PICTURES.md     the pictures with those made from the definitions
 ANSWERS.md      the tables with those made from the header, the words of names.rs and the definitions; the columns
                 'usual cause' and 'what to do' are written by hand in the page, and kept
 tillerclover.h  offsets, lengths and shifts with the definitions
+GLOSSARY.md     sorted; each word of CONTRIBUTING's table stands there, and each name in code letters is in the sources
+SECURITY-MODEL.md   the trust boundary with the functions of the headers
 """
 import difflib
 import glob
@@ -617,12 +617,12 @@ def main(words):
         return 2
     try:
         check_layers()
+        check_way()
+        check_glossary()
         check_believed()
         check_proofs()
         check_edits()
         check_changelog()
-        check_glossary()
-        check_way()
         for cited in CITED:
             check_cited(cited)
         renew(PAGE, lambda page: pictures(), bool(words))

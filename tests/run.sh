@@ -234,13 +234,14 @@ test_install() {
     need cc gcc && need make make && need pkg-config pkg-config && need cmake cmake && need_crates && need_coap && need python3 python3 || return 1
     [ -n "${INSTALL_ARCHIVE-}" ] || library || return 1
     local archive=${INSTALL_ARCHIVE:-target/staticlib/libterminal.a} prefix="$work/prefix" outside="$work/outside"
-    log tool_of "$archive" && cp -R tests/install "$outside" && sed -i "s|@BINDING@|$root/bindings/rust|" "$outside/Cargo.toml" || return 1
-    log make_with "$archive" install PREFIX="$prefix" &&
+    log tool_of "$archive" || return 1
+    touch "$archive" && cp -R tests/install "$outside" && sed -i "s|@BINDING@|$root/bindings/rust|" "$outside/Cargo.toml" || return 1
+    log make install PREFIX="$prefix" ARCHIVE="$archive" &&
         log outside_c "$prefix/lib" "$outside" && log diff - "$work/text" <<<"version 1000, state 1, answer 8" &&
         log cmake -S "$outside" -B "$outside/build" -DCMAKE_PREFIX_PATH="$prefix" && log cmake --build "$outside/build" &&
         log "$outside/build/outside" &&
         log env TILLERCLOVER_LIB="$prefix/lib" cargo run --quiet --offline --manifest-path "$outside/Cargo.toml" || return 1
-    log make_with "$archive" install PREFIX=/usr DESTDIR="$work/stage" &&
+    log make install PREFIX=/usr DESTDIR="$work/stage" ARCHIVE="$archive" &&
         log grep -qx 'prefix=/usr' "$work/stage/usr/lib/pkgconfig/tillerclover.pc" &&
         log make uninstall PREFIX=/usr DESTDIR="$work/stage" && [ -z "$(find "$work/stage" -type f)" ] || return 1
     released "$archive" "$outside" && packaged_deb "$archive" "$outside"
@@ -249,12 +250,9 @@ test_install() {
 # tool_of ARCHIVE: the tool, linked with this archive
 tool_of() { ([ -z "${INSTALL_ARCHIVE-}" ] || { TILLERCLOVER_LIB=$(realpath "$1") && export TILLERCLOVER_LIB; } && tool_cargo build); }
 
-# make_with ARCHIVE WORD..: make, with an archive that is not built again
-make_with() { make --assume-old="$1" ARCHIVE="$1" "${@:2}"; }
-
 # make_release TARGET ARCHIVE: with the tool as the tests have it, and packages that are not compressed
 make_release() {
-    log make_with "$2" "$1" TOOL=tool/target/debug/tillerclover CARGOFLAGS="--offline --config ../tests/debian.toml" DEBFLAGS=-Znone
+    log make "$1" ARCHIVE="$2" TOOL=tool/target/debug/tillerclover CARGOFLAGS="--offline --config ../tests/debian.toml" DEBFLAGS=-Znone
 }
 
 # of_one_build TOOL ARCHIVE: the command prints the sum of the archive
