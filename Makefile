@@ -96,7 +96,7 @@ dist: $(ARCHIVE) $(TOOL) $(filter-out -,$(TERMINAL)) ## writes target/dist/tille
 	@for target in $(wildcard target/lib/*); do cp -R $$target $(DIST)/lib/; done
 	@tar -ch --exclude=target bindings/rust | tar -x -C $(DIST)
 	@cp -R README.md SECURITY.md CHANGELOG.md CONTRIBUTING.md docs examples packaging/KIT $(DIST)/
-	CARGOFLAGS="$(CARGOFLAGS)" packaging/sbom.py $(ARCHIVE) $(TOOL) $(TERMINAL) >$(DIST)/sbom.json && packaging/sbom.py --check $(DIST)/sbom.json
+	CARGOFLAGS="$(CARGOFLAGS)" packaging/sbom.py $(MAJOR).$(MINOR) $(ARCHIVE) $(TOOL) $(TERMINAL) >$(DIST)/sbom.json && packaging/sbom.py --check $(DIST)/sbom.json
 	cd $(DIST) && find . -type f ! -name SHA256SUMS | LC_ALL=C sort | xargs sha256sum >SHA256SUMS
 	cd target/dist && tar --sort=name --owner=0 --group=0 --numeric-owner --mode=go=rX,u+rw --mtime="@$$(git log -1 --format=%ct)" \
 	    -c $(NAME) | gzip -n >$(NAME).tar.gz
@@ -118,7 +118,7 @@ deb: $(ARCHIVE) $(TOOL) ## writes the Debian packages libtillerclover-dev and ti
 	@$(MAKE) -s -o $(ARCHIVE) install DESTDIR=$(LIBRARY_DEB) PREFIX=/usr LIBDIR=/usr/lib/x86_64-linux-gnu ARCHIVE=$(ARCHIVE)
 	@packaging/install-tool.sh $(TOOL) $(TOOL_DEB)/usr
 	@$(INSTALL) -d $(TOOL_DEB)/usr/share/doc/tillerclover
-	@CARGOFLAGS="$(CARGOFLAGS)" packaging/sbom.py $(ARCHIVE) $(TOOL) - >$(TOOL_DEB)/usr/share/doc/tillerclover/sbom.json
+	@CARGOFLAGS="$(CARGOFLAGS)" packaging/sbom.py $(MAJOR).$(MINOR) $(ARCHIVE) $(TOOL) - >$(TOOL_DEB)/usr/share/doc/tillerclover/sbom.json
 	$(call package,$(LIBRARY_DEB),packaging/control.in,packaging/copyright)
 	$(call package,$(TOOL_DEB),packaging/control-tool.in,packaging/copyright-tool)
 

@@ -1,8 +1,8 @@
 #!/usr/bin/env python3
 """What the library, the tool and the example terminal are made of: an SBOM, CycloneDX 1.5 in JSON, from what was really linked.
 
-    packaging/sbom.py ARCHIVE TOOL TERMINAL >FILE    TOOL and TERMINAL may be '-': then they are left out
-    packaging/sbom.py --check FILE                   compares a file with packaging/cyclonedx.json; exit status 1 where it does not fit
+    packaging/sbom.py VERSION ARCHIVE TOOL TERMINAL >FILE    TOOL and TERMINAL may be '-': then they are left out
+    packaging/sbom.py --check FILE                           compares a file with packaging/cyclonedx.json; status 1 where it does not fit
 
 The archive: its symbols, each of a crate of crates.txt or of the C library. The tool: the crates that cargo links, with how many symbols
 of each are in the program, and the shared libraries that the loader finds. The terminal: the shared libraries. Licences are those that
@@ -49,15 +49,10 @@ def properties(**values):
     return [{"name": f"tillerclover:{name.replace('_', '-')}", "value": str(value)} for name, value in values.items()]
 
 
-def version():
-    header = read(os.path.join(ROOT, "include/tillerclover.h"))
-    return ".".join(re.search(rf"#define TILLERCLOVER_VERSION_{part} (\d+)", header).group(1) for part in ("MAJOR", "MINOR"))
-
-
 # ---- the library
 
 
-def library(path):
+def library(path, version):
     """The archive: every symbol must be of a crate of the project, or be called in the C library."""
     crates = set(re.findall(r"^(\w+):", read(os.path.join(ROOT, "crates.txt")), re.M))
     exported, inside, called = [], set(), set()
@@ -76,7 +71,7 @@ def library(path):
         "type": "library",
         "bom-ref": "libtillerclover",
         "name": "libtillerclover.a",
-        "version": version(),
+        "version": version,
         "description": "The access decision, proved. No code of third parties; of the C library it calls what 'calls' names.",
         "hashes": sum_of(path),
         "licenses": NONE_GRANTED,
@@ -179,7 +174,7 @@ def crates_of(program):
     return components, depends, graph["resolve"]["root"]
 
 
-def tool(program):
+def tool(program, _):
     components, depends, root = crates_of(program)
     own = {place: "tillerclover-tool" for place in depends if place not in components}
     name_of = {**own, **{place: component["bom-ref"] for place, component in components.items()}}
@@ -197,9 +192,9 @@ def tool(program):
     return [whole, *components.values(), std, *loaded], edges
 
 
-def terminal(program):
+def terminal(program, version):
     loaded = shared(program)
-    whole = {"type": "application", "bom-ref": "terminal", "name": "terminal", "version": version(), "description": "The example terminal.",
+    whole = {"type": "application", "bom-ref": "terminal", "name": "terminal", "version": version, "description": "The example terminal.",
              "hashes": sum_of(program), "licenses": NONE_GRANTED}
     return [whole, *loaded], {"terminal": {"libtillerclover", *(component["bom-ref"] for component in loaded)}}
 
@@ -207,12 +202,12 @@ def terminal(program):
 # ---- the document
 
 
-def document(archive, tool_path, terminal_path):
-    components, edges = [library(archive)], {"libtillerclover": set()}
+def document(version, archive, tool_path, terminal_path):
+    components, edges = [library(archive, version)], {"libtillerclover": set()}
     parts = [(tool, tool_path), (terminal, terminal_path)]
     for make, path in parts:
         if path != "-":
-            more, joined = make(path)
+            more, joined = make(path, version)
             components += more
             for ref, others in joined.items():
                 edges.setdefault(ref, set()).update(others)
@@ -228,7 +223,7 @@ def document(archive, tool_path, terminal_path):
         "metadata": {
             "timestamp": time.strftime("%Y-%m-%dT%H:%M:%SZ"),
             "tools": {"components": [{"type": "application", "name": "packaging/sbom.py"}, {"type": "application", "name": kit}]},
-            "component": {"type": "application", "bom-ref": "tillerclover", "name": "tillerclover", "version": version(), "licenses": NONE_GRANTED},
+            "component": {"type": "application", "bom-ref": "tillerclover", "name": "tillerclover", "version": version, "licenses": NONE_GRANTED},
         },
         "components": components,
         "dependencies": [{"ref": ref, "dependsOn": sorted(others)} for ref, others in sorted(edges.items())],
@@ -290,11 +285,11 @@ def check(path):
 def main(words):
     if len(words) == 2 and words[0] == "--check":
         return check(words[1])
-    if len(words) != 3 or words[0].startswith("--"):
+    if len(words) != 4 or words[0].startswith("--"):
         print(__doc__.strip(), file=sys.stderr)
         return 2
     try:
-        print(json.dumps(document(*(os.path.abspath(word) if word != "-" else word for word in words)), indent=2))
+        print(json.dumps(document(words[0], *(os.path.abspath(word) if word != "-" else word for word in words[1:])), indent=2))
     except (Fault, OSError) as fault:
         print(f"sbom: {fault}", file=sys.stderr)
         return 1
