@@ -8,6 +8,11 @@ INCLUDEDIR ?= $(PREFIX)/include
 DESTDIR ?=
 # The archive that is installed; another one than the repository's must be of the same sources.
 ARCHIVE ?= target/staticlib/libterminal.a
+# The command that a release holds; the example terminal, of which it says what it is linked with ('-': of none). CARGOFLAGS: where cargo finds the crates; DEBFLAGS: for dpkg-deb.
+TOOL ?= tool/target/release/tillerclover
+TERMINAL ?= target/terminal
+CARGOFLAGS ?=
+DEBFLAGS ?=
 INSTALL ?= install
 
 HEADERS := include/tillerclover.h include/tillerclover_store.h
@@ -23,11 +28,12 @@ INSTALLED := $(HEADERS:include/%=$(DESTDIR)$(INCLUDEDIR)/%) $(LIB)/libtillerclov
 NAME := tillerclover-$(MAJOR).$(MINOR)
 DIST := target/dist/$(NAME)
 
-# what `make deb` writes, and the folder that it is made of
-DEB := target/deb/libtillerclover-dev_$(MAJOR).$(MINOR)_amd64.deb
-DEBROOT := target/deb/root
+# what `make deb` writes, and the folders that it is made of
+DEBS := target/deb
+LIBRARY_DEB := $(DEBS)/libtillerclover-dev
+TOOL_DEB := $(DEBS)/tillerclover
 
-.PHONY: sample test lib install uninstall dist deb help
+.PHONY: sample test lib sums install install-tool uninstall dist deb help
 
 sample: ## proves the decision, builds the run program and tries it on a sample of five records (the default)
 	@command -v rt >/dev/null || { echo "The toolchain's command rt is not on the path."; exit 1; }
@@ -47,10 +53,19 @@ test: ## the gate: proves everything from nothing, tries every must-fail edit, r
 lib: ## proves the library and writes its archive, target/staticlib/libterminal.a
 	rt staticlib terminal
 
+sums: lib ## writes the kit's identity and the archive's sum to packaging/KIT
+	packaging/kit.sh --write
+
 # only where it is missing or older than a source
 target/staticlib/libterminal.a: $(SOURCES)
 	rt staticlib terminal
 	@touch $@
+
+tool/target/release/tillerclover: $(ARCHIVE) $(wildcard tool/src/* bindings/rust/src/*)
+	cd tool && TILLERCLOVER_LIB=$(abspath $(ARCHIVE)) cargo build --release $(CARGOFLAGS)
+
+target/terminal: $(ARCHIVE) $(wildcard examples/terminal/*.[ch])
+	$(MAKE) -C examples/terminal ARCHIVE=$(abspath $(ARCHIVE))
 
 # fill TEMPLATE: the template with its values, to the standard output
 fill = sed -e 's|@PREFIX@|$(PREFIX)|g' -e 's|@LIBDIR@|$(LIBDIR)|g' -e 's|@INCLUDEDIR@|$(INCLUDEDIR)|g' -e 's|@MAJOR@|$(MAJOR)|g' \
@@ -65,30 +80,47 @@ install: $(ARCHIVE) ## installs headers, archive, pkg-config file and CMake pack
 	$(call fill,packaging/tillerclover-config-version.cmake.in) >$(LIB)/cmake/tillerclover/tillerclover-config-version.cmake
 	@chmod 644 $(INSTALLED)
 
+install-tool: $(TOOL) ## installs the command tillerclover, its pages of the manual and its completions below DESTDIR/PREFIX
+	packaging/install-tool.sh $(TOOL) $(DESTDIR)$(PREFIX)
+
 uninstall: ## removes what `make install` with the same PREFIX and DESTDIR wrote
 	rm -f $(INSTALLED)
 	-rmdir $(LIB)/cmake/tillerclover 2>/dev/null
 
-dist: $(ARCHIVE) ## writes target/dist/tillerclover-VERSION.tar.gz: library for x86-64, headers, examples, documents, SHA256SUMS
+dist: $(ARCHIVE) $(TOOL) $(filter-out -,$(TERMINAL)) ## writes target/dist/tillerclover-VERSION.tar.gz: libraries, headers, binding, tool, examples, documents, SBOM, SHA256SUMS
 	rm -rf $(DIST)
-	@$(MAKE) -s install DESTDIR=$(DIST) PREFIX= ARCHIVE=$(ARCHIVE)
+	@$(MAKE) -s -o $(ARCHIVE) install DESTDIR=$(DIST) PREFIX= ARCHIVE=$(ARCHIVE)
+	@packaging/install-tool.sh $(TOOL) $(DIST)
 	@sed -i -e 's|^prefix=.*|prefix=$${pcfiledir}/../..|' -e 's|^libdir=.*|libdir=$${prefix}/lib|' \
 	    -e 's|^includedir=.*|includedir=$${prefix}/include|' $(DIST)/lib/pkgconfig/tillerclover.pc
-	@cp -R README.md SECURITY.md CHANGELOG.md CONTRIBUTING.md docs examples $(DIST)/
+	@for target in $(wildcard target/lib/*); do cp -R $$target $(DIST)/lib/; done
+	@tar -ch --exclude=target bindings/rust | tar -x -C $(DIST)
+	@cp -R README.md SECURITY.md CHANGELOG.md CONTRIBUTING.md docs examples packaging/KIT $(DIST)/
+	CARGOFLAGS="$(CARGOFLAGS)" packaging/sbom.py $(MAJOR).$(MINOR) $(ARCHIVE) $(TOOL) $(TERMINAL) >$(DIST)/sbom.json && packaging/sbom.py --check $(DIST)/sbom.json
 	cd $(DIST) && find . -type f ! -name SHA256SUMS | LC_ALL=C sort | xargs sha256sum >SHA256SUMS
 	cd target/dist && tar --sort=name --owner=0 --group=0 --numeric-owner --mode=go=rX,u+rw --mtime="@$$(git log -1 --format=%ct)" \
 	    -c $(NAME) | gzip -n >$(NAME).tar.gz
 
-deb: $(ARCHIVE) ## writes the Debian package libtillerclover-dev for amd64 to target/deb
-	rm -rf $(DEBROOT)
-	@$(MAKE) -s install DESTDIR=$(DEBROOT) PREFIX=/usr LIBDIR=/usr/lib/x86_64-linux-gnu ARCHIVE=$(ARCHIVE)
-	@$(INSTALL) -d $(DEBROOT)/DEBIAN $(DEBROOT)/usr/share/doc/libtillerclover-dev
-	@$(INSTALL) -m 644 packaging/copyright $(DEBROOT)/usr/share/doc/libtillerclover-dev/
-	@gzip -9nc CHANGELOG.md >$(DEBROOT)/usr/share/doc/libtillerclover-dev/changelog.gz
-	@$(call fill,packaging/control.in) | sed "s|@SIZE@|$$(du -sk --apparent-size $(DEBROOT)/usr | cut -f 1)|" >$(DEBROOT)/DEBIAN/control
-	@cd $(DEBROOT) && find usr -type f | LC_ALL=C sort | xargs md5sum >DEBIAN/md5sums
-	@find $(DEBROOT) -type d -exec chmod 755 {} + && find $(DEBROOT) -type f -exec chmod 644 {} +
-	SOURCE_DATE_EPOCH=$$(git log -1 --format=%ct) dpkg-deb --root-owner-group --build $(DEBROOT) $(DEB)
+# package FOLDER TEMPLATE COPYRIGHT: the Debian package of what stands below FOLDER, beside it; the folder has the package's name
+define package
+	@$(INSTALL) -d $(1)/DEBIAN $(1)/usr/share/doc/$(notdir $(1))
+	@$(INSTALL) -m 644 $(3) $(1)/usr/share/doc/$(notdir $(1))/copyright
+	@gzip -9nc CHANGELOG.md >$(1)/usr/share/doc/$(notdir $(1))/changelog.gz
+	@$(call fill,$(2)) | sed -e "s|@SIZE@|$$(du -sk --apparent-size $(1)/usr | cut -f 1)|" -e "s|@DEPENDS@|$$(packaging/depends.sh $(TOOL))|" \
+	    >$(1)/DEBIAN/control
+	@cd $(1) && find usr -type f | LC_ALL=C sort | xargs md5sum >DEBIAN/md5sums
+	@find $(1) -type d -exec chmod 755 {} + && find $(1) -type f ! -path '*/bin/*' -exec chmod 644 {} +
+	SOURCE_DATE_EPOCH=$$(git log -1 --format=%ct) dpkg-deb $(DEBFLAGS) --root-owner-group --build $(1) $(1)_$(MAJOR).$(MINOR)_amd64.deb
+endef
+
+deb: $(ARCHIVE) $(TOOL) ## writes the Debian packages libtillerclover-dev and tillerclover for amd64 to target/deb
+	rm -rf $(DEBS)
+	@$(MAKE) -s -o $(ARCHIVE) install DESTDIR=$(LIBRARY_DEB) PREFIX=/usr LIBDIR=/usr/lib/x86_64-linux-gnu ARCHIVE=$(ARCHIVE)
+	@packaging/install-tool.sh $(TOOL) $(TOOL_DEB)/usr
+	@$(INSTALL) -d $(TOOL_DEB)/usr/share/doc/tillerclover
+	@CARGOFLAGS="$(CARGOFLAGS)" packaging/sbom.py $(MAJOR).$(MINOR) $(ARCHIVE) $(TOOL) - >$(TOOL_DEB)/usr/share/doc/tillerclover/sbom.json
+	$(call package,$(LIBRARY_DEB),packaging/control.in,packaging/copyright)
+	$(call package,$(TOOL_DEB),packaging/control-tool.in,packaging/copyright-tool)
 
 help: ## lists the targets
-	@sed -n 's/^\([a-z]*\):[^#]*## /\1\t/p' $(MAKEFILE_LIST) | expand -t 12
+	@sed -n 's/^\([a-z-]*\):[^#]*## /\1\t/p' $(MAKEFILE_LIST) | expand -t 14

@@ -2,7 +2,7 @@
 """Compares the documents with the sources. Exit status 1: a line for each thing that is not as it is said.
 
     tests/documents.py            compares
-    tests/documents.py --write    first makes the pictures of docs/PICTURES.md and the tables of docs/ANSWERS.md anew
+    tests/documents.py --write    first makes the pictures and tables of docs/PICTURES.md, ANSWERS.md and SECURITY-MODEL.md anew
 
 README.md       the layers with crates.txt; what must be believed with what the contracts cite
 PROOFS.md       each theorem that its tables name is exported with a statement by a file named; each function stands in the file or crate;
@@ -16,6 +16,8 @@ PICTURES.md     the pictures with those made from the definitions
 ANSWERS.md      the tables with those made from the header, the words of names.rs and the definitions; the columns
                 'usual cause' and 'what to do' are written by hand in the page, and kept
 tillerclover.h  offsets, lengths and shifts with the definitions
+GLOSSARY.md     sorted; each word of CONTRIBUTING's table stands there, and each name in code letters is in the sources
+SECURITY-MODEL.md   the trust boundary with the functions of the headers
 """
 import difflib
 import glob
@@ -28,8 +30,8 @@ sys.dont_write_bytecode = True
 from answers import ANSWERS, answers, order_picture, sequence_picture, states_picture, writes_table  # noqa: E402
 from sources import HEADER, Changed, asks, contracts, exports, faults, fault, found, functions_of, number, read, right_side, rows_of  # noqa: E402
 
-PAGE = "docs/PICTURES.md"
-CITED = ["README.md", "SECURITY.md", "CHANGELOG.md", "docs/SECURITY-MODEL.md", "docs/ASSESSOR.md", "docs/ANSWERS.md", PAGE]
+PAGE, MODEL = "docs/PICTURES.md", "docs/SECURITY-MODEL.md"
+CITED = ["README.md", "SECURITY.md", "CHANGELOG.md", MODEL, "docs/ASSESSOR.md", "docs/ANSWERS.md", "docs/GLOSSARY.md", PAGE]
 
 
 # ---- layouts
@@ -512,7 +514,7 @@ def check_cited(page):
         # `tillerclover::..` is the library's name in CMake and in Rust
         if crate != "tillerclover" and name not in functions_of(f"crates/{crate}/src"):
             fault(f"{page}: there is no function {name} in crates/{crate}/src")
-    for path in set(re.findall(r"(?<![\w/.])((?:docs|tests|include|examples|model|bindings|tool|bench|crates)/[\w./-]*\w)", text)):
+    for path in set(re.findall(r"(?<![\w/.])((?:docs|tests|include|examples|model|bindings|tool|bench|crates|packaging)/[\w./-]*\w)", text)):
         if not os.path.exists(path) and "target" not in path:
             fault(f"{page}: there is no {path}")
 
@@ -541,7 +543,57 @@ def check_edits():
         fault(f"MUST-FAIL.md: {crate}/must-fail/{edit}.edit " + ("has no row" if (crate, edit) in edits else "is not there, and has a row"))
 
 
+# ---- words
+
+
+def check_glossary():
+    page = read("docs/GLOSSARY.md")
+    words = [cells[0].replace("`", "") for cells in rows_of(page)[1:]]
+    if words != sorted(words, key=str.lower):
+        fault("GLOSSARY.md: the words are not in their order")
+    table = read("CONTRIBUTING.md").split("## Words")[1].split("\n## ")[0].split("Three rules")[0]
+    for name in {name for cells in rows_of(table)[1:] for name in re.findall(r"`(\w+)`", cells[-1])}:
+        if f"`{name}`" not in page:
+            fault(f"GLOSSARY.md: CONTRIBUTING.md has the word {name}, and it stands not there")
+    sources = "\n".join(read(path) for path in glob.glob("crates/*/specs/*.antt") + glob.glob("crates/*/src/**/*.rt", recursive=True))
+    known = set(re.findall(r"\w+", sources))
+    for name in set(re.findall(r"`(\w+)`", page)) - known:
+        fault(f"GLOSSARY.md: there is no {name} in the sources")
+
+
 # ---- the pictures
+
+
+def boundary_picture():
+    """The trust boundary, with the functions that C can call."""
+    functions = []
+    for header in ("include/tillerclover.h", "include/tillerclover_store.h"):
+        plain = re.sub(r"/\*.*?\*/|^ *#.*?(?<!\\)$", "", read(header), flags=re.S | re.M)
+        functions += [name for name in re.findall(r"^[^\n#]*?\btillerclover_(\w+)\([^;{]*?\);", plain, re.M | re.S) if name not in functions]
+    if "judge" not in functions or "store_next" not in functions:
+        raise Changed("the headers declare their functions in another form")
+    listed = ",<br/>".join(", ".join(functions[i : i + 3]) for i in range(0, len(functions), 3))
+    return "\n".join([
+        "```mermaid", "flowchart TB", '    net["the network: hostile"]', '    lists["lists of another firm\'s program"]',
+        '    subgraph device["the device: the integrator\'s"]',
+        '        stack["session layer<br/>CoAP, DTLS, keys<br/>believed: who sent a record"]',
+        '        subgraph inside["inside the trust boundary"]',
+        '            program["the weighing program<br/>believed: acts on the answer,<br/>hands back the tables it got last"]',
+        f'            library["THE LIBRARY: PROVED<br/>{listed}"]', '            clock["clock<br/>believed"]', "        end",
+        '        memory["tables, waiting records<br/>any content: looked at, not believed"]',
+        '        plate["plate, printer, lamp, calibration"]', "    end", "    net -->|datagrams| stack",
+        '    stack -->|"record, connection bit, credential number"| program', "    lists -->|bytes| program",
+        '    program -->|"record, tables, waiting records, clock"| library',
+        '    library -->|"answer, permission, payload, reply, tables"| program', "    clock --> program",
+        '    memory <-->|"stored and read back"| program', '    program -->|"permitted records alone"| plate', "```",
+    ])
+
+
+def check_way():
+    """The picture of the way from the paper to the processor: the number of records that are compared."""
+    compared = re.search(r"--records (\d+)", read("tests/run.sh"))
+    if not compared or f"compared on {int(compared.group(1)):,} records" not in read(PAGE):
+        fault("PICTURES.md: the way to the processor has another number of records than tests/run.sh compares")
 
 
 def pictures():
@@ -588,6 +640,8 @@ def main(words):
         return 2
     try:
         check_layers()
+        check_way()
+        check_glossary()
         check_believed()
         check_proofs()
         check_edits()
@@ -596,6 +650,7 @@ def main(words):
             check_cited(cited)
         renew(PAGE, lambda page: pictures(), bool(words))
         renew(ANSWERS, answers, bool(words))
+        renew(MODEL, lambda page: {"boundary": boundary_picture()}, bool(words))
     except Changed as changed:
         print(f"documents: {changed}")
         return 1

@@ -8,7 +8,7 @@
 set -uo pipefail
 cd "$(dirname "$0")/.." || exit 2
 
-ALL=(layout model crates clippy binding tool compare runs example interface store install refuse documents vectors inputs terminal)
+ALL=(layout model crates clippy binding tool compare runs example interface store same install refuse documents vectors inputs terminal)
 root=$PWD
 work=$(mktemp -d) || exit 2
 trap 'rm -rf "$work"' EXIT
@@ -63,6 +63,9 @@ need_crates() {
     need_cargo && { [ "${#packages[@]}" -eq 0 ] || get "${packages[@]}"; }
 }
 
+# What the example terminal is linked with.
+need_coap() { need /usr/include/coap3/coap.h libcoap3-dev && need /usr/include/openssl/ssl.h libssl-dev; }
+
 # log COMMAND..: runs it, and shows what it wrote only where it fails
 log() {
     "$@" >"$work/log" 2>&1 && return
@@ -106,7 +109,7 @@ test_layout() {
     log in_tool cargo fmt --check || failed=1
     mapfile -t files < <(c_files)
     log clang-format --dry-run --Werror "${files[@]}" || failed=1
-    log shellcheck .ci/run tests/*.sh bench/*.sh examples/terminal/*.sh || failed=1
+    log shellcheck .ci/run tests/*.sh bench/*.sh examples/terminal/*.sh packaging/*.sh || failed=1
     return "$failed"
 }
 
@@ -214,13 +217,24 @@ test_store() {
     log in_model cargo run --quiet --profile gate --locked --features linked --bin stores && tail -n 1 "$work/log"
 }
 
+# Two builds in two folders give the same archive: what was proved is lent to the second, its code is made anew. Where kit and sources
+# are those of packaging/KIT, it is the archive of its sum.
+test_same() {
+    library || return 1
+    local second=$work/second/of/it
+    mkdir -p "$second/target" && cp -R crates crates.txt "$second" && ln -s "$root/target/rlib" "$root/target/stamp" "$second/target" &&
+        (cd "$second" && log rt staticlib terminal) &&
+        log cmp target/staticlib/libterminal.a "$second/target/staticlib/libterminal.a" && packaging/kit.sh --archive
+}
+
 # What `make install` wrote is enough for a project outside the repository, in C by pkg-config, by CMake and in Rust; a staged
 # installation keeps its prefix, and none is left after `make uninstall`. So is what `make dist` and `make deb` wrote.
 # INSTALL_ARCHIVE names another archive than the repository's.
 test_install() {
-    need cc gcc && need make make && need pkg-config pkg-config && need cmake cmake && need_cargo || return 1
+    need cc gcc && need make make && need pkg-config pkg-config && need cmake cmake && need_crates && need_coap && need python3 python3 || return 1
     [ -n "${INSTALL_ARCHIVE-}" ] || library || return 1
     local archive=${INSTALL_ARCHIVE:-target/staticlib/libterminal.a} prefix="$work/prefix" outside="$work/outside"
+    log tool_of "$archive" || return 1
     touch "$archive" && cp -R tests/install "$outside" && sed -i "s|@BINDING@|$root/bindings/rust|" "$outside/Cargo.toml" || return 1
     log make install PREFIX="$prefix" ARCHIVE="$archive" &&
         log outside_c "$prefix/lib" "$outside" && log diff - "$work/text" <<<"version 1000, state 1, answer 8" &&
@@ -233,25 +247,59 @@ test_install() {
     released "$archive" "$outside" && packaged_deb "$archive" "$outside"
 }
 
+# tool_of ARCHIVE: the tool, linked with this archive
+tool_of() { ([ -z "${INSTALL_ARCHIVE-}" ] || { TILLERCLOVER_LIB=$(realpath "$1") && export TILLERCLOVER_LIB; } && tool_cargo build); }
+
+# make_release TARGET ARCHIVE: with the tool as the tests have it, and packages that are not compressed
+make_release() {
+    log make "$1" ARCHIVE="$2" TOOL=tool/target/debug/tillerclover CARGOFLAGS="--offline --config ../tests/debian.toml" DEBFLAGS=-Znone
+}
+
+# of_one_build TOOL ARCHIVE: the command prints the sum of the archive
+of_one_build() {
+    "$1" --version | grep -qF "$(sha256sum "$2" | cut -d ' ' -f 1)" || { echo "install: the command is not of this archive" && return 1; }
+}
+
 # released ARCHIVE FOLDER: `make dist` twice gives the same, and its archive serves where it is unpacked
 released() {
     local release
-    log make dist ARCHIVE="$1" && release=$(echo target/dist/*.tar.gz) && cp "$release" "$work/first.tar.gz" &&
-        log make dist ARCHIVE="$1" && log cmp "$release" "$work/first.tar.gz" &&
+    make_release dist "$1" && release=$(echo target/dist/*.tar.gz) && cp "$release" "$work/first.tar.gz" &&
+        make_release dist "$1" && log cmp "$release" "$work/first.tar.gz" &&
         tar -xf "$release" -C "$work" && release=$work/$(basename "$release" .tar.gz) &&
-        (cd "$release" && log sha256sum --quiet --check SHA256SUMS) && log outside_c "$release/lib" "$2"
+        (cd "$release" && log sha256sum --quiet --check SHA256SUMS) && log outside_c "$release/lib" "$2" &&
+        log cmp "$release/include/tillerclover.h" "$release/bindings/rust/include/tillerclover.h" &&
+        of_one_build "$release/bin/tillerclover" "$release/lib/libtillerclover.a" && bill_of "$release/sbom.json" &&
+        log make -C "$release/examples/terminal" INCLUDE=../../include ARCHIVE=../../lib/libtillerclover.a OUT="$work" CFLAGS=-O0
+}
+
+# bill_of FILE: what the programs are made of fits the schema, and names what they were linked with; a spoilt one is noticed
+bill_of() {
+    local name
+    log packaging/sbom.py --check "$1" || return 1
+    for name in 'libtillerclover\.a' tillerclover clap terminal 'libcoap3(t64)?' 'libssl3(t64)?' libc6; do
+        grep -qE "\"name\": \"$name\"" "$1" || { echo "install: the SBOM has no $name" && return 1; }
+    done
+    for name in '/"specVersion"/d' 's/"SHA-256"/"MD5"/' 's/"ref": "terminal"/"ref": "another"/' '/"licenses"/,/\]/d'; do
+        sed "$name" "$1" >"$work/spoilt.json"
+        ! packaging/sbom.py --check "$work/spoilt.json" 2>/dev/null || { echo "install: the SBOM may be spoilt by $name" && return 1; }
+    done
 }
 
 # packaged_deb ARCHIVE FOLDER: `make deb` twice gives the same; installed below a folder with a database of its own, used, and purged
 packaged_deb() {
-    local deb dpkg=(dpkg --root="$work/debian" --force-not-root --force-architecture)
+    local debs dpkg=(dpkg --root="$work/debian" --force-not-root --force-architecture --force-depends) usr="$work/debian/usr"
     need dpkg-deb dpkg || return 1
-    mkdir -p "$work/debian/var/lib/dpkg/info" "$work/debian/var/lib/dpkg/updates" "$work/debian/var/lib/dpkg/triggers" &&
+    mkdir -p "$work/debian/var/lib/dpkg/info" "$work/debian/var/lib/dpkg/updates" "$work/debian/var/lib/dpkg/triggers" "$work/debs" &&
         touch "$work/debian/var/lib/dpkg/status" &&
-        log make deb ARCHIVE="$1" && deb=$(echo target/deb/*.deb) && cp "$deb" "$work/first.deb" &&
-        log make deb ARCHIVE="$1" && log cmp "$deb" "$work/first.deb" && log "${dpkg[@]}" --install "$deb" &&
-        PKG_CONFIG_SYSROOT_DIR="$work/debian" log outside_c "$work/debian/usr/lib/x86_64-linux-gnu" "$2" &&
-        log "${dpkg[@]}" --purge libtillerclover-dev && [ -z "$(find "$work/debian/usr" -type f 2>/dev/null)" ]
+        make_release deb "$1" && debs=(target/deb/*.deb) && cp "${debs[@]}" "$work/debs" && make_release deb "$1" &&
+        log cmp "${debs[0]}" "$work/debs/$(basename "${debs[0]}")" && log cmp "${debs[1]}" "$work/debs/$(basename "${debs[1]}")" &&
+        log "${dpkg[@]}" --install "${debs[@]}" &&
+        PKG_CONFIG_SYSROOT_DIR="$work/debian" log outside_c "$usr/lib/x86_64-linux-gnu" "$2" &&
+        of_one_build "$usr/bin/tillerclover" "$usr/lib/x86_64-linux-gnu/libtillerclover.a" &&
+        log "$usr/bin/tillerclover" new "$work/yard.tables" && log bash -n "$usr/share/bash-completion/completions/tillerclover" &&
+        gzip -dc "$usr/share/man/man1/tillerclover-why.1.gz" | grep -q '^\.TH TILLERCLOVER-WHY 1' &&
+        log packaging/sbom.py --check "$usr/share/doc/tillerclover/sbom.json" &&
+        log "${dpkg[@]}" --purge libtillerclover-dev tillerclover && [ -z "$(find "$usr" -type f 2>/dev/null)" ]
 }
 
 # outside_c LIB FOLDER: the C program by what pkg-config says of the installation with this folder of libraries; its text goes to $work/text
@@ -275,9 +323,9 @@ test_refuse() {
     [ "$status" -eq 2 ] || { echo "refuse: a text that is not there, and the status is $status" && return 1; }
 }
 
-# What the documents and the header say of the sources is so.
+# What the documents and the header say of the sources is so; each sentence of the papers has its row.
 test_documents() {
-    need python3 python3 && log tests/documents.py
+    need python3 python3 && log tests/documents.py && log tests/trace.py
 }
 
 # The vectors are those that the model writes today.
@@ -320,8 +368,7 @@ test_inputs() {
 
 # The example terminal over CoAP and DTLS, talked to by libcoap's client.
 test_terminal() {
-    need cc gcc && need make make && need /usr/include/coap3/coap.h libcoap3-dev && need /usr/include/openssl/ssl.h libssl-dev &&
-        need coap-client-openssl libcoap3-bin && need openssl openssl && library && tests/terminal.sh
+    need cc gcc && need make make && need_coap && need coap-client-openssl libcoap3-bin && need openssl openssl && library && tests/terminal.sh
 }
 
 # expect_text WHAT INPUT TEXT
