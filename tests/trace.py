@@ -286,7 +286,7 @@ def page(papers, rows):
     text.append(f"| no code: a claim over definitions, or over any calls that meet the contracts | {listed([r for r in without['code'] if r.parts['theorem']])} |")
     text.append(f"| no must-fail edit | {listed(without['edit'])} |")
     text.append(f"| no test of its own | {listed(without['test'])} |")
-    text.append(f"\nMust-fail edits that no row names, since they are of the store, of power cuts, of the question of isolation, or of a function below: "
+    text.append(f"\nMust-fail edits that no row names; most are of the store, of power cuts and of the question of isolation, which the papers do not have: "
                 f"{', '.join(f'`{edit}`' for edit in sorted(edits - named)) or 'none'}.\n")
     section = None
     for row in rows:
