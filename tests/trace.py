@@ -262,7 +262,7 @@ How to read a row:
 - **code**: `crate::function`. Its contract equates what it does with the row's definitions, or with some that are made of them, for every input, and is proved; so a row with code is proved also where its column of theorems is empty. `run::main` and `vectors::walk` have no contract, since none can say what a program reads or writes.
 - **theorem**: `crate/File: name` stands in crates/CRATE/proofs/FILE.antt. General theorems, and examples that compute. docs/PROOFS.md says in words what each states.
 - **must-fail edit**: crates/CRATE/must-fail/EDIT.edit. docs/MUST-FAIL.md has its words.
-- **test**: a test of that name. systematic.rs: cases by enumeration, on which the library and the second model are compared, call by call (`compare`); with them go 300,000 random ones, of every kind. interface.c and the groups of run.sh are tests of the library and of the programs themselves. Other .rs files of model/ are tests of the second model, by hand or at random: they speak of the library through that comparison. model/tests/mutants sees that the cases tell wrong programs apart. A path is a page or an expected output.
+- **test**: a test of that name. systematic.rs: cases by enumeration, on which the library and the second model are compared, call by call (`compare`); random ones of every kind follow. interface.c and the groups of run.sh are tests of the library and of the programs themselves. Other .rs files of model/ are tests of the second model, by hand or at random: they speak of the library through that comparison. model/tests/mutants sees that the cases tell wrong programs apart. A path is a page or an expected output.
 """
 
 
@@ -286,7 +286,7 @@ def page(papers, rows):
     text.append(f"| no code: a claim over definitions, or over any calls that meet the contracts | {listed([r for r in without['code'] if r.parts['theorem']])} |")
     text.append(f"| no must-fail edit | {listed(without['edit'])} |")
     text.append(f"| no test of its own | {listed(without['test'])} |")
-    text.append(f"\nMust-fail edits that no row names, since they are of the store, of power cuts, of the question of isolation, or of a function below: "
+    text.append(f"\nMust-fail edits that no row names; most are of the store, of power cuts and of the question of isolation, which the papers do not have: "
                 f"{', '.join(f'`{edit}`' for edit in sorted(edits - named)) or 'none'}.\n")
     section = None
     for row in rows:
