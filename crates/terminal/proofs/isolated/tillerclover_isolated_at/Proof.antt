@@ -5,4 +5,4 @@ use Rattle.terminal.proofs.isolated.tillerclover_isolated_at.Tie as tie
 pub tillerclover-isolated-at-spec : {M : Type 1} → Rattle.terminal.proofs.isolated.tillerclover_isolated_at.Statement.statement M
 tillerclover-isolated-at-spec = tie.close (tie.spec
     (λ c. search needs) (λ c. search needs) (λ c. search needs) (λ c. search needs) (λ c κs. search needs) (λ c κs. search needs) (λ c. search needs)
-    (λ c. cc))
+    (λ c. let report = c .before .before in rw (report .report .ensures, report .before .isolation-of .ensures)))
