@@ -148,11 +148,12 @@ test_tool() {
     need_crates && need python3 python3 && library && log tool_cargo test && log tool_cargo build && log tests/tool.sh tool/target/debug/tillerclover
 }
 
-# The library and the model give the same for 300,000 records.
+# The library and the model give the same for 300,000 records, and for as many questions of isolation as `yards` asks.
 test_compare() {
     need_cargo && library &&
         log in_model cargo run --quiet --profile gate --locked --features linked --bin compare -- --records 300000 &&
-        tail -n 1 "$work/log"
+        tail -n 1 "$work/log" &&
+        log in_model cargo run --quiet --profile gate --locked --features linked --bin yards && tail -n 1 "$work/log"
 }
 
 # The run program and the model write the same text for 200 runs.
