@@ -64,7 +64,13 @@ pub fn isolated(t: Tables, senders: &[u8]) -> [u64; 3]
     let aces = t.aces;
     let mut said = [0; 3];
     tillerclover_isolated_at(
-        &counts, &devowner, &rowners, &creds, &aces, senders, &mut said,
+        &counts,
+        &devowner,
+        &rowners,
+        &creds,
+        &aces,
+        senders,
+        &mut said,
     );
     said
 }
