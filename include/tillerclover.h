@@ -46,8 +46,8 @@ extern "C" {
  *
  * MAJOR changes with the bytes of the tables or of waiting records: what was stored under another MAJOR means other things,
  * and is not to be handed to a function but tillerclover_clear. Keep it beside the tables, as examples/terminal does. MINOR
- * changes with all else that a caller can see. Both are of this header; the archive carries none, so take the two from one
- * build.
+ * changes with all else that a caller can see. Both are of this header; whether the archive belongs to it says
+ * tillerclover_identified of tillerclover_yards.h.
  */
 #define TILLERCLOVER_VERSION_MAJOR 1
 #define TILLERCLOVER_VERSION_MINOR 0
@@ -608,5 +608,7 @@ TILLERCLOVER_ASSERT(offsetof(tillerclover_converted, length) == 8, "length");
 
 #undef TILLERCLOVER_ASSERT
 #undef TILLERCLOVER_RESULT
+
+#include "tillerclover_yards.h"
 
 #endif

@@ -16,6 +16,8 @@ PICTURES.md     the pictures with those made from the definitions
 ANSWERS.md      the tables with those made from the header, the words of names.rs and the definitions; the columns
                 'usual cause' and 'what to do' are written by hand in the page, and kept
 tillerclover.h  offsets, lengths and shifts with the definitions
+tillerclover_yards.h
+                the identity and the reasons' numbers with the definitions
 GLOSSARY.md     sorted; each word of CONTRIBUTING's table stands there, and each name in code letters is in the sources
 SECURITY-MODEL.md   the trust boundary with the functions of the headers
 """
@@ -414,6 +416,23 @@ def check_header(drawn):
             fault(f"{HEADER}: TILLERCLOVER_{name} is {has.get(name)}, and by the definitions {value}")
 
 
+def check_yards():
+    """The identity and the numbers of the reasons are those of the definitions."""
+    header, definitions = read("include/tillerclover_yards.h"), read("crates/terminal/specs/Isolated.antt")
+    versions = [int(re.search(rf"^{name} = (\d+)$", definitions, re.M).group(1)) for name in ("formatVersion", "interfaceVersion")]
+    said = re.search(r"#define TILLERCLOVER_IDENTITY UINT64_C\((\d+)\)", header)
+    if not said or int(said.group(1)) != 1000000 * versions[0] + versions[1]:
+        fault("tillerclover_yards.h: the identity is not that of Isolated.antt")
+    reports = read("crates/rules_isolation/specs/Question.antt")
+    for name, variant in (
+        ("ISOLATED", "Isolated"), ("ISOLATION_ODD_LENGTH", "OddLength"), ("ISOLATION_NOT_SOUND", "Unsound"),
+        ("ISOLATION_NO_OWNER", "NoOwner"), ("ISOLATION_NAMES_OWNER", "NamesOwner"), ("ISOLATION_MAY_ALTER", "MayAlter"),
+    ):
+        number_of = re.search(rf"^reportOf \(?{variant}\b.*reason = (\d+);", reports, re.M)
+        if not number_of or f"TILLERCLOVER_{name} = {number_of.group(1)}" not in header:
+            fault(f"tillerclover_yards.h: TILLERCLOVER_{name} is not the number that reportOf gives {variant}")
+
+
 # ---- theorems, functions, must-fail edits
 
 
@@ -646,6 +665,7 @@ def main(words):
         check_proofs()
         check_edits()
         check_changelog()
+        check_yards()
         for cited in CITED:
             check_cited(cited)
         renew(PAGE, lambda page: pictures(), bool(words))

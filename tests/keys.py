@@ -32,6 +32,11 @@ COMMANDS = [
     ("who", ["who", "DELETE", "/oic/sec/doxm", "a"], ""),
     ("rights", ["rights", "a"], ""),
     ("rights --html", ["rights", "a", "--html", "page", "--force"], ""),
+    ("isolated", ["isolated", "a", "7,8"], ""),
+    ("isolated", ["isolated", "a", "clear,77,5", "--absent"], ""),
+    ("isolated", ["isolated", "d", "77", "--absent"], ""),
+    ("yards", ["yards", "a", "north=7", "south=8"], ""),
+    ("yards", ["yards", "d", "north=7"], ""),
     ("why", ["why", "a", "UPDATE /tare as 7"], ""),
     ("why", ["why", "a", "UPDATE /tare as 7", "--without", "3"], ""),
     ("why", ["why", "a", "RETRIEVE /oic/sec/acl2 as 5", "--without", "99"], ""),
@@ -99,6 +104,10 @@ def prepare(program):
     with open("c", "wb") as file:
         file.write(tables)
     subprocess.run([program, "judge", "c", ROLE, MOVE, "--no-backup"], check=True, stdout=subprocess.DEVNULL)
+    with open("d", "wb") as file:
+        file.write(tables)
+    loose = "UPDATE /oic/sec/acl2 as 5 number=9 subject=auth-crypt permission=U resources=/oic/sec/pstat"
+    subprocess.run([program, "judge", "d", MOVE, loose, "--no-backup"], check=True, stdout=subprocess.DEVNULL)
     with open("bad", "wb") as file:
         file.write(b"\x09" + bytes(2171))
     with open("old", "wb") as file:

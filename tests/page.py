@@ -1,10 +1,10 @@
 #!/usr/bin/env python3
 """Reads the page of `rights --html` and holds it to the JSON of `rights`.
 
-    tests/page.py PAGE JSON NAME
+    tests/page.py PAGE JSON NAME [YARDS]
 
 The page is well formed, has no script and needs no other file, is light and dark and has rules for print, and its table
-says for each sender and resource what the JSON says. Exit status 1: a line for each thing that is not so.
+says for each sender and resource what the JSON says. With the JSON of `yards` it says the same of these. Exit status 1: a line for each thing that is not so.
 """
 import html.parser
 import json
@@ -66,6 +66,18 @@ def sender(sender):
     return f"Any credential that asserts role {sender['role']}@{sender['authority']}"
 
 
+def yards_are_said(yards, enders, said):
+    expected = [
+        [yard["name"], ", ".join(map(str, yard["senders"])), "isolated" if yard["isolated"] else f"not isolated : {yard['reason']['words']}"]
+        for yard in said["yards"]
+    ]
+    if yards[1:] != expected:
+        faults.append(f"yards {yards[1:]}, and not {expected}")
+    expected = [sender(other["sender"]) for other in said["others"] if other["could_end"]]
+    if [row[0] for row in enders[1:]] != expected:
+        faults.append(f"could end it: {enders[1:]}, and not {expected}")
+
+
 def main():
     with open(sys.argv[1], encoding="utf-8") as file:
         source = file.read()
@@ -99,6 +111,9 @@ def main():
             faults.append(f"row {row}, and not {expected}")
     if len(found) != len(rights["senders"]) + 1:
         faults.append(f"{len(found) - 1} senders, and not {len(rights['senders'])}")
+    if len(sys.argv) > 4:
+        with open(sys.argv[4], encoding="utf-8") as file:
+            yards_are_said(page.tables[1], page.tables[2], json.load(file))
     for fault in faults:
         print("page:", fault)
     return 1 if faults else 0

@@ -152,11 +152,12 @@ test_tool() {
     need_crates && need python3 python3 && library && log tool_cargo test && log tool_cargo build && log tests/tool.sh tool/target/debug/tillerclover
 }
 
-# The library and the model give the same for 300,000 records.
+# The library and the model give the same for 300,000 records, and for as many questions of isolation as `yards` asks.
 test_compare() {
     need_cargo && library &&
         log in_model cargo run --quiet --profile gate --locked --features linked --bin compare -- --records 300000 &&
-        tail -n 1 "$work/log"
+        tail -n 1 "$work/log" &&
+        log in_model cargo run --quiet --profile gate --locked --features linked --bin yards && tail -n 1 "$work/log"
 }
 
 # The run program and the model write the same text for 200 runs.
@@ -172,9 +173,13 @@ c_program() {
         target/staticlib/libterminal.a -o "$work/$1"
 }
 
-# The C example is built without a warning and prints what it is to print.
+# The C examples are built without a warning and print what they are to print.
 test_example() {
-    need cc gcc && library && c_program yard examples/yard.c && log "$work/yard" && log diff examples/yard.expected <("$work/yard")
+    need cc gcc && library || return 1
+    local name
+    for name in yard two_yards; do
+        c_program "$name" "examples/$name.c" && log "$work/$name" && log diff "examples/$name.expected" <("$work/$name") || return 1
+    done
 }
 
 # compiles LANGUAGE TEXT: the compiler takes the text after the header, without a warning
@@ -197,10 +202,24 @@ test_interface() {
         compiles $language $'#if defined TILLERCLOVER_ASSERT || defined TILLERCLOVER_RESULT\n#error\n#endif' ||
             { echo "interface: in $language the header leaves a macro of its own" && failed=1; }
     done
-    c_program interface tests/interface.c && log "$work/interface" &&
-        c_program sanitized -g -fsanitize=address,undefined -fno-sanitize-recover=all tests/interface.c && log "$work/sanitized" ||
-        failed=1
+    local name
+    for name in interface yards; do
+        c_program "$name" "tests/$name.c" && log "$work/$name" &&
+            c_program sanitized -g -fsanitize=address,undefined -fno-sanitize-recover=all "tests/$name.c" && log "$work/sanitized" ||
+            failed=1
+    done
+    foreign || failed=1
     return "$failed"
+}
+
+# A program with the header of another build is told that the archive is not its own.
+foreign() {
+    cp -R include "$work/foreign" && sed -i 's/\(#define TILLERCLOVER_IDENTITY UINT64_C(\)/\1 1 + /' "$work/foreign/tillerclover_yards.h" &&
+        printf '#include "tillerclover.h"\nint main(void) { return tillerclover_identified(); }\n' >"$work/foreign.c" &&
+        log cc -std=c11 -I"$work/foreign" "$work/foreign.c" target/staticlib/libterminal.a -o "$work/foreign.program" &&
+        log "$work/foreign.program" && return
+    echo "interface: an archive of another build is not noticed"
+    return 1
 }
 
 # The store over a simulated EEPROM whose power is cut, alone and under a terminal, also under the sanitizers; and against the model.

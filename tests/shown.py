@@ -6,7 +6,7 @@
 
 A command is an indented line that begins with '$ '; what it prints stands below it. The commands of a file run one after
 the other in a folder of their own, with the files of examples/tool. A SHA-256 is shown as (64 digits), and the toolchain
-as (what rt version says).
+as (what rt version says), a process as (its number).
 """
 import difflib
 import os
@@ -24,6 +24,7 @@ def run(command, folder, environment):
         ["bash", "-c", command], cwd=folder, env=environment, stdin=subprocess.DEVNULL, stdout=subprocess.PIPE, stderr=subprocess.STDOUT
     )
     text = re.sub(r"\b[0-9a-f]{64}\b", "(64 digits)", done.stdout.decode("utf-8", "replace"))
+    text = re.sub(r"\bprocess \d+", "process (its number)", text)
     text = re.sub(r"(?m)^(toolchain +).*$", r"\1(what rt version says)", text)
     return [(INDENT + line).rstrip() for line in text.removesuffix("\n").split("\n")] if text else []
 

@@ -12,7 +12,7 @@ root=$PWD
 program=$(realpath "$1") || exit 2
 shift
 
-ALL=(documents keys tables store records locks backups questions page lists office runs lines expectations habits bad crowd disk kills)
+ALL=(documents keys tables store records locks backups questions yards page lists office runs lines expectations habits bad crowd disk kills)
 work=$(mktemp -d) || exit 2
 small=$work/small
 trap 'umount "$small" 2>/dev/null; rm -rf "$work"' EXIT
@@ -386,6 +386,47 @@ part_questions() {
     gives 1 "c: NOT SOUND" who UPDATE /tare c
 }
 
+# Partners and yards: yes and no in words, and bad lists.
+part_yards() {
+    yard a
+    tillerclover judge a UPDATE /oic/sec/pstat as 5 state=RFPRO UPDATE /oic/sec/cred as 5 number=8 "subject=$foreman" \
+        UPDATE /oic/sec/pstat as 5 state=RFNOP >/dev/null || fault "no third partner"
+    cp a before
+    gives 0 "7, 8 in a: isolated" isolated a 7,8
+    gives 0 "clear in a: isolated" isolated a clear
+    gives 1 "7, 5 in a: not isolated: credential 5 of $owner is the device owner" isolated a 7,5
+    gives 2 "a: no credential row has the number 77; --absent asks of it all the same" isolated a 7,77
+    gives 0 "7, 77 in a: isolated" isolated a 7,77 --absent
+    gives 2 "8 stands twice" isolated a 8,7,8
+    gives 2 "credential numbers between commas, such as 7,8,9" isolated a ''
+    gives 2 "0 is no credential number; anybody in clear is the word clear" isolated a 0
+    gives 2 "'x' is no credential number" isolated a 7,x
+    gives 0 "  south  8   isolated" yards a north=7 south=8
+    gives 0 "  5  $owner  is the device owner" yards a north=7 south=8
+    gives 0 "Ask again after that." yards a north=7 south=8
+    gives 1 "Whoever is not isolated could disturb every yard." yards a north=5 south=8
+    gives 2 "credential 7 is of yard north and of yard south; nobody may be of two" yards a north=7 south=8,7
+    gives 2 "yard north stands twice" yards a north=7 north=8
+    gives 2 "'7,8': a yard is its name and its credential numbers, such as north=7,8,9" yards a 7,8
+    gives 2 "yard north: '7,': credential numbers between commas" yards a north=7,
+    gives 2 "no credential row has the number 9" yards a north=7 south=9
+    cmp -s a before || fault "a question changed the tables"
+    # a row for a role, of a season that is over; a row owner; no owner
+    tillerclover judge a UPDATE /oic/sec/pstat as 5 state=SRESET UPDATE /oic/sec/acl2 as 5 number=9 subject=role:3 permission=CRU \
+        resources=/oic/sec/pstat,/weight last=2020-01-01 UPDATE /oic/sec/cred as 5 "row-owner=$foreman" >/dev/null || fault "no loose row"
+    gives 1 "credential 7 of $haulier may be given C-U-- on /oic/sec/pstat by access row 9, which is for role:3@0" isolated a 7
+    gives 1 "any holder may assert any role" isolated a 7
+    gives 1 "credential 8 of $foreman is the row owner of /oic/sec/cred" isolated a 8
+    gives 0 "clear in a: isolated" isolated a clear
+    gives 1 "  8  $foreman  is the row owner of /oic/sec/cred" yards a north=7
+    gives 1 '"number": 5' isolated --json a 7
+    tillerclover new b >/dev/null
+    gives 1 "nobody owns the terminal, so that anybody may write" isolated b clear
+    tillerclover new --form tables c >/dev/null && bytes 09 | dd of=c bs=1 conv=notrunc status=none
+    gives 1 "c: NOT SOUND" isolated c 7
+    gives 1 "c: NOT SOUND" yards c a=7
+}
+
 # The page says what the table says, needs nothing else, and stays within its rules.
 part_page() {
     busy_yard "a<b>&c"
@@ -395,6 +436,14 @@ part_page() {
     tillerclover rights "a<b>&c" --clock 2026-10-05 --html - | cmp -s - p.html || fault "the page on standard output is another"
     tillerclover rights "a<b>&c" --clock 2026-10-05 --json >rights.json
     "$root/tests/page.py" p.html rights.json "a<b>&c" || fault "the page is not as it should be"
+    grep -q "Isolation of yards" p.html && fault "yards that nobody named"
+    gives 0 "q.html: written" rights "a<b>&c" --clock 2026-10-05 --html q.html --yard "<n>=7" --yard south=8
+    tillerclover yards "a<b>&c" "<n>=7" south=8 --json >yards.json
+    "$root/tests/page.py" q.html rights.json "a<b>&c" yards.json || fault "the page with yards is not as it should be"
+    gives 2 "no credential row has the number 9" rights "a<b>&c" --html r.html --yard north=9
+    gives 2 "credential 7 is of yard north and of yard south" rights "a<b>&c" --html r.html --yard north=7 --yard south=7
+    gives 2 "--html" rights "a<b>&c" --yard north=7
+    [ ! -e r.html ] || fault "a page of bad yards was written"
 }
 
 part_office() {

@@ -234,6 +234,9 @@ int main(int count, char **words)
         return front_main(words[2], words[3], words[4]);
     }
     open_standard();
+    if (!tillerclover_identified()) {
+        fail("the archive and tillerclover.h are not of one build");
+    }
     p.options = read_options(count, words);
     p.signals = open_signals();
     p.clock_watch = clock_watch();

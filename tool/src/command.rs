@@ -32,7 +32,7 @@ pub fn command() -> Command {
                 .global(true),
         )
         .subcommands([new(), judge(), hand_in(), take(), undo()])
-        .subcommands([show(), who(), rights(), why(), diff()])
+        .subcommands([show(), who(), rights(), why(), isolated(), yards(), diff()])
         .subcommand(
             Command::new("list")
                 .about("Test, make, convert and load lists of access rows, write the office's text")
@@ -96,12 +96,15 @@ fn who() -> Command {
 
 fn rights() -> Command {
     let html = "Write one page with the same, the tables and the state, to print and file; - is standard output";
+    let yard = "Have the isolation of this yard on the page too; may be given several times";
     changes(
         Command::new("rights")
             .about("What each sender may do with each resource, as a table of letters")
             .arg(file())
             .arg(clock())
             .arg(option("html", "PAGE", html).value_parser(value_parser!(PathBuf)))
+            .arg(option("yard", "NAME=LIST", yard).action(ArgAction::Append).requires("html"))
+            .arg(absent().requires("yard"))
             .arg(force()),
     )
 }
@@ -113,6 +116,26 @@ fn why() -> Command {
         .arg(option("without", "ROW", without).value_parser(value_parser!(u16)).action(ArgAction::Append))
         .arg(option("with", "RECORD", with).action(ArgAction::Append))
         .after_help(RECORDS)
+}
+
+fn isolated() -> Command {
+    Command::new("isolated")
+        .about("Whether partners are isolated: whatever they send changes nothing for anybody else")
+        .arg(file())
+        .arg(Arg::new("LIST").required(true).help("Credential numbers between commas; clear is anybody in clear"))
+        .arg(absent())
+}
+
+fn yards() -> Command {
+    Command::new("yards")
+        .about("Whether the partners of each yard are isolated, and who of no yard could end it")
+        .arg(file())
+        .arg(Arg::new("YARD").required(true).num_args(1..).value_name("NAME=LIST").help("A yard, such as north=7,8,9"))
+        .arg(absent())
+}
+
+fn absent() -> Arg {
+    flag("absent", "Ask also of partners that have no credential row")
 }
 
 fn diff() -> Command {

@@ -12,7 +12,7 @@ use crate::report::{Report, Status};
 use crate::steps::Act;
 use crate::store::{self, Care, Stored};
 use crate::who::{self, Question};
-use crate::{diff, expect, judge, list, load, manual, matrix, new, page, parse, run, show, undo, why};
+use crate::{diff, expect, judge, list, load, manual, matrix, new, page, parse, run, show, undo, why, yards};
 
 /// What a command leaves to do.
 pub enum Done {
@@ -45,6 +45,8 @@ fn report(name: &str, arguments: &ArgMatches) -> Result<Report, Error> {
         "who" => who(arguments),
         "rights" => rights(arguments),
         "why" => explain(arguments),
+        "isolated" => yards::isolated(arguments),
+        "yards" => yards::yards(arguments),
         "test" => expect::test(file(arguments, "FILE")),
         "completions" => manual::completions(text(arguments, "SHELL").unwrap_or_default()).map(plain),
         "man" => manual::page(&texts(arguments, "COMMAND")).map(plain),
@@ -87,10 +89,13 @@ fn who(arguments: &ArgMatches) -> Result<Report, Error> {
 fn rights(arguments: &ArgMatches) -> Result<Report, Error> {
     let (path, clock) = (file(arguments, "FILE"), clock(arguments)?);
     let stored = Stored::read_whole(path, Default::default())?;
+    let named = yards::parse(&texts(arguments, "yard")).map_err(|error| Error::new(format!("--yard: {error}")))?;
     let report = matrix::report(path, &stored, clock);
     match crate::arguments::path(arguments, "html") {
         Some(page) if report.status == Status::Yes => {
-            write_page(page, page::page(path, &stored, clock), force(arguments))
+            let tables = &stored.terminal.tables;
+            yards::known(&named, tables, arguments.get_flag("absent")).map_err(|error| Error::of(path, error))?;
+            write_page(page, page::page(path, &stored, clock, &named), force(arguments))
         }
         _ => Ok(report),
     }

@@ -31,6 +31,7 @@ pub mod soundness;
 pub mod undo;
 pub mod who;
 pub mod why;
+pub mod yards;
 
 // What the commands share.
 pub mod arguments;

@@ -9,6 +9,7 @@ use std::process::ExitCode;
 
 use clap::error::ErrorKind;
 use clap::ArgMatches;
+use tillerclover::yards::identified;
 use tool::arguments::text;
 use tool::colour;
 use tool::command::command;
@@ -23,6 +24,9 @@ fn main() -> ExitCode {
         Err(error) => return usage(&error),
     };
     let json = matches.get_flag("json");
+    if !identified() {
+        return fail(&Error::new("the archive and the command are not of one build"), json);
+    }
     let done = settings(&matches).and_then(|()| dispatch(&matches)).and_then(|done| match done {
         Done::Report(report) => print(&report, json),
         Done::Printed(status) => Ok(status),

@@ -13,16 +13,18 @@ use crate::times::{self, Zone};
 use crate::version;
 use crate::who::ROLES_ARE_OPEN;
 use crate::words;
+use crate::yards::{self, Finding, Other, Yard};
 
 const STYLE: &str = include_str!("page.css");
 
-/// The page of sound tables at this clock.
-pub fn page(path: &Path, stored: &Stored, clock: u32) -> String {
+/// The page of sound tables at this clock, with the isolation of these yards.
+pub fn page(path: &Path, stored: &Stored, clock: u32, named: &[Yard]) -> String {
     let terminal = &stored.terminal;
     let name = escape(&path.display().to_string());
     let sections = [
         head(&name, terminal, clock),
         rights(&matrix(terminal, clock)),
+        isolation(terminal, named),
         access_rows(terminal, clock),
         credentials(&terminal.tables),
         waiting(terminal),
@@ -122,6 +124,41 @@ fn cell_text(cell: &Cell) -> String {
         }
     }
     text
+}
+
+/// Each yard, and then who of no yard could end it; nothing where no yard is named.
+fn isolation(terminal: &Terminal, named: &[Yard]) -> String {
+    if named.is_empty() {
+        return String::new();
+    }
+    let findings: Vec<Finding> = named.iter().map(|yard| yard.ask(terminal)).collect();
+    let row = |(yard, finding): (&Yard, &Finding)| {
+        let (name, list) = (escape(&yard.name), yard.list());
+        format!("<tr><th scope=\"row\">{name}</th><td>{list}</td><td>{}</td></tr>\n", isolation_text(terminal, finding))
+    };
+    let rows: String = named.iter().zip(&findings).map(row).collect();
+    let before = match findings.iter().all(|finding| finding.isolation.is_isolated()) {
+        true => format!("<p>{}</p>\n", yards::UNTIL),
+        false => String::new(),
+    };
+    let heads = ["Yard", "Credentials", "Isolated"].map(String::from);
+    let (could, _): (Vec<Other>, Vec<Other>) =
+        yards::others(terminal, named).into_iter().partition(|other| !other.finding.isolation.is_isolated());
+    let row = |other: &Other| {
+        let reason = escape(&other.finding.why(&terminal.tables).unwrap_or_default());
+        format!("<tr><th scope=\"row\">{}</th><td>{reason}</td></tr>\n", sender(other.sender))
+    };
+    let enders: String = could.iter().map(row).collect();
+    let title = "Of no yard, and could end it";
+    section("Isolation of yards", &before, "", &heads, &rows)
+        + &section(title, &none_held(&enders), "", &["Sender", "Why"].map(String::from), &enders)
+}
+
+fn isolation_text(terminal: &Terminal, finding: &Finding) -> String {
+    match finding.reason(&terminal.tables) {
+        None => "<span class=\"now\">isolated</span>".into(),
+        Some(reason) => format!("<span class=\"bad\">not isolated</span>: {}", escape(&reason)),
+    }
 }
 
 fn access_rows(terminal: &Terminal, clock: u32) -> String {

@@ -14,6 +14,7 @@ use tool::matrix::{matrix, Cell};
 use tool::plan::{shifts, Plan};
 use tool::senders::{roles, Sender};
 use tool::who::Question;
+use tool::yards::{others, Other, Yard};
 use tool::{office, why};
 
 /// Sound terminals on the way of random sessions, one in so many.
@@ -250,4 +251,28 @@ fn office_texts_come_back() {
         }
     }
     assert!(read > 20, "{read}");
+}
+
+/// The sender that is named alone is not isolated, and whoever has no reason is.
+#[test]
+fn yards_are_what_the_library_says() {
+    let (mut isolated, mut named) = (0, 0);
+    visit(6000, 11, |terminal, _| {
+        let numbers: Vec<u16> = terminal.tables.creds().iter().map(|row| row.number).collect();
+        let yards = [Yard { name: "a".into(), senders: numbers.iter().copied().step_by(2).collect() }];
+        let finding = yards[0].ask(terminal);
+        assert_eq!(finding.isolation, terminal.isolated(&yards[0].senders));
+        assert_eq!(finding.reason(&terminal.tables).is_none(), finding.isolation.is_isolated());
+        isolated += u64::from(finding.isolation.is_isolated());
+        if let Some(sender) = finding.sender {
+            named += 1;
+            assert!(!terminal.isolated(&[sender]).is_isolated());
+        }
+        let others = others(terminal, &yards);
+        assert_eq!(others.len(), 1 + numbers.len() - yards[0].senders.len());
+        for Other { finding, .. } in others {
+            assert_eq!(finding.why(&terminal.tables).is_none(), finding.isolation.is_isolated());
+        }
+    });
+    assert!(isolated > 20 && named > 20, "{isolated} {named}");
 }

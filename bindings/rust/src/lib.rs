@@ -77,6 +77,8 @@ mod tables;
 mod terminal;
 mod text;
 mod uuid;
+#[allow(unsafe_code)]
+pub mod yards;
 
 pub use interface::{Converted, Defaults, Listed, Outcome, Taken, Tested};
 pub use names::{Answer, Connection, Permission, PermissionError, Resource, Set, State, Verb, Wildcards};

@@ -108,7 +108,12 @@ impl Terminal {
     /// assert!(yard.is_sound());
     /// assert_eq!(yard.tables.creds(), [maker]);
     /// ```
+    ///
+    /// # Panics
+    ///
+    /// Where the archive is not of this crate's build.
     pub fn with_defaults(defaults: Given) -> Terminal {
+        assert!(crate::yards::identified(), "the archive and this crate are not of one build");
         let mut waiting = Waiting::FRESH;
         let tables = interface::fresh(&mut waiting, defaults.lent());
         Terminal { tables, waiting, defaults }

@@ -1,6 +1,7 @@
 // The C interface: one call each of the library, declared in include/tillerclover.h.
 // Tables pass by value, a record and a buffer as a pointer and a length each, the memory of waiting records as a pointer;
 // the payload goes out as a start and a length within the record. The store's functions are in storing.rt.
+mod isolated;
 mod storing;
 
 use list_convert::Converted;

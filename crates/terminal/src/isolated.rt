@@ -1,0 +1,84 @@
+// The C interface of two questions: are the senders of a list isolated, and which library is this. Declared in
+// include/tillerclover_yards.h: pointers, 64-bit lengths and scalars alone; the tables as five arrays, in the order of their bytes.
+use isolation::isolation_of;
+use rules::ACE_ROWS;
+use rules::CRED_ROWS;
+use rules::Head;
+use rules::Tables;
+ghost use mathlib.Core.Path.{_≡_};
+ghost use lib.Dec.{eqb};
+ghost use Rattle.rules.specs.Words.{was, became};
+ghost use Rattle.rules_isolation.specs.Question.{reportOf, isolationOf};
+ghost use Rattle.terminal.specs.Isolated.{tablesAt, wordsOf, identity};
+
+// Whether the senders of a list are isolated from all others: the reason why not, 0 for none, the entry and the access row, in `said`.
+// Rules out: tables whose counts are exchanged; a reason in the place of an entry; a word of `said` left as it was.
+#[no_mangle]
+pub extern "C" fn tillerclover_isolated_at<'a>(
+    counts: &[u8; 4],
+    devowner: &[u8; 16],
+    rowners: &[u8; 64],
+    creds: &'a [u8; CRED_ROWS],
+    aces: &'a [u8; ACE_ROWS],
+    senders: &[u8],
+    said: &mut [u64; 3],
+)
+    ensures { λ _. ⌜
+        became said
+        ≡ wordsOf (reportOf (isolationOf (tablesAt (was counts) (was devowner) (was rowners) (was creds) (was aces)) (was senders))) ⌝ }
+{
+    let owner = *devowner;
+    let owners = *rowners;
+    let h = Head {
+        state: counts[0],
+        owned: counts[1],
+        ncreds: counts[2],
+        naces: counts[3],
+        devowner: owner,
+        rowners: owners,
+    };
+    let report = isolation_of(h, creds, aces, senders).report();
+    *said = [report.reason as u64, report.entry as u64, report.row as u64];
+}
+
+// The library's format and interface, in one number.
+// Rules out: the number of another format; that of another interface.
+#[no_mangle]
+pub extern "C" fn tillerclover_identity() -> u64
+    ensures { λ r. ⌜ r ≡ identity ⌝ }
+{
+    1002000
+}
+
+// ---- callers in this language: what they promise can only be kept by what the two functions above promise
+
+// The same question of tables by value, with the three words as they are said.
+// Rules out: a contract above that leaves a word open.
+pub fn isolated(t: Tables, senders: &[u8]) -> [u64; 3]
+    ensures { λ r. ⌜ r ≡ wordsOf (reportOf (isolationOf t (was senders))) ⌝ }
+{
+    let counts = [t.state, t.owned, t.ncreds, t.naces];
+    let devowner = t.devowner;
+    let rowners = t.rowners;
+    let creds = t.creds;
+    let aces = t.aces;
+    let mut said = [0; 3];
+    tillerclover_isolated_at(
+        &counts,
+        &devowner,
+        &rowners,
+        &creds,
+        &aces,
+        senders,
+        &mut said,
+    );
+    said
+}
+
+// Whether a caller that was made for this identity may use the library.
+// Rules out: a contract above that leaves the number open.
+pub fn identified(expected: u64) -> bool
+    ensures { λ r. ⌜ r ≡ eqb expected identity ⌝ }
+{
+    expected == tillerclover_identity()
+}
