@@ -1,5 +1,5 @@
-// What the programs of test vectors share: a byte, a count, and tables in their short form, in which the rows of either kind stand after
-// their length (16 bits) and without the zeros after them. Total: any bytes are tables.
+// What the programs of test vectors share: a byte, a count, and tables whose rows of either kind stand after their length (16 bits), without
+// the zeros after them. Any bytes are tables. No contracts: what the programs print is compared.
 use fields::after;
 use fields::be16;
 use rows::part;
