@@ -93,6 +93,7 @@ fn walk(bytes: &[u8]) -> Progress {
     p
 }
 
+// The first one where the test holds, else the second.
 fn one_of<'a>(test: bool, a: &'a [u8], b: &'a [u8]) -> &'a [u8] {
     if test { a } else { b }
 }
@@ -117,6 +118,7 @@ fn compared(p: Progress, same: bool) -> Progress {
     if same { p } else { differing(p) }
 }
 
+// An entry that is put to the library; tables, a store and an image only become the current ones.
 fn answered(p: Progress, tag: u8, s: &[u8], tables: &[u8], store: &[u8], image: &[u8]) -> Progress {
     match tag {
         0 => p,
