@@ -14,25 +14,7 @@
 
 #include "../examples/requests.h"
 #include "../examples/terminal/terminal.h"
-
-static void expect(int holds, const char *what)
-{
-    if (!holds) {
-        printf("device: %s\n", what);
-        fflush(stdout);
-        _exit(2);
-    }
-}
-
-static uint64_t seed = 88172645463325252u;
-
-static unsigned any(unsigned below)
-{
-    seed ^= seed << 13;
-    seed ^= seed >> 7;
-    seed ^= seed << 17;
-    return (unsigned)(seed >> 32) % below;
-}
+#include "chance.h"
 
 /* ---- The device's faults */
 

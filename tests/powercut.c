@@ -1,11 +1,11 @@
 /* Days of a terminal whose power is cut again and again: what it answers, and what it finds when the power comes on, against a
  * second terminal that is never cut. With the tables as the image, and with tables and waiting records as one. Then tables that
- * are stored in place, for comparison. Prints a line of figures for each, and exits with 1 at the first fault. */
+ * are stored in place, for comparison. Prints a line of figures for each, and ends at the first fault. */
 #include <stdio.h>
-#include <stdlib.h>
 #include <string.h>
 
 #include "../examples/requests.h"
+#include "chance.h"
 #include "tillerclover_store.h"
 
 struct terminal {
@@ -19,24 +19,6 @@ enum {
     INPUTS = 12000
 };
 _Static_assert(WHOLE == TABLES + TILLERCLOVER_WAITING_LENGTH, "an image has no padding");
-
-static void expect(int holds, const char *what)
-{
-    if (!holds) {
-        fprintf(stderr, "powercut: %s\n", what);
-        exit(1);
-    }
-}
-
-static uint64_t seed = 88172645463325252u;
-
-static unsigned any(unsigned below)
-{
-    seed ^= seed << 13;
-    seed ^= seed >> 7;
-    seed ^= seed << 17;
-    return (unsigned)(seed >> 32) % below;
-}
 
 /* ---- The device and the program's loop */
 

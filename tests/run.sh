@@ -349,8 +349,9 @@ test_documents() {
 
 # The vectors are those that the model writes today.
 test_vectors() {
-    need_cargo && log in_model cargo run --quiet --profile gate --locked --bin vectors -- "$work/vectors.bin" &&
-        tail -n 1 "$work/log" && log cmp "$work/vectors.bin" crates/vectors/data/vectors.bin
+    need_cargo && log in_model cargo run --quiet --profile gate --locked --bin vectors -- "$work/vectors.bin" "$work/queries.bin" &&
+        grep -E '^(vectors|queries): ' "$work/log" && log cmp "$work/vectors.bin" crates/vectors/data/vectors.bin &&
+        log cmp "$work/queries.bin" crates/vectors_queries/data/queries.bin
 }
 
 # The run program on input that is no whole run.

@@ -1,9 +1,9 @@
 /* A simulated EEPROM under the store: power cuts at every write with every value, lives of stores with cuts, garbled parts and
- * lost positions, wear by cell, and bad lengths. Prints a line of figures, and exits with 1 at the first fault. */
+ * lost positions, wear by cell, and bad lengths. Prints a line of figures, and ends at the first fault. */
 #include <stdio.h>
-#include <stdlib.h>
 #include <string.h>
 
+#include "chance.h"
 #include "tillerclover.h"
 #include "tillerclover_store.h"
 
@@ -12,26 +12,6 @@ enum {
     STORE = TILLERCLOVER_STORE_LENGTH(N),
     ROW = 36
 };
-
-static void expect(int holds, const char *what)
-{
-    if (!holds) {
-        fprintf(stderr, "store: %s\n", what);
-        exit(1);
-    }
-}
-
-/* ---- Chance: the same numbers in each run */
-
-static uint64_t seed = 88172645463325252u;
-
-static unsigned any(unsigned below)
-{
-    seed ^= seed << 13;
-    seed ^= seed >> 7;
-    seed ^= seed << 17;
-    return (unsigned)(seed >> 32) % below;
-}
 
 static void fill(uint8_t *bytes, size_t length)
 {

@@ -79,6 +79,11 @@ fn with_access(state: State, accesses: Vec<Access>) -> Tables {
     Tables { accesses, ..owned(state) }
 }
 
+/// With a buffer that fits any reply, and no links.
+fn example(name: &'static str, tables: &Tables, clock: u32, record: Vec<u8>, answer: u8, permission: u8) -> Example {
+    Example { name, tables: tables.bytes(), clock, record, capacity: REPLY_MAX, answer, permission, links: 0 }
+}
+
 /// One for each refusal, in the order of their numbers.
 pub fn refusals() -> Vec<Example> {
     let fresh = fresh_bytes();
@@ -129,17 +134,7 @@ pub fn refusals() -> Vec<Example> {
 pub fn wrong_readings() -> Vec<Example> {
     let mut examples = Vec::new();
     let mut add = |name, tables: &Tables, record, answer, permission| {
-        let capacity = REPLY_MAX;
-        examples.push(Example {
-            name,
-            tables: tables.bytes(),
-            clock: 0,
-            record,
-            capacity,
-            answer,
-            permission,
-            links: 0,
-        });
+        examples.push(example(name, tables, 0, record, answer, permission));
     };
 
     let two = with_access(
@@ -201,17 +196,7 @@ pub fn wrong_readings() -> Vec<Example> {
 pub fn decided() -> Vec<Example> {
     let mut examples = Vec::new();
     let mut add = |name, tables: &Tables, record, answer, permission| {
-        let capacity = REPLY_MAX;
-        examples.push(Example {
-            name,
-            tables: tables.bytes(),
-            clock: 0,
-            record,
-            capacity,
-            answer,
-            permission,
-            links: 0,
-        });
+        examples.push(example(name, tables, 0, record, answer, permission));
     };
     let fresh = Tables::fresh();
     let taken = owned(State::Rfpro);
@@ -325,8 +310,7 @@ pub fn decided() -> Vec<Example> {
 fn roles_shown() -> Vec<Example> {
     let mut examples = Vec::new();
     let mut add = |name, tables: &Tables, clock, record, answer, permission| {
-        let capacity = REPLY_MAX;
-        examples.push(Example { name, tables: tables.bytes(), clock, record, capacity, answer, permission, links: 0 });
+        examples.push(example(name, tables, clock, record, answer, permission));
     };
     const MAX: u32 = u32::MAX;
     let read = |sender| compose(Verb::Retrieve, WEIGHT, sender, &[]);
@@ -458,8 +442,7 @@ fn roles_shown() -> Vec<Example> {
 fn seasons() -> Vec<Example> {
     let mut examples = Vec::new();
     let mut add = |name, tables: &Tables, clock, record, answer, permission| {
-        let capacity = REPLY_MAX;
-        examples.push(Example { name, tables: tables.bytes(), clock, record, capacity, answer, permission, links: 0 });
+        examples.push(example(name, tables, clock, record, answer, permission));
     };
     const MAX: u32 = u32::MAX;
     let read = || compose(Verb::Retrieve, WEIGHT, 0, &[]);
@@ -504,8 +487,7 @@ fn seasons() -> Vec<Example> {
 fn yards() -> Vec<Example> {
     let mut examples = Vec::new();
     let mut add = |name, tables: &Tables, clock, record, answer, permission, links| {
-        let capacity = 0;
-        examples.push(Example { name, tables: tables.bytes(), clock, record, capacity, answer, permission, links });
+        examples.push(Example { capacity: 0, links, ..example(name, tables, clock, record, answer, permission) });
     };
     let read = |sender| compose(Verb::Retrieve, YARD, sender, &[]);
     let write = |sender| compose(Verb::Update, YARD, sender, &[1, 2]);

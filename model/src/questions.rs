@@ -19,6 +19,9 @@ pub type Question = (TableBytes, Vec<u8>);
 /// Longer than the credential rows and the unauthenticated need.
 const LONG: usize = 40;
 const RANDOM: usize = 30_000;
+/// Tables for each fault, and questions of it: three of each tables.
+const FAULTY: usize = 20;
+pub const OF_A_FAULT: usize = 3 * FAULTY;
 /// All wildcards, which reach no security resource.
 const ANY: u8 = PLUS | MINUS | STAR;
 
@@ -31,7 +34,7 @@ pub fn cases(seed: u64) -> impl Iterator<Item = Question> {
 
 /// An owned terminal with the partners 5, who owns it, and 7 to 9, and these
 /// access rows.
-fn yard(accesses: Vec<Access>) -> Tables {
+pub fn yard(accesses: Vec<Access>) -> Tables {
     let partners = (7..10).map(|number| credential(number, uuid(number as u8)));
     let mut tables = Tables { accesses, ..owned(State::Rfnop) };
     tables.credentials.extend(partners);
@@ -78,7 +81,7 @@ fn places() -> Vec<Question> {
 }
 
 /// Each owner alone is the subject of partner 7, at every entry of a list.
-fn owners() -> Vec<Question> {
+pub fn owners() -> Vec<Question> {
     let mut questions = Vec::new();
     for owner in 0..=4 {
         let mut tables = yard(Vec::new());
@@ -96,11 +99,11 @@ fn owners() -> Vec<Question> {
 }
 
 /// Each fault of tables, with an empty, a good and an odd list.
-fn faults(random: &mut Random) -> Vec<Question> {
+pub fn faults(random: &mut Random) -> Vec<Question> {
     let mut questions = Vec::new();
     for (_, fault) in TABLE_FAULTS {
         let mut made = 0;
-        while made < 20 {
+        while made < FAULTY {
             let mut stored = generate::any_sound(random).bytes();
             if fault(&mut stored, random) {
                 questions.extend([vec![], vec![0, 7], vec![0, 7, 0]].map(|list| (stored, list)));

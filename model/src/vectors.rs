@@ -675,7 +675,7 @@ impl Vectors {
 }
 
 /// Tables without the zeros after the rows of either kind.
-fn short_form(tables: &TableBytes) -> Vec<u8> {
+pub fn short_form(tables: &TableBytes) -> Vec<u8> {
     let mut bytes = tables[..CREDENTIALS.start].to_vec();
     for rows in [&tables[CREDENTIALS], &tables[ACCESSES]] {
         let used = rows.iter().rposition(|&byte| byte != 0).map_or(0, |last| last + 1);

@@ -6,15 +6,15 @@ use fields::be16;
 use fields::be32;
 use list_convert::Converted;
 use rows::part;
-use rules::ACE_ROWS;
-use rules::CRED_ROWS;
 use rules::Tables;
 use terminal::Outcome;
 use terminal::Turn;
 use terminal::tillerclover_hand_in;
 use terminal::tillerclover_judge;
 use terminal::tillerclover_take;
-ghost use Prim.Native.Nat.{_≤_};
+use vectors_reader::byte_at;
+use vectors_reader::more;
+use vectors_reader::tables_of;
 
 // What is held from entry to entry.
 struct Progress {
@@ -98,11 +98,6 @@ fn walk(bytes: &[u8]) -> Progress {
     p
 }
 
-// One more, or the largest number.
-fn more(n: u64) -> u64 {
-    if n < u64::MAX { n + 1 } else { n }
-}
-
 fn counted(p: Progress) -> Progress {
     let mut next = p;
     next.entry = more(p.entry);
@@ -117,16 +112,6 @@ fn differing(p: Progress) -> Progress {
     let mut next = p;
     next.differences = more(p.differences);
     next
-}
-
-// The byte at an index, or 0.
-fn byte_at(s: &[u8], i: usize) -> u8 {
-    byte_or(s, i, 0)
-}
-
-// The byte at an index, or another one.
-fn byte_or(s: &[u8], i: usize, other: u8) -> u8 {
-    if i < s.len() { s[i] } else { other }
 }
 
 // Bytes of the first entry, its tag among them; 0 where the tag is not known.
@@ -293,7 +278,7 @@ fn converted(p: Progress, s: &[u8]) -> Progress {
 
 // Converts an older list with the first `room` bytes of the buffer, or all where it has fewer.
 fn convert_within(file: &[u8], buffer: &mut [u8], room: usize) -> Converted {
-    let n = smaller(room, buffer.len());
+    let n = text::within(buffer, room);
     list_convert::convert(file, &mut buffer[..n])
 }
 
@@ -319,7 +304,7 @@ fn kept(p: Progress, s: &[u8]) -> Progress {
 // Zeros stand behind the bytes.
 fn memory_of(s: &[u8]) -> [u8; 6504] {
     let mut queue = [0u8; 6504];
-    fill(&mut queue, part(s, 2, be16(s) as usize));
+    text::put(&mut queue, 0, part(s, 2, be16(s) as usize));
     queue
 }
 
@@ -394,7 +379,7 @@ fn take_within(
     buffer: &mut [u8],
     room: usize,
 ) -> Turn {
-    let n = smaller(room, buffer.len());
+    let n = text::within(buffer, room);
     tillerclover_take(t, queue, creds, aces, clock, &mut buffer[..n])
 }
 
@@ -402,7 +387,7 @@ fn take_within(
 fn same_record(u: Turn, expected: &[u8]) -> bool {
     let record = part(expected, 2, be16(expected) as usize);
     let mut filled = [0u8; 256];
-    fill(&mut filled, record);
+    text::put(&mut filled, 0, record);
     (u.size == record.len()) & rows::same_bytes(&u.bytes, &filled)
 }
 
@@ -452,17 +437,8 @@ fn judge_within(
     buffer: &mut [u8],
     room: usize,
 ) -> Outcome {
-    let n = smaller(room, buffer.len());
+    let n = text::within(buffer, room);
     tillerclover_judge(t, queue, creds, aces, clock, record, &mut buffer[..n])
-}
-
-fn smaller(a: usize, b: usize) -> usize
-    ensures { λ r. ⌜ r ≤ b ⌝ }
-{
-    if a < b {
-        return a;
-    }
-    b
 }
 
 // Whether the reply is the one behind its length, the places and the links, and the buffer is as before behind it.
@@ -473,7 +449,7 @@ fn same_reply(length: usize, buffer: &[u8], expected: &[u8]) -> bool {
 // Whether so many bytes are those of the result, and the buffer is as before behind them.
 fn same_filled(length: usize, buffer: &[u8], result: &[u8]) -> bool {
     let mut filled = [165u8; 1300];
-    fill(&mut filled, result);
+    text::put(&mut filled, 0, result);
     (length == result.len()) & rows::same_bytes(buffer, &filled)
 }
 
@@ -497,39 +473,6 @@ fn same_outcome(o: Outcome, expected: &[u8]) -> bool {
         & (o.permission == byte_at(expected, 1))
         & (o.start == be16(after(expected, 2)) as usize)
         & (o.length == be16(after(expected, 4)) as usize)
-}
-
-// The rows of both kinds stand there without the zeros behind them.
-fn tables_of(bytes: &[u8]) -> Tables {
-    let n = be16(after(bytes, 84)) as usize;
-    let behind = after(after(bytes, 86), n);
-    let mut devowner = [0u8; 16];
-    let mut rowners = [0u8; 64];
-    let mut creds = [0u8; CRED_ROWS];
-    let mut aces = [0u8; ACE_ROWS];
-    fill(&mut devowner, after(bytes, 4));
-    fill(&mut rowners, after(bytes, 20));
-    fill(&mut creds, part(bytes, 86, n));
-    fill(&mut aces, part(behind, 2, be16(behind) as usize));
-    Tables {
-        state: byte_at(bytes, 0),
-        owned: byte_at(bytes, 1),
-        ncreds: byte_at(bytes, 2),
-        naces: byte_at(bytes, 3),
-        devowner: devowner,
-        rowners: rowners,
-        creds: creds,
-        aces: aces,
-    }
-}
-
-// Puts the bytes over the first ones of `out`.
-fn fill(out: &mut [u8], bytes: &[u8]) {
-    let mut i = 0;
-    while i < out.len() {
-        out[i] = byte_or(bytes, i, out[i]);
-        i += 1;
-    }
 }
 
 fn same_tables(t: Tables, u: Tables) -> bool {

@@ -5,6 +5,7 @@
 use std::process::exit;
 
 use model::options::Program;
+use model::queries::nearly;
 use model::random::Random;
 use model::store;
 use tillerclover::store as library;
@@ -39,11 +40,7 @@ struct Case {
 fn any_case(random: &mut Random) -> Case {
     let n = if random.chance(5) { random.below(3000) } else { random.below(40) };
     let image = random.bytes(n);
-    let mut store = [&image[..], &image[..], &random.bytes(store::MARKS)].concat();
-    for _ in 0..random.below(6) {
-        let place = random.below(store.len());
-        store[place] = random.byte();
-    }
+    let mut store = nearly(random, &image);
     if random.chance(10) {
         let length = random.below(2 * store.len());
         store.resize(length, 0);
