@@ -52,7 +52,7 @@ static void silently(void)
     run(device[1], WHOLE, (const uint8_t *)&x);
 }
 
-static void judge(struct record r)
+static void judge(tillerclover_record r)
 {
     uint8_t reply[TILLERCLOVER_REPLY_MAX];
     tillerclover_outcome o =
@@ -95,7 +95,7 @@ static void take_turn(unsigned seed, int print)
     uint8_t body[60], reply[TILLERCLOVER_REPLY_MAX];
     for (size_t i = 0; i < sizeof body; i++)
         body[i] = (uint8_t)(i + seed * 61);
-    struct record r = request(TILLERCLOVER_UPDATE, TILLERCLOVER_TARE, 0, body, sizeof body);
+    tillerclover_record r = request(TILLERCLOVER_UPDATE, TILLERCLOVER_TARE, 0, body, sizeof body);
     if (tillerclover_hand_in(x.tables, &x.waiting, r.bytes, r.length).answer != TILLERCLOVER_PERMITTED)
         exit(1);
     print ? stored("a record of 64 bytes is handed in, after another one was taken") : silently();

@@ -78,7 +78,7 @@ static int stored(const uint8_t *image, unsigned cut)
 
 /* ---- The inputs of a day */
 
-static struct record any_record(void)
+static tillerclover_record any_record(void)
 {
     uint8_t uuid[TILLERCLOVER_UUID_LENGTH];
     unsigned sender = any(4) ? 0 : 1 + any(5);
@@ -113,7 +113,7 @@ enum kind {
 
 struct input {
     enum kind kind;
-    struct record record;
+    tillerclover_record record;
     uint32_t clock;
 };
 
@@ -127,7 +127,7 @@ struct input any_input(void)
 static unsigned next(struct terminal *x, const struct input *i)
 {
     uint8_t reply[TILLERCLOVER_REPLY_MAX];
-    const struct record *r = &i->record;
+    const tillerclover_record *r = &i->record;
     tillerclover_outcome o;
     switch (i->kind) {
     case CLEAR:
@@ -182,7 +182,7 @@ static void day(const char *name, uint64_t size)
     for (uint64_t i = 0; i < store_size; i++)
         device[i] = (uint8_t)any(256); /* memory of any content */
     struct terminal x = found(), uncut;
-    struct record tare = request_text(TILLERCLOVER_RETRIEVE, TILLERCLOVER_TARE, 0, "");
+    tillerclover_record tare = request_text(TILLERCLOVER_RETRIEVE, TILLERCLOVER_TARE, 0, "");
     expect(next(&x, &(struct input){JUDGE, tare, 0}) == TILLERCLOVER_NOT_SOUND, "new memory holds no tables");
     next(&x, &first); /* the first image */
     expect(stored((const uint8_t *)&x, 0), "the first image is stored");
