@@ -12,8 +12,8 @@
 #include <sys/wait.h>
 #include <unistd.h>
 
-#include "../examples/requests.h"
 #include "../examples/terminal/terminal.h"
+#include "tillerclover_records.h"
 
 static void expect(int holds, const char *what)
 {
@@ -197,9 +197,9 @@ static tillerclover_record any_record(void)
     uint8_t uuid[TILLERCLOVER_UUID_LENGTH];
     memset(uuid, (int)(1 + any(250)), sizeof uuid);
     if (any(3) == 0) {
-        return delete_row(TILLERCLOVER_CRED, 0, 1 + any(8));
+        return tillerclover_delete_row(TILLERCLOVER_CRED, 0, 1 + any(8));
     }
-    return store_cred(0, (struct cred){.number = 1 + any(8), .subject = uuid, .type = 1});
+    return tillerclover_store_cred(0, &(tillerclover_cred){.number = 1 + any(8), .subject = uuid, .type = 1});
 }
 
 /* A life with a fault: a start, and the record or some at random. Gives its status. */
@@ -292,11 +292,13 @@ int main(int count_of_words, char **words)
     uint8_t uuid[TILLERCLOVER_UUID_LENGTH];
     for (unsigned i = 1; i <= 2; i++) {
         memset(uuid, (int)i, sizeof uuid);
-        tillerclover_record r = store_cred(0, (struct cred){.number = i, .subject = uuid, .type = 1});
+        tillerclover_record r =
+            tillerclover_store_cred(0, &(tillerclover_cred){.number = i, .subject = uuid, .type = 1});
         run((struct fault){NONE, 0, 0}, &r);
     }
-    tillerclover_record stored = store_cred(0, (struct cred){.number = 9, .subject = uuid, .type = 1});
-    tillerclover_record deleted = delete_row(TILLERCLOVER_CRED, 0, 1);
+    tillerclover_record stored =
+        tillerclover_store_cred(0, &(tillerclover_cred){.number = 9, .subject = uuid, .type = 1});
+    tillerclover_record deleted = tillerclover_delete_row(TILLERCLOVER_CRED, 0, 1);
     each_write(&stored);
     each_write(&deleted);
     for (int i = 0; i < 400; i++) {

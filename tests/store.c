@@ -206,7 +206,7 @@ static void lengths(void)
     for (uint64_t store = 0; store <= 40; store++)
         for (uint64_t n = 0; n <= 20; n++) {
             int fits = store == TILLERCLOVER_STORE_LENGTH(n);
-            int answer = tillerclover_store_next(bytes, store, image, n, 0, &place, &byte);
+            uint64_t answer = tillerclover_store_next(bytes, store, image, n, 0, &place, &byte);
             expect((answer == TILLERCLOVER_STORE_UNFIT) == !fits, "only a store of the right length fits");
             answer = tillerclover_store_current(bytes, store, n, &place);
             expect(answer == (fits ? TILLERCLOVER_STORE_DONE : TILLERCLOVER_STORE_UNFIT),
