@@ -587,7 +587,7 @@ part_habits() {
     sum=$(sha256sum "$root/target/staticlib/libterminal.a" | cut -d ' ' -f 1)
     gives 0 "libterminal.a      sha256 $sum" --version
     gives 0 "libterminal.a      sha256 $sum" list make --version
-    gives 0 "library interface  $(sed -n 's/^#define TILLERCLOVER_VERSION_MAJOR //p' "$root/include/tillerclover.h")." show --version
+    gives 0 "library interface  $(sed -n 's/^#define TILLERCLOVER_INTERFACE_MAJOR //p' "$root/include/tillerclover.h")." show --version
     gives 0 "toolchain          $(rt version | head -n 1)" judge --version
     # errors for programs
     gives 2 '{"error":{"file":"missing","kind":"failed","message":"cannot be read: no such file or directory","process":null,"status":2}}' show missing --json
