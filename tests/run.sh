@@ -164,8 +164,7 @@ test_runs() {
 
 # c_program NAME FLAG.. FILE..: a C program over the library, without a warning
 c_program() {
-    log cc -std=c11 -Wall -Wextra -Wpedantic -Werror -Iinclude "${@:2}" examples/requests.c examples/terminal/record.c \
-        target/staticlib/libterminal.a -o "$work/$1"
+    log cc -std=c11 -Wall -Wextra -Wpedantic -Wconversion -Werror -Iinclude "${@:2}" target/staticlib/libterminal.a -o "$work/$1"
 }
 
 # The C example is built without a warning and prints what it is to print.
@@ -173,29 +172,36 @@ test_example() {
     need cc gcc && library && c_program yard examples/yard.c && log "$work/yard" && log diff examples/yard.expected <("$work/yard")
 }
 
-# compiles LANGUAGE TEXT: the compiler takes the text after the header, without a warning
+# compiles LANGUAGE TEXT: the compiler takes the text after the headers without a warning, also for 32 bits
 compiles() {
-    local compiler=cc
+    local compiler=cc bits
     [[ $1 != c++* ]] || compiler=c++
-    printf '#include "tillerclover.h"\n%s\n' "$2" |
-        "$compiler" -std="$1" -Wall -Wextra -Wpedantic -Werror -Iinclude -x "${compiler/cc/c}" -S -o /dev/null - >"$work/log" 2>&1
+    for bits in "-m64" "-m32 -ffreestanding"; do
+        # shellcheck disable=SC2086
+        printf '#include "tillerclover.h"\n%s\n' "$2" |
+            "$compiler" $bits -std="$1" -Wall -Wextra -Wpedantic -Wconversion -Wcast-qual -Werror -Iinclude -x "${compiler/cc/c}" -S -o /dev/null - \
+                >"$work/log" 2>&1 || return
+    done
 }
 
-# The header in C and C++, and what C sees of the library: layouts, edges, no bytes; also under the sanitizers.
+# The headers in C and C++, and what C sees of the library: layouts, edges, no bytes; also under the sanitizers.
 test_interface() {
     need cc gcc && need c++ g++ && library || return 1
-    local language failed=0
+    local language name failed=0
     for language in c11 c17 c++11 c++17; do
-        compiles $language 'int main(void) { return tillerclover_version() != TILLERCLOVER_VERSION; }' ||
-            { cat "$work/log" && echo "interface: $language does not take the header" && failed=1; }
-        ! compiles $language 'void dropped(tillerclover_waiting *w) { tillerclover_fresh(w, 0, 0, 0, 0); }' ||
+        compiles $language 'int interface(void) { return TILLERCLOVER_INTERFACE + TILLERCLOVER_FORMAT; }' &&
+            compiles $language $'#ifdef __GLIBC__\n#include "tillerclover_records.h"\n#endif' ||
+            { cat "$work/log" && echo "interface: $language does not take the headers" && failed=1; }
+        ! compiles $language 'void dropped(tillerclover_terminal *t) { tillerclover_hand_in(t, 0, 0); }' ||
             { echo "interface: in $language a result may be dropped" && failed=1; }
         compiles $language $'#if defined TILLERCLOVER_ASSERT || defined TILLERCLOVER_RESULT\n#error\n#endif' ||
             { echo "interface: in $language the header leaves a macro of its own" && failed=1; }
     done
-    c_program interface tests/interface.c && log "$work/interface" &&
-        c_program sanitized -g -fsanitize=address,undefined -fno-sanitize-recover=all tests/interface.c && log "$work/sanitized" ||
-        failed=1
+    for name in interface records; do
+        c_program $name tests/$name.c && log "$work/$name" &&
+            c_program sanitized -g -fsanitize=address,undefined -fno-sanitize-recover=all tests/$name.c && log "$work/sanitized" ||
+            failed=1
+    done
     return "$failed"
 }
 
@@ -222,7 +228,7 @@ test_install() {
     local archive=${INSTALL_ARCHIVE:-target/staticlib/libterminal.a} prefix="$work/prefix" outside="$work/outside"
     touch "$archive" && cp -R tests/install "$outside" && sed -i "s|@BINDING@|$root/bindings/rust|" "$outside/Cargo.toml" || return 1
     log make install PREFIX="$prefix" ARCHIVE="$archive" &&
-        log outside_c "$prefix/lib" "$outside" && log diff - "$work/text" <<<"version 1000, state 1, answer 8" &&
+        log outside_c "$prefix/lib" "$outside" && log diff - "$work/text" <<<"interface 2000, format 1, state 1, answer 8, not permitted" &&
         log cmake -S "$outside" -B "$outside/build" -DCMAKE_PREFIX_PATH="$prefix" && log cmake --build "$outside/build" &&
         log "$outside/build/outside" &&
         log env TILLERCLOVER_LIB="$prefix/lib" cargo run --quiet --offline --manifest-path "$outside/Cargo.toml" || return 1

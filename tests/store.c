@@ -73,7 +73,7 @@ static void part(const struct device *d, uint64_t place, uint64_t *start, uint64
     *end = *start == 2 * d->n ? length_of(d) : *start + d->n;
 }
 
-static int next(const struct device *d, const uint8_t *image, uint64_t from, uint64_t *place, uint8_t *byte)
+static uint64_t next(const struct device *d, const uint8_t *image, uint64_t from, uint64_t *place, uint8_t *byte)
 {
     return tillerclover_store_next(d->bytes, length_of(d), image, d->n, from, place, byte);
 }
@@ -86,11 +86,11 @@ static unsigned put(struct device *d, const uint8_t *image,
 {
     uint64_t from = 0, place;
     uint8_t byte;
-    unsigned writes = 0, differ = 0, same = holds(d, image);
+    unsigned writes = 0, differ = 0, same = holds(d, image) != 0;
     const uint8_t *spare = current(d) == d->bytes ? d->bytes + d->n : d->bytes;
     for (uint64_t i = 0; i < d->n; i++)
         differ += spare[i] != image[i];
-    int answer;
+    uint64_t answer;
     while ((answer = next(d, image, from, &place, &byte)) == TILLERCLOVER_STORE_WRITE) {
         expect(place < length_of(d) && place >= from, "writes rise, and lie in the store");
         expect(d->bytes[place] != byte, "a write changes its byte");
