@@ -152,7 +152,7 @@ static int attempt(struct device *d, const uint8_t *image, const uint8_t *before
     for (;;) {
         if (any(8) == 0)
             from = any((unsigned)length_of(d) + 3); /* a program that lost its position */
-        int answer = next(d, image, from, &place, &byte);
+        uint64_t answer = next(d, image, from, &place, &byte);
         if (answer == TILLERCLOVER_STORE_DONE)
             return 1;
         expect(answer == TILLERCLOVER_STORE_WRITE, "a store of the right length fits");
