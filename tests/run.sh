@@ -8,7 +8,7 @@
 set -uo pipefail
 cd "$(dirname "$0")/.." || exit 2
 
-ALL=(layout model crates clippy binding tool compare runs example interface store install refuse documents vectors inputs terminal)
+ALL=(layout model crates clippy binding tool compare runs example interface store install refuse documents vectors inputs targets terminal)
 root=$PWD
 work=$(mktemp -d) || exit 2
 trap 'rm -rf "$work"' EXIT
@@ -93,7 +93,7 @@ tool_cargo() { (cd tool && rm -f Cargo.lock && cargo "$1" --config ../tests/debi
 # ---- the tests
 
 # The C files.
-c_files() { find include bench tests examples -name '*.[ch]' | sort; }
+c_files() { find include bench tests targets examples -name '*.[ch]' | sort; }
 
 # Every file is in its layout: Rattle by rt, Rust by rustfmt.toml, C by .clang-format; scripts are clean by shellcheck.
 test_layout() {
@@ -105,7 +105,7 @@ test_layout() {
     log in_tool cargo fmt --check || failed=1
     mapfile -t files < <(c_files)
     log clang-format --dry-run --Werror "${files[@]}" || failed=1
-    log shellcheck .ci/run tests/*.sh bench/*.sh examples/terminal/*.sh || failed=1
+    log shellcheck .ci/run tests/*.sh targets/*.sh bench/*.sh examples/terminal/*.sh || failed=1
     return "$failed"
 }
 
@@ -283,6 +283,11 @@ test_refuse() {
 # What the documents and the header say of the sources is so.
 test_documents() {
     need python3 python3 && log tests/documents.py
+}
+
+# The library on the other processors, under emulation.
+test_targets() {
+    library && log targets/test.sh && cat "$work/log"
 }
 
 # The vectors are those that the model writes today.
