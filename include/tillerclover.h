@@ -320,11 +320,13 @@ enum tillerclover_answer {
  *     RFNOP takes none of them
  *     SRESET takes doxm if its owned is 1, row owners, rows of cred and acl2
  *
- * Who has rights. While owned is 0 anyone has all rights on the security resources, over either connection, and nobody has
- * any on the application resources but by access rows. From then on a sender has the union of: what the access rows give that
- * fit its subject, one of its roles or its connection, the resource and the clock; all rights on the security resources
- * where its credential row names the device owner; all rights on a security resource whose row owner it names; and RETRIEVE
- * and UPDATE of ROLES over AUTH_CRYPT. The tables hold no other rights: a device owner without a credential row has none.
+ * Who has rights. A sender has these together, and no others:
+ * - what the access rows give that fit its subject, one of its roles or its connection, the resource and the clock;
+ * - while owned is 0, over either connection: all rights on the security resources;
+ * - where its credential row names the device owner: all rights on the security resources;
+ * - where its credential row names the row owner of a security resource: all rights on that one;
+ * - over AUTH_CRYPT: RETRIEVE and UPDATE of ROLES.
+ * So the first who speaks to a new terminal may become its owner, and an owner without a credential row has no rights.
  *
  * Which application resource has which endpoint. AUTH_CRYPT needs one that is secure, ANON_CLEAR one that is unsecure, or
  * the answer is NO_ENDPOINT. The security resources are exempt: they take both connections.
