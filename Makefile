@@ -15,10 +15,10 @@ CARGOFLAGS ?=
 DEBFLAGS ?=
 INSTALL ?= install
 
-HEADERS := include/tillerclover.h include/tillerclover_store.h include/tillerclover_yards.h
+HEADERS := include/tillerclover.h include/tillerclover_records.h include/tillerclover_store.h include/tillerclover_yards.h
 SOURCES := crates.txt $(shell find crates -path '*/must-fail' -prune -o \( -name '*.rt' -o -name '*.antt' \) -print)
-MAJOR := $(shell sed -n 's/^.define TILLERCLOVER_VERSION_MAJOR //p' include/tillerclover.h)
-MINOR := $(shell sed -n 's/^.define TILLERCLOVER_VERSION_MINOR //p' include/tillerclover.h)
+MAJOR := $(shell sed -n 's/^.define TILLERCLOVER_INTERFACE_MAJOR //p' include/tillerclover.h)
+MINOR := $(shell sed -n 's/^.define TILLERCLOVER_INTERFACE_MINOR //p' include/tillerclover.h)
 LIB := $(DESTDIR)$(LIBDIR)
 # what `make install` writes
 INSTALLED := $(HEADERS:include/%=$(DESTDIR)$(INCLUDEDIR)/%) $(LIB)/libtillerclover.a $(LIB)/pkgconfig/tillerclover.pc \

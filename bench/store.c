@@ -1,6 +1,6 @@
 /* What the store costs: bytes written for what happens to a terminal, and the time of a run by the length of the image.
  *
- *     cc -std=c11 -O2 -Iinclude bench/store.c examples/requests.c examples/terminal/record.c target/staticlib/libterminal.a -o target/bench-store
+ *     cc -std=c11 -O2 -Iinclude bench/store.c target/staticlib/libterminal.a -o target/bench-store
  */
 #define _POSIX_C_SOURCE 199309L
 #include <stdio.h>
@@ -8,22 +8,17 @@
 #include <string.h>
 #include <time.h>
 
-#include "../examples/requests.h"
+#include "tillerclover_records.h"
 #include "tillerclover_store.h"
-
-struct terminal {
-    tillerclover_tables tables;
-    tillerclover_waiting waiting;
-};
 
 enum {
     TABLES = sizeof(tillerclover_tables),
-    WHOLE = sizeof(struct terminal),
+    WHOLE = sizeof(tillerclover_terminal),
     MOST = 32768
 };
 
 static uint8_t device[2][TILLERCLOVER_STORE_LENGTH(WHOLE)];
-static struct terminal x;
+static tillerclover_terminal x;
 
 static unsigned run(uint8_t *store, uint64_t n, const uint8_t *image)
 {
@@ -52,16 +47,14 @@ static void silently(void)
     run(device[1], WHOLE, (const uint8_t *)&x);
 }
 
-static void judge(struct record r)
+static void judge(tillerclover_record r)
 {
     uint8_t reply[TILLERCLOVER_REPLY_MAX];
-    tillerclover_outcome o =
-        tillerclover_judge(x.tables, &x.waiting, NULL, 0, NULL, 0, 0, r.bytes, r.length, reply, sizeof reply);
+    tillerclover_outcome o = tillerclover_judge(&x, NULL, 0, r.bytes, r.length, reply, sizeof reply);
     if (o.answer != TILLERCLOVER_PERMITTED) {
-        fprintf(stderr, "bench: answer %u\n", o.answer);
+        fprintf(stderr, "bench: %s\n", tillerclover_answer_text(o.answer));
         exit(1);
     }
-    x.tables = o.tables;
 }
 
 static void uuid(uint8_t bytes[TILLERCLOVER_UUID_LENGTH], unsigned number)
@@ -74,19 +67,19 @@ static void cred(unsigned number)
 {
     uint8_t subject[TILLERCLOVER_UUID_LENGTH];
     uuid(subject, number);
-    judge(store_cred(0, (struct cred){.number = number, .subject = subject, .type = 1}));
+    judge(tillerclover_store_cred(0, &(tillerclover_cred){.number = number, .subject = subject, .type = 1}));
 }
 
 static void ace(unsigned number)
 {
     uint8_t subject[TILLERCLOVER_UUID_LENGTH];
     uuid(subject, number);
-    judge(store_ace(0, (struct ace){.number = number,
-                                    .kind = TILLERCLOVER_SUBJECT_UUID,
-                                    .uuid = subject,
-                                    .permission = 4,
-                                    .set = TILLERCLOVER_SET_BIT(TILLERCLOVER_TARE),
-                                    .last = UINT32_MAX}));
+    judge(tillerclover_store_ace(0, &(tillerclover_ace){.number = number,
+                                                        .kind = TILLERCLOVER_SUBJECT_UUID,
+                                                        .uuid = subject,
+                                                        .permission = 4,
+                                                        .set = TILLERCLOVER_SET_BIT(TILLERCLOVER_TARE),
+                                                        .last = UINT32_MAX}));
 }
 
 /* A record of 64 bytes is handed in and taken; its bytes depend on `seed`. */
@@ -95,20 +88,22 @@ static void take_turn(unsigned seed, int print)
     uint8_t body[60], reply[TILLERCLOVER_REPLY_MAX];
     for (size_t i = 0; i < sizeof body; i++)
         body[i] = (uint8_t)(i + seed * 61);
-    struct record r = request(TILLERCLOVER_UPDATE, TILLERCLOVER_TARE, 0, body, sizeof body);
-    if (tillerclover_hand_in(x.tables, &x.waiting, r.bytes, r.length).answer != TILLERCLOVER_PERMITTED)
+    tillerclover_record r = tillerclover_request(TILLERCLOVER_UPDATE, TILLERCLOVER_TARE, 0, body, sizeof body);
+    if (tillerclover_hand_in(&x, r.bytes, r.length).answer != TILLERCLOVER_PERMITTED)
         exit(1);
     print ? stored("a record of 64 bytes is handed in, after another one was taken") : silently();
-    x.tables = tillerclover_take(x.tables, &x.waiting, NULL, 0, NULL, 0, 0, reply, sizeof reply).outcome.tables;
+    if (tillerclover_take(&x, NULL, 0, reply, sizeof reply).record_length != r.length)
+        exit(1);
     print ? stored("it is taken, and changes no table") : silently();
-    x.tables = tillerclover_take(x.tables, &x.waiting, NULL, 0, NULL, 0, 0, reply, sizeof reply).outcome.tables;
+    if (tillerclover_take(&x, NULL, 0, reply, sizeof reply).record_length != 0)
+        exit(1);
     print ? stored("a poll while nothing waits") : silently();
 }
 
 static void costs(void)
 {
     memset(device, 0xff, sizeof device);
-    x.tables = tillerclover_fresh(&x.waiting, NULL, 0, NULL, 0);
+    tillerclover_fresh(&x, NULL);
     printf("| what happens | tables alone | with what waits |\n|---|---|---|\n");
     stored("the first image, on memory of bytes 255");
     silently();
@@ -126,15 +121,15 @@ static void costs(void)
     stored("an access row is stored, the 32nd");
     cred(TILLERCLOVER_CRED_CAPACITY);
     stored("a credential row is stored, the 24th");
-    judge(delete_row(TILLERCLOVER_CRED, 0, 1));
+    judge(tillerclover_delete_row(TILLERCLOVER_CRED, 0, 1));
     stored("a DELETE in front: 24 credential rows");
-    judge(delete_row(TILLERCLOVER_ACL2, 0, 1));
+    judge(tillerclover_delete_row(TILLERCLOVER_ACL2, 0, 1));
     stored("a DELETE in front: 32 access rows");
-    judge(delete_row(TILLERCLOVER_ACL2, 0, TILLERCLOVER_ACE_CAPACITY));
+    judge(tillerclover_delete_row(TILLERCLOVER_ACL2, 0, TILLERCLOVER_ACE_CAPACITY));
     stored("a DELETE of the last access row, and the image before lacks the DELETE in front");
     take_turn(1, 0);
     take_turn(2, 1);
-    x.tables = tillerclover_clear(x.tables, &x.waiting, NULL, 0, NULL, 0);
+    tillerclover_clear(&x, NULL);
     stored("full tables are cleared");
     stored("the same image again");
 }

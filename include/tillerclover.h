@@ -1,30 +1,37 @@
 /* Tillerclover: the access decision of a weighbridge terminal, for C11 and for C++11 and later.
  *
- * Link libterminal.a, which `rt staticlib terminal` writes to target/staticlib/. It is code for
- * x86-64 with the System V calling convention and needs nothing but memcpy, memmove and memset.
+ * A program keeps a tillerclover_terminal: the tables and the records that wait. Each call changes it in place and gives a
+ * small result. The functions are made of those of libterminal.a, which `rt staticlib terminal` writes to target/staticlib/
+ * for x86-64, and targets/build.sh to target/lib/ for six processors. They take pointers, 64-bit lengths and scalars alone,
+ * so they are called alike on every processor. The archive needs nothing but memcpy, memmove and memset.
  *
- * What the functions return, write into a lent buffer and leave in the memory of waiting records
- * depends on their arguments alone. They keep no state between calls, allocate nothing, do no input or
- * output, never fail and always return. So any number of threads may call them at once, each with a
- * buffer and a memory of its own. A thread needs 16 KiB of free stack for a call; docs/BENCHMARKS.md has
- * the measured depth.
+ * What a function returns, writes into a buffer and leaves in the terminal depends on its arguments alone. The functions keep
+ * no state between calls, allocate nothing, do no input or output, never fail and always return. So any number of threads may
+ * call them at once, each with a terminal and a buffer of its own. A caller that shares a terminal between threads holds a
+ * lock during each call. A thread needs 16 KiB of free stack for a call; docs/BENCHMARKS.md has the measured depth.
  *
- * Tables go in and come out by value: the caller owns every copy, and keeps the one that was
- * handed back. The memory of waiting records belongs to the tables: it is lent with them to each call,
- * which changes it in place. A caller that shares both between threads holds its own lock from reading
- * them to storing what came back, or one record's change is lost.
+ * What may overlap. Bytes that a call only reads (record, default rows, list, file) may overlap each other. Bytes that it
+ * writes (the terminal, the reply, the text, the rows) must overlap nothing else that the call is given, and nothing else may
+ * read or write them during the call. So a record that lies in the terminal's own queue must be copied before it is handed to
+ * a call, and a reply must not be written over the record.
+ *
+ * What must be there. A pointer with a length points to that many bytes, also where the library refuses the length: it may
+ * read them before it answers. It reads and writes nothing past them, and keeps no pointer. tillerclover_fresh and
+ * tillerclover_clear take a terminal that was never written; all others read it. Alignment does not matter: all is bytes.
  *
  * A null pointer with length 0 stands for no bytes, as any pointer does with that length, and is neither read nor written
- * through; of the null one that is tried (tests/interface.c) and not proved. Elsewhere a null pointer is an error of the caller.
+ * through; of the null one that is tried (tests/interface.c) and not proved. Elsewhere a null pointer is an error of the
+ * caller.
  */
 #ifndef TILLERCLOVER_H
 #define TILLERCLOVER_H
 
+#include <stdbool.h>
 #include <stddef.h>
 #include <stdint.h>
 
 /* The two macros of this block are the header's own, and undefined at its end. A result that is dropped is an error: with it
- * go the tables, or whether a record is kept. */
+ * goes the decision, or whether a record is kept. */
 #ifdef __cplusplus
 #define TILLERCLOVER_ASSERT(condition, text) static_assert(condition, text)
 #else
@@ -42,22 +49,19 @@
 extern "C" {
 #endif
 
-/* ---- Version
+/* ---- Versions
  *
- * MAJOR changes with the bytes of the tables or of waiting records: what was stored under another MAJOR means other things,
- * and is not to be handed to a function but tillerclover_clear. Keep it beside the tables, as examples/terminal does. MINOR
- * changes with all else that a caller can see. Both are of this header; whether the archive belongs to it says
+ * INTERFACE is the version of functions, structs and names. MAJOR changes where a program that calls them has to be changed,
+ * MINOR where something is added. FORMAT is the version of the bytes of tables, waiting records and stores. It is counted
+ * apart: interfaces 1.0 and 2.0 both have format 1, so what a program stored through the one is good for the other. What was
+ * stored in another FORMAT means other things, and is not to be handed to a function but tillerclover_clear. Keep FORMAT
+ * beside the tables, as examples/terminal does. Both are of this header; whether the archive belongs to it says
  * tillerclover_identified of tillerclover_yards.h.
  */
-#define TILLERCLOVER_VERSION_MAJOR 1
-#define TILLERCLOVER_VERSION_MINOR 0
-#define TILLERCLOVER_VERSION (TILLERCLOVER_VERSION_MAJOR * 1000 + TILLERCLOVER_VERSION_MINOR)
-
-/* The version that the caller was compiled with. */
-static inline unsigned tillerclover_version(void)
-{
-    return TILLERCLOVER_VERSION;
-}
+#define TILLERCLOVER_INTERFACE_MAJOR 2
+#define TILLERCLOVER_INTERFACE_MINOR 0
+#define TILLERCLOVER_INTERFACE (TILLERCLOVER_INTERFACE_MAJOR * 1000 + TILLERCLOVER_INTERFACE_MINOR)
+#define TILLERCLOVER_FORMAT 1
 
 /* ---- Sizes, in bytes unless said otherwise */
 
@@ -96,7 +100,9 @@ enum {
     TILLERCLOVER_CONVERTED_MAX = 1152,
     /* the memory of waiting records, and a slot of it */
     TILLERCLOVER_WAITING_LENGTH = 6504,
-    TILLERCLOVER_SLOT_LENGTH = 260
+    TILLERCLOVER_SLOT_LENGTH = 260,
+    /* numbers that the archive's functions say of a record */
+    TILLERCLOVER_SAID = 9
 };
 
 /* ---- Numbers in tables and records */
@@ -296,6 +302,45 @@ enum tillerclover_answer {
     TILLERCLOVER_NOTHING_WAITING = 27
 };
 
+/* ---- The rules in short
+ *
+ * The moves between states, by an UPDATE of PSTAT with one byte. Any other target is answered with BAD_TARGET, also the
+ * present state. RESET is never kept: it gives the tables of a new terminal, in RFOTM.
+ *
+ *     RFOTM to RESET; to RFPRO if owned is 1
+ *     RFPRO to RESET, RFNOP, SRESET
+ *     RFNOP to RESET, RFPRO, SRESET
+ *     SRESET to RESET, RFPRO
+ *
+ * Which state takes which writes. All others are answered with WRONG_STATE. Security resources are read in every state, and
+ * a target is asked for in every state. Application resources are served in RFNOP alone, for every verb, and roles are
+ * asserted there alone, over AUTH_CRYPT.
+ *
+ *     RFOTM takes doxm, row owners, rows of cred and acl2
+ *     RFPRO takes rows of cred and acl2
+ *     RFNOP takes none of them
+ *     SRESET takes doxm if its owned is 1, row owners, rows of cred and acl2
+ *
+ * Who has rights. A sender has these together, and no others:
+ * - what the access rows give that fit its subject, one of its roles or its connection, the resource and the clock;
+ * - while owned is 0, over either connection: all rights on the security resources;
+ * - where its credential row names the device owner: all rights on the security resources;
+ * - where its credential row names the row owner of a security resource: all rights on that one;
+ * - over AUTH_CRYPT: RETRIEVE and UPDATE of ROLES.
+ * So the first who speaks to a new terminal may become its owner, and an owner without a credential row has no rights.
+ *
+ * Which application resource has which endpoint. AUTH_CRYPT needs one that is secure, ANON_CLEAR one that is unsecure, or
+ * the answer is NO_ENDPOINT. The security resources are exempt: they take both connections.
+ *
+ *     secure and unsecure: WEIGHT, LAMP
+ *     secure alone: TARE, ZERO, TICKET, CALIB, YARD
+ *     unsecure alone: DISPLAY
+ *
+ * The clock is a number of seconds, 0 to 4,294,967,295, and the library gives it no epoch: it is compared with the seconds of
+ * access rows and asserted roles, and with nothing else. So whoever writes rows and whoever sets the clock must mean the same
+ * second 0. The command `tillerclover`, the examples and the example terminal mean 1970-01-01 00:00:00 UTC.
+ */
+
 /* ---- Structs */
 
 /* What a record is judged on.
@@ -337,78 +382,90 @@ typedef struct tillerclover_tables {
 
 /* The records that wait, one for each credential row and one for all unauthenticated senders, and whose turn it is.
  *
- * All zero is fresh: nothing waits. Any content is allowed; memory that is not sound beside the tables gets
- * TILLERCLOVER_NOT_SOUND, and tillerclover_clear takes it. The bytes: how many records wait (8 bits); where the
- * round stands (24), zeros or 1 and the credential number of the last record taken; 25 slots of 260 bytes, the
- * used ones first, each with its sender's credential number (16, 0 for unauthenticated senders), the record's
- * length (16) and the record, zeros behind it. Keep it with the tables: each call that takes it leaves in it what
- * belongs to the tables that it hands back.
+ * The bytes: how many records wait (8 bits); where the round stands (24), zeros or 1 and the credential number of the last
+ * record taken; 25 slots of 260 bytes, each with its sender's credential number (16, 0 for unauthenticated senders), the
+ * record's length (16) and the record, zeros behind it.
+ *
+ * All zero is fresh: nothing waits. Any content is allowed; bytes that are not sound beside the tables get
+ * TILLERCLOVER_NOT_SOUND, and tillerclover_clear takes them. They are sound when
+ * - at most 25 records wait, in the first slots, with zeros in all others. The order of the slots is free.
+ * - the round is zeros, or 1 and any number. 1 0 0 names the place of the unauthenticated. A number that no credential row
+ *   has means what zeros mean: turns go round from the start.
+ * - each record passes the checks 2 to 7 on these tables, and its slot has its own sender's number, no two the same.
  */
 typedef struct tillerclover_waiting {
     uint8_t bytes[TILLERCLOVER_WAITING_LENGTH];
 } tillerclover_waiting;
 
-/* What becomes of a record.
+/* A terminal: all that a program keeps, 8,676 bytes without padding, which may be stored as they are.
  *
- * Compare outcomes field by field: the padding between them has no set content.
+ * The two belong together. Store both or the tables alone, with no record waiting then; include/tillerclover_store.h says
+ * how. Waiting records beside tables that they do not belong to are not sound, as a rule.
  */
-typedef struct tillerclover_outcome {
-    /* enum tillerclover_answer */
-    uint8_t answer;
-    /* the effective permission before the record changed the tables; of a refusal 0 */
-    uint8_t permission;
-    /* The payload is the `length` bytes from record + start on, in the caller's own buffer.
-     * start is 4 when length is not 0. Both are 0 for a refusal, for a security resource and
-     * where no byte follows the header. */
-    size_t start;
-    size_t length;
-    /* The reply is the first `reply` bytes of the caller's own buffer; see tillerclover_judge. 0 for
-     * every record but a permitted RETRIEVE of a security resource. */
-    size_t reply;
-    /* The places of cred or acl2 that a DELETE leaves to store, for memory that wears: `many` rows
-     * from place `first` on, counted from 0; tillerclover_places says of which table. They go from the
-     * first deleted row to the last one held before; each holds another row number than before, 0 when
-     * unused, and no other place does. The count, ncreds or naces, changes as well. Both are 0 for every
-     * other record, and for a DELETE that finds no rows. */
-    size_t first;
-    size_t many;
-    /* The links of TILLERCLOVER_YARD, 8 to 14, that the sender may use now: those whose own record,
-     * with the same verb and sender and at the same clock, would be permitted. The top bit stands for
-     * resource 0, so a link is in it by TILLERCLOVER_SET_BIT. `size` is how many they are. Both are 0 for every
-     * record but a permitted RETRIEVE or UPDATE of TILLERCLOVER_YARD. */
-    uint64_t set;
-    size_t size;
-    /* the tables afterwards: of a refusal those that were handed in, byte for byte */
+typedef struct tillerclover_terminal {
     tillerclover_tables tables;
-} tillerclover_outcome;
+    tillerclover_waiting waiting;
+} tillerclover_terminal;
 
-/* The table that `first` and `many` speak of. */
+/* The build's default rows, which a new terminal has.
+ *
+ * Two lists: `creds`, of TILLERCLOVER_CRED_LENGTH bytes for a row, one after the other, and `aces`, of
+ * TILLERCLOVER_ACE_LENGTH bytes, each the longest body that stores the row, with the length of the list in bytes. A list has
+ * at most TILLERCLOVER_DEFAULTS_MAX rows. One with more, with a row that no record could store, with a number twice or with
+ * half a row counts as none, by itself and wholly. Hand all calls of a terminal the same lists: they belong to its build. A
+ * struct of zeros has no rows; so has a null pointer in its place.
+ */
+typedef struct tillerclover_defaults {
+    const uint8_t *creds;
+    size_t creds_length;
+    const uint8_t *aces;
+    size_t aces_length;
+} tillerclover_defaults;
+
+/* The table that places to store are in. */
 enum tillerclover_table {
     TILLERCLOVER_NO_TABLE = 0,
     TILLERCLOVER_CREDS = 1,
     TILLERCLOVER_ACES = 2
 };
 
-/* The table whose places the outcome of this record names, by the record's resource. Where there are none, the record is
- * not looked at. */
-static inline enum tillerclover_table tillerclover_places(const tillerclover_outcome *outcome, const uint8_t *record)
-{
-    if (outcome->many == 0) {
-        return TILLERCLOVER_NO_TABLE;
-    }
-    unsigned word = (unsigned)record[0] << 8 | record[1];
-    return (word >> TILLERCLOVER_RESOURCE_SHIFT & 63) == TILLERCLOVER_CRED ? TILLERCLOVER_CREDS : TILLERCLOVER_ACES;
-}
+/* What becomes of a record. All fields but the answer are 0 for a refusal. */
+typedef struct tillerclover_outcome {
+    enum tillerclover_answer answer;
+    /* the effective permission before the record changed the tables */
+    uint8_t permission;
+    /* The payload is the `payload_length` bytes from record + payload_offset on, in the caller's own buffer.
+     * The offset is 4 when the length is not 0. Both are 0 for a security resource and where no byte follows
+     * the header. */
+    size_t payload_offset;
+    size_t payload_length;
+    /* The reply is the first `reply_length` bytes of the caller's own buffer; see tillerclover_judge. 0 for
+     * every record but a permitted RETRIEVE of a security resource. */
+    size_t reply_length;
+    /* The places that a DELETE leaves to store, for memory that wears: `store_count` rows of the table from
+     * place `store_first` on, counted from 0. They go from the first deleted row to the last one held before;
+     * each holds another row number than before, 0 when unused, and no other place does. The count, ncreds or
+     * naces, changes as well. All three are 0 for every other record, and for a DELETE that finds no rows. */
+    enum tillerclover_table store_table;
+    size_t store_first;
+    size_t store_count;
+    /* The links of TILLERCLOVER_YARD, 8 to 14, that the sender may use now: those whose own record,
+     * with the same verb and sender and at the same clock, would be permitted. The top bit stands for
+     * resource 0, so a link is in it by TILLERCLOVER_SET_BIT. `link_count` is how many they are. Both are 0
+     * for every record but a permitted RETRIEVE or UPDATE of TILLERCLOVER_YARD. */
+    uint64_t link_set;
+    size_t link_count;
+} tillerclover_outcome;
 
 /* What becomes of a take: the record whose turn it was, by value, and its outcome.
  *
- * The payload is the outcome's `length` bytes from record + start on, in this struct.
+ * The payload is the outcome's `payload_length` bytes from record + payload_offset on, in this struct.
  */
 typedef struct tillerclover_taken {
     tillerclover_outcome outcome;
     /* how many bytes the record has; 0 with TILLERCLOVER_NOT_SOUND before it was judged and with
      * TILLERCLOVER_NOTHING_WAITING */
-    size_t size;
+    size_t record_length;
     /* zeros behind the record */
     uint8_t record[TILLERCLOVER_RECORD_MAX];
 } tillerclover_taken;
@@ -416,7 +473,7 @@ typedef struct tillerclover_taken {
 /* What becomes of a call for the access list. */
 typedef struct tillerclover_listed {
     /* TILLERCLOVER_PERMITTED, TILLERCLOVER_LIST_NOT_SOUND or TILLERCLOVER_LIST_NO_ROOM */
-    uint8_t answer;
+    enum tillerclover_answer answer;
     /* the text is the first `length` bytes of the caller's own buffer; 0 without a text */
     size_t length;
 } tillerclover_listed;
@@ -425,7 +482,7 @@ typedef struct tillerclover_listed {
 typedef struct tillerclover_tested {
     /* TILLERCLOVER_PERMITTED where the list is accepted, or one of TILLERCLOVER_TEST_BAD_SIZE,
      * TILLERCLOVER_TEST_NOT_STORABLE and TILLERCLOVER_TEST_EXCESSIVE */
-    uint8_t answer;
+    enum tillerclover_answer answer;
     /* the first bad row, counted from 1; 0 for a list that is accepted or has a bad size */
     size_t row;
 } tillerclover_tested;
@@ -434,49 +491,69 @@ typedef struct tillerclover_tested {
 typedef struct tillerclover_converted {
     /* TILLERCLOVER_PERMITTED, TILLERCLOVER_CONVERT_BAD_FILE, TILLERCLOVER_CONVERT_TOO_MANY or
      * TILLERCLOVER_CONVERT_NO_ROOM */
-    uint8_t answer;
+    enum tillerclover_answer answer;
     /* the rows are the first `length` bytes of the caller's own buffer; 0 without rows */
     size_t length;
 } tillerclover_converted;
 
+/* ---- The archive's functions
+ *
+ * They are proved as they are here: pointers, 64-bit lengths and scalars. A C program calls the functions below, which hand
+ * the terminal on part by part; another language may call these. The tables are five arrays: the first four bytes (state,
+ * owned, ncreds, naces), devowner, rowners, creds and aces. `said` gets the numbers of an outcome in the order answer,
+ * permission, payload_offset, payload_length, reply_length, store_first, store_count, link_set, link_count; of a list the
+ * answer and the length, or the row.
+ */
+void tillerclover_fresh_at(uint8_t *counts, uint8_t *devowner, uint8_t *rowners, uint8_t *creds, uint8_t *aces,
+                           uint8_t *queue, const uint8_t *default_creds, uint64_t default_creds_length,
+                           const uint8_t *default_aces, uint64_t default_aces_length);
+void tillerclover_clear_at(uint8_t *counts, uint8_t *devowner, uint8_t *rowners, uint8_t *creds, uint8_t *aces,
+                           uint8_t *queue, const uint8_t *default_creds, uint64_t default_creds_length,
+                           const uint8_t *default_aces, uint64_t default_aces_length);
+uint64_t tillerclover_is_sound_at(const uint8_t *counts, const uint8_t *devowner, const uint8_t *rowners,
+                                  const uint8_t *creds, const uint8_t *aces, const uint8_t *queue);
+void tillerclover_judge_at(uint8_t *counts, uint8_t *devowner, uint8_t *rowners, uint8_t *creds, uint8_t *aces,
+                           uint8_t *queue, const uint8_t *default_creds, uint64_t default_creds_length,
+                           const uint8_t *default_aces, uint64_t default_aces_length, uint32_t clock,
+                           const uint8_t *record, uint64_t length, uint8_t *reply, uint64_t capacity, uint64_t *said);
+void tillerclover_hand_in_at(const uint8_t *counts, const uint8_t *devowner, const uint8_t *rowners,
+                             const uint8_t *creds, const uint8_t *aces, uint8_t *queue, const uint8_t *record,
+                             uint64_t length, uint64_t *said);
+void tillerclover_take_at(uint8_t *counts, uint8_t *devowner, uint8_t *rowners, uint8_t *creds, uint8_t *aces,
+                          uint8_t *queue, const uint8_t *default_creds, uint64_t default_creds_length,
+                          const uint8_t *default_aces, uint64_t default_aces_length, uint32_t clock, uint8_t *reply,
+                          uint64_t capacity, uint64_t *said, uint64_t *length, uint8_t *bytes);
+void tillerclover_access_list_at(const uint8_t *counts, const uint8_t *devowner, const uint8_t *rowners,
+                                 const uint8_t *creds, const uint8_t *aces, const uint8_t *queue, uint8_t *text,
+                                 uint64_t capacity, uint64_t *said);
+void tillerclover_test_list_at(const uint8_t *rows, uint64_t length, uint64_t *said);
+void tillerclover_convert_list_at(const uint8_t *file, uint64_t length, uint8_t *rows, uint64_t capacity,
+                                  uint64_t *said);
+
 /* ---- Functions */
 
-/* The build's default rows.
- *
- * tillerclover_fresh, tillerclover_clear, tillerclover_judge and tillerclover_take take them as two lists:
- * `creds`, of TILLERCLOVER_CRED_LENGTH bytes for a row, one after the other, and `aces`, of TILLERCLOVER_ACE_LENGTH
- * bytes, each the longest body that stores the row, with the length of the list in bytes. A list has at
- * most TILLERCLOVER_DEFAULTS_MAX rows. One with more, with a row that no record could store, with a
- * number twice or with half a row counts as none, by itself and wholly. Hand all calls of a terminal
- * the same lists: they belong to its build. A list of length 0 is none.
- */
+/* A new terminal, in memory of any content: state RFOTM, no owner, the default rows, and nothing waits. */
+static inline void tillerclover_fresh(tillerclover_terminal *terminal, const tillerclover_defaults *defaults);
 
-/* The tables of a new terminal: state RFOTM, no owner, the default rows. Nothing waits in `waiting` then. */
+/* The clear button: a new terminal, whatever was there, also memory that was never written. */
+static inline void tillerclover_clear(tillerclover_terminal *terminal, const tillerclover_defaults *defaults);
+
+/* Whether tables and waiting records are sound. Where they are not, every record gets TILLERCLOVER_NOT_SOUND until
+ * tillerclover_clear; ask when the power comes on. */
 TILLERCLOVER_RESULT
-tillerclover_tables tillerclover_fresh(tillerclover_waiting *waiting, const uint8_t *creds, size_t creds_length,
-                                       const uint8_t *aces, size_t aces_length);
+static inline bool tillerclover_is_sound(const tillerclover_terminal *terminal);
 
-/* The clear button: the tables of a new terminal, whatever the content of `tables`, and nothing waits. */
-TILLERCLOVER_RESULT
-tillerclover_tables tillerclover_clear(tillerclover_tables tables, tillerclover_waiting *waiting, const uint8_t *creds,
-                                       size_t creds_length, const uint8_t *aces, size_t aces_length);
-
-/* Judges a record of `length` bytes on `tables` at once, with a buffer of `room` bytes for a reply. It waits
- * in no queue and leaves those that do where they are, but for these: with a deleted credential row its
- * waiting record goes, and after a RESET none waits.
+/* Judges a record of `length` bytes at once, with a buffer of `capacity` bytes for a reply. It waits in no queue and leaves
+ * those that do where they are, but for these: with a deleted credential row its waiting record goes, and after a RESET none
+ * waits.
  *
- * waiting is the memory that belongs to the tables. Nothing else reads or writes it during the call. It stays
- *         byte for byte unless a credential row is added or removed or the tables are cleared.
- * clock   is the terminal's clock as the record comes, in the seconds that the access rows' periods
- *         count. Any value is allowed, also one before that of an earlier call: it is kept nowhere.
- * record  points to at least `length` bytes that nothing changes during the call. They are read,
- *         never written, and no pointer to them is kept; a byte past `length` is not read. Any
- *         content and any length are allowed: one that is no record is refused.
- * reply   is a buffer of its own: the one that the record came in must not be lent for it. It points to
- *         at least `room` bytes that nothing else reads or writes during the call, none of them a byte
- *         of the record or of the default rows. Any content and any length are allowed, and
- *         TILLERCLOVER_REPLY_MAX fits every reply. The bytes behind the reply keep their contents, and
- *         so do all of them where there is no reply.
+ * terminal has its tables changed as the record says; a refusal changes no byte of it. The waiting records stay byte for byte
+ *         unless a credential row is added or removed or the tables are cleared.
+ * clock   is the terminal's clock as the record comes, in the seconds that the access rows' periods count. Any value is
+ *         allowed, also one before that of an earlier call: it is kept nowhere.
+ * record  may have any content and any length: one that is no record is refused.
+ * reply   is a buffer of its own, of any length; TILLERCLOVER_REPLY_MAX fits every reply. The bytes behind the reply keep
+ *         their contents, and so do all of them where there is no reply.
  *
  * A permitted RETRIEVE of a security resource is replied to: doxm with its body of 17 bytes, pstat
  * with its byte, the present state as target; then for these two, cred and acl2 the row owner, a UUID;
@@ -484,47 +561,46 @@ tillerclover_tables tillerclover_clear(tillerclover_tables tables, tillerclover_
  * asserted roles. The reply of roles is the sender's own that are in force, in order of arrival,
  * TILLERCLOVER_ROLE_LENGTH bytes each; over ANON_CLEAR it is empty.
  *
- * The tables that were handed in are not changed; the outcome holds those that hold from now on.
  * Who sent the record is believed: the session layer vouches for the connection bit and the
  * credential number, and hands over no record whose number is another sender's.
  */
 TILLERCLOVER_RESULT
-tillerclover_outcome tillerclover_judge(tillerclover_tables tables, tillerclover_waiting *waiting, const uint8_t *creds,
-                                        size_t creds_length, const uint8_t *aces, size_t aces_length, uint32_t clock,
-                                        const uint8_t *record, size_t length, uint8_t *reply, size_t room);
+static inline tillerclover_outcome tillerclover_judge(tillerclover_terminal *terminal,
+                                                      const tillerclover_defaults *defaults, uint32_t clock,
+                                                      const uint8_t *record, size_t length, uint8_t *reply,
+                                                      size_t capacity);
 
 /* Hands a record of `length` bytes in: it waits in its sender's place, byte for byte, until its turn comes.
  * TILLERCLOVER_PERMITTED says no more than that it is kept; whether it may pass is decided at its take. The
- * outcome's other fields are empty, and its tables are those that were handed in. A sender whose record waits
- * gets TILLERCLOVER_OCCUPIED. On a refusal the memory stays byte for byte.
+ * outcome's other fields are 0. A sender whose record waits gets TILLERCLOVER_OCCUPIED. The tables stay, and on a refusal
+ * the waiting records too, byte for byte.
  */
 TILLERCLOVER_RESULT
-tillerclover_outcome tillerclover_hand_in(tillerclover_tables tables, tillerclover_waiting *waiting,
-                                          const uint8_t *record, size_t length);
+static inline tillerclover_outcome tillerclover_hand_in(tillerclover_terminal *terminal, const uint8_t *record,
+                                                        size_t length);
 
 /* Takes the record whose turn it is, and judges it as tillerclover_judge does, at this clock. Turns go round
  * from the unauthenticated senders' place through the credential rows in table order, starting after the last
  * place taken, so that in sound tables a record waits for 25 takes at most while no credential row is added or
  * removed and the tables are not cleared. The place is emptied also where the record is refused. With
- * TILLERCLOVER_NOTHING_WAITING, and where the tables or the memory are not sound, nothing changes.
+ * TILLERCLOVER_NOTHING_WAITING, and where the terminal is not sound, nothing changes.
  */
 TILLERCLOVER_RESULT
-tillerclover_taken tillerclover_take(tillerclover_tables tables, tillerclover_waiting *waiting, const uint8_t *creds,
-                                     size_t creds_length, const uint8_t *aces, size_t aces_length, uint32_t clock,
-                                     uint8_t *reply, size_t room);
+static inline tillerclover_taken tillerclover_take(tillerclover_terminal *terminal,
+                                                   const tillerclover_defaults *defaults, uint32_t clock,
+                                                   uint8_t *reply, size_t capacity);
 
-/* The access list of `tables` as the office's JSON, `{"aclist2":[..]}` with the rows in table order: ASCII
+/* The access list as the office's JSON, `{"aclist2":[..]}` with the rows in table order: ASCII
  * with no white space and no byte 0 at its end. Rows with a shorter period than 0 to 4,294,967,295 are left
- * out; lists that differ in the rows written give different texts. Tables that are not sound are answered
+ * out; lists that differ in the rows written give different texts. A terminal that is not sound is answered
  * before a buffer that is too short.
  *
- * text    points to at least `room` bytes that nothing else reads or writes during the call.
- *         TILLERCLOVER_TEXT_MAX fits every text. The bytes behind the text keep their contents, and so
- *         do all of them where there is none.
+ * text    is a buffer of `capacity` bytes; TILLERCLOVER_TEXT_MAX fits every text. The bytes behind the text keep
+ *         their contents, and so do all of them where there is none.
  */
 TILLERCLOVER_RESULT
-tillerclover_listed tillerclover_access_list(tillerclover_tables tables, const tillerclover_waiting *waiting,
-                                             uint8_t *text, size_t room);
+static inline tillerclover_listed tillerclover_access_list(const tillerclover_terminal *terminal, uint8_t *text,
+                                                           size_t capacity);
 
 /* Tests a list of access rows before it is loaded: rows of TILLERCLOVER_ACE_LENGTH bytes one after the
  * other, each as the tables hold it. The size comes first, then row by row TILLERCLOVER_TEST_NOT_STORABLE
@@ -534,12 +610,9 @@ tillerclover_listed tillerclover_access_list(tillerclover_tables tables, const t
  * An accepted list is permitted throughout when its rows are judged one straight after the other, each as
  * the body of an UPDATE of TILLERCLOVER_ACL2 by a sender whose credential row names the device owner, from
  * sound tables in TILLERCLOVER_RFPRO without access rows. The access rows are then the list's, in its order.
- *
- * rows    points to at least `length` bytes that nothing changes during the call. They are read, never
- *         written, and no pointer to them is kept.
  */
 TILLERCLOVER_RESULT
-tillerclover_tested tillerclover_test_list(const uint8_t *rows, size_t length);
+static inline tillerclover_tested tillerclover_test_list(const uint8_t *rows, size_t length);
 
 /* A list of an older terminal, `length` bytes in the earlier /oic/sec/acl form, as access rows.
  *
@@ -551,13 +624,140 @@ tillerclover_tested tillerclover_test_list(const uint8_t *rows, size_t length);
  * A file that is bad in any row is answered before rows that are too many, and those before a buffer that
  * is too short. An empty file gives no rows.
  *
- * file    points to at least `length` bytes that nothing changes during the call, of any content.
- * rows    points to at least `room` bytes that nothing else reads or writes during the call, none of them
- *         a byte of the file. TILLERCLOVER_CONVERTED_MAX fits every result. The bytes behind the rows keep
- *         their contents, and so do all of them where there are none.
+ * rows    is a buffer of `capacity` bytes; TILLERCLOVER_CONVERTED_MAX fits every result. The bytes behind the rows
+ *         keep their contents, and so do all of them where there are none.
  */
 TILLERCLOVER_RESULT
-tillerclover_converted tillerclover_convert_list(const uint8_t *file, size_t length, uint8_t *rows, size_t room);
+static inline tillerclover_converted tillerclover_convert_list(const uint8_t *file, size_t length, uint8_t *rows,
+                                                               size_t capacity);
+
+/* ---- How they are made of the archive's functions */
+
+/* What was said of a record, and the table of the places to store by the record's resource. Where there are no places, the
+ * record is not looked at. */
+static inline tillerclover_outcome tillerclover_outcome_of(const uint64_t *said, const uint8_t *record)
+{
+    tillerclover_outcome outcome;
+    outcome.answer = (enum tillerclover_answer)said[0];
+    outcome.permission = (uint8_t)said[1];
+    outcome.payload_offset = (size_t)said[2];
+    outcome.payload_length = (size_t)said[3];
+    outcome.reply_length = (size_t)said[4];
+    outcome.store_table = TILLERCLOVER_NO_TABLE;
+    outcome.store_first = (size_t)said[5];
+    outcome.store_count = (size_t)said[6];
+    outcome.link_set = said[7];
+    outcome.link_count = (size_t)said[8];
+    if (outcome.store_count != 0) {
+        unsigned word = (unsigned)record[TILLERCLOVER_HEADER_WORD] << 8 | record[TILLERCLOVER_HEADER_WORD + 1];
+        unsigned resource = word >> TILLERCLOVER_RESOURCE_SHIFT & 63;
+        outcome.store_table = resource == TILLERCLOVER_CRED ? TILLERCLOVER_CREDS : TILLERCLOVER_ACES;
+    }
+    return outcome;
+}
+
+/* The default rows: none for a null pointer. */
+static inline tillerclover_defaults tillerclover_defaults_of(const tillerclover_defaults *defaults)
+{
+    tillerclover_defaults none = {NULL, 0, NULL, 0};
+    return defaults == NULL ? none : *defaults;
+}
+
+static inline void tillerclover_fresh(tillerclover_terminal *terminal, const tillerclover_defaults *defaults)
+{
+    tillerclover_tables *t = &terminal->tables;
+    tillerclover_defaults d = tillerclover_defaults_of(defaults);
+    tillerclover_fresh_at((uint8_t *)t, t->devowner, t->rowners, t->creds, t->aces, terminal->waiting.bytes, d.creds,
+                          d.creds_length, d.aces, d.aces_length);
+}
+
+static inline void tillerclover_clear(tillerclover_terminal *terminal, const tillerclover_defaults *defaults)
+{
+    tillerclover_tables *t = &terminal->tables;
+    tillerclover_defaults d = tillerclover_defaults_of(defaults);
+    tillerclover_clear_at((uint8_t *)t, t->devowner, t->rowners, t->creds, t->aces, terminal->waiting.bytes, d.creds,
+                          d.creds_length, d.aces, d.aces_length);
+}
+
+static inline bool tillerclover_is_sound(const tillerclover_terminal *terminal)
+{
+    const tillerclover_tables *t = &terminal->tables;
+    return tillerclover_is_sound_at((const uint8_t *)t, t->devowner, t->rowners, t->creds, t->aces,
+                                    terminal->waiting.bytes) != 0;
+}
+
+static inline tillerclover_outcome tillerclover_judge(tillerclover_terminal *terminal,
+                                                      const tillerclover_defaults *defaults, uint32_t clock,
+                                                      const uint8_t *record, size_t length, uint8_t *reply,
+                                                      size_t capacity)
+{
+    uint64_t said[TILLERCLOVER_SAID];
+    tillerclover_tables *t = &terminal->tables;
+    tillerclover_defaults d = tillerclover_defaults_of(defaults);
+    tillerclover_judge_at((uint8_t *)t, t->devowner, t->rowners, t->creds, t->aces, terminal->waiting.bytes, d.creds,
+                          d.creds_length, d.aces, d.aces_length, clock, record, length, reply, capacity, said);
+    return tillerclover_outcome_of(said, record);
+}
+
+static inline tillerclover_outcome tillerclover_hand_in(tillerclover_terminal *terminal, const uint8_t *record,
+                                                        size_t length)
+{
+    uint64_t said[TILLERCLOVER_SAID];
+    const tillerclover_tables *t = &terminal->tables;
+    tillerclover_hand_in_at((const uint8_t *)t, t->devowner, t->rowners, t->creds, t->aces, terminal->waiting.bytes,
+                            record, length, said);
+    return tillerclover_outcome_of(said, record);
+}
+
+static inline tillerclover_taken tillerclover_take(tillerclover_terminal *terminal,
+                                                   const tillerclover_defaults *defaults, uint32_t clock,
+                                                   uint8_t *reply, size_t capacity)
+{
+    uint64_t said[TILLERCLOVER_SAID], record_length;
+    tillerclover_taken taken;
+    tillerclover_tables *t = &terminal->tables;
+    tillerclover_defaults d = tillerclover_defaults_of(defaults);
+    tillerclover_take_at((uint8_t *)t, t->devowner, t->rowners, t->creds, t->aces, terminal->waiting.bytes, d.creds,
+                         d.creds_length, d.aces, d.aces_length, clock, reply, capacity, said, &record_length,
+                         taken.record);
+    taken.outcome = tillerclover_outcome_of(said, taken.record);
+    taken.record_length = (size_t)record_length;
+    return taken;
+}
+
+static inline tillerclover_listed tillerclover_access_list(const tillerclover_terminal *terminal, uint8_t *text,
+                                                           size_t capacity)
+{
+    uint64_t said[2];
+    tillerclover_listed listed;
+    const tillerclover_tables *t = &terminal->tables;
+    tillerclover_access_list_at((const uint8_t *)t, t->devowner, t->rowners, t->creds, t->aces, terminal->waiting.bytes,
+                                text, capacity, said);
+    listed.answer = (enum tillerclover_answer)said[0];
+    listed.length = (size_t)said[1];
+    return listed;
+}
+
+static inline tillerclover_tested tillerclover_test_list(const uint8_t *rows, size_t length)
+{
+    uint64_t said[2];
+    tillerclover_tested tested;
+    tillerclover_test_list_at(rows, length, said);
+    tested.answer = (enum tillerclover_answer)said[0];
+    tested.row = (size_t)said[1];
+    return tested;
+}
+
+static inline tillerclover_converted tillerclover_convert_list(const uint8_t *file, size_t length, uint8_t *rows,
+                                                               size_t capacity)
+{
+    uint64_t said[2];
+    tillerclover_converted converted;
+    tillerclover_convert_list_at(file, length, rows, capacity, said);
+    converted.answer = (enum tillerclover_answer)said[0];
+    converted.length = (size_t)said[1];
+    return converted;
+}
 
 /* ---- The layout that the library has */
 
@@ -571,36 +771,12 @@ TILLERCLOVER_ASSERT(offsetof(tillerclover_tables, rowners) == 20, "rowners");
 TILLERCLOVER_ASSERT(offsetof(tillerclover_tables, creds) == 84, "creds");
 TILLERCLOVER_ASSERT(offsetof(tillerclover_tables, aces) == 1020, "aces");
 
-TILLERCLOVER_ASSERT(sizeof(size_t) == 8, "the library is for 64 bits");
-TILLERCLOVER_ASSERT(sizeof(tillerclover_outcome) == 2240, "an outcome has 2,240 bytes");
-TILLERCLOVER_ASSERT(offsetof(tillerclover_outcome, answer) == 0, "answer");
-TILLERCLOVER_ASSERT(offsetof(tillerclover_outcome, permission) == 1, "permission");
-TILLERCLOVER_ASSERT(offsetof(tillerclover_outcome, start) == 8, "start");
-TILLERCLOVER_ASSERT(offsetof(tillerclover_outcome, length) == 16, "length");
-TILLERCLOVER_ASSERT(offsetof(tillerclover_outcome, reply) == 24, "reply");
-TILLERCLOVER_ASSERT(offsetof(tillerclover_outcome, first) == 32, "first");
-TILLERCLOVER_ASSERT(offsetof(tillerclover_outcome, many) == 40, "many");
-TILLERCLOVER_ASSERT(offsetof(tillerclover_outcome, set) == 48, "set");
-TILLERCLOVER_ASSERT(offsetof(tillerclover_outcome, size) == 56, "size");
-TILLERCLOVER_ASSERT(offsetof(tillerclover_outcome, tables) == 64, "tables");
-
 TILLERCLOVER_ASSERT(sizeof(tillerclover_waiting) == 6504, "the memory of waiting records has 6,504 bytes");
-TILLERCLOVER_ASSERT(sizeof(tillerclover_taken) == 2504, "what a take gives has 2,504 bytes");
-TILLERCLOVER_ASSERT(offsetof(tillerclover_taken, outcome) == 0, "outcome");
-TILLERCLOVER_ASSERT(offsetof(tillerclover_taken, size) == 2240, "size");
-TILLERCLOVER_ASSERT(offsetof(tillerclover_taken, record) == 2248, "record");
+TILLERCLOVER_ASSERT(sizeof(tillerclover_terminal) == 8676, "a terminal has 8,676 bytes");
+TILLERCLOVER_ASSERT(offsetof(tillerclover_terminal, tables) == 0, "tables");
+TILLERCLOVER_ASSERT(offsetof(tillerclover_terminal, waiting) == 2172, "waiting");
 
-TILLERCLOVER_ASSERT(sizeof(tillerclover_listed) == 16, "what is said of a list has 16 bytes");
-TILLERCLOVER_ASSERT(offsetof(tillerclover_listed, answer) == 0, "answer");
-TILLERCLOVER_ASSERT(offsetof(tillerclover_listed, length) == 8, "length");
-
-TILLERCLOVER_ASSERT(sizeof(tillerclover_tested) == 16, "what is said of a tested list has 16 bytes");
-TILLERCLOVER_ASSERT(offsetof(tillerclover_tested, answer) == 0, "answer");
-TILLERCLOVER_ASSERT(offsetof(tillerclover_tested, row) == 8, "row");
-
-TILLERCLOVER_ASSERT(sizeof(tillerclover_converted) == 16, "what is said of a conversion has 16 bytes");
-TILLERCLOVER_ASSERT(offsetof(tillerclover_converted, answer) == 0, "answer");
-TILLERCLOVER_ASSERT(offsetof(tillerclover_converted, length) == 8, "length");
+TILLERCLOVER_ASSERT(sizeof(size_t) <= sizeof(uint64_t), "the library's lengths have 64 bits");
 
 #ifdef __cplusplus
 }

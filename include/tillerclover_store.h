@@ -11,15 +11,15 @@
  *
  *     uint64_t at;
  *     if (tillerclover_store_current(store, sizeof store, n, &at) == TILLERCLOVER_STORE_DONE)
- *         memcpy(&tables, store + at, n);
+ *         memcpy(&terminal.tables, store + at, n);
  *
  * The content of new memory is the current image too. So hand it to the library as it is: tables that are not sound get
- * answer 1, until those of tillerclover_clear are stored.
+ * answer 1, and tillerclover_is_sound says so at once, until those of tillerclover_clear are stored.
  *
  * To store an image:
  *
- *     uint64_t from = 0, at, writes = 0;
- *     uint8_t byte, answer;
+ *     uint64_t from = 0, at, writes = 0, answer;
+ *     uint8_t byte;
  *     while ((answer = tillerclover_store_next(store, sizeof store, image, n, from, &at, &byte)) == TILLERCLOVER_STORE_WRITE) {
  *         if (writes++ > n)
  *             break;
@@ -41,9 +41,10 @@
  *
  * What to store. For memory that wears: the tables alone, n = sizeof(tillerclover_tables). Hand-ins, polls and refused
  * records then write nothing. After a power cut no record waits, so the 0 of a hand-in is no receipt; answer a sender when
- * its record is taken. Where memory does not wear, or the 0 of a hand-in is passed on as a receipt: tables and waiting
- * records as ONE image, the waiting records right after the tables. Then no answer is taken back; a take that was cut may
- * have counted, and its record is then handed to nobody, one for each cut. Never use two stores, one for each: a cut between them leaves a record that was judged and waits still, or neither.
+ * its record is taken. Where memory does not wear, or the 0 of a hand-in is passed on as a receipt: the
+ * whole tillerclover_terminal as ONE image. Then no answer is taken back; a take that was cut may have counted, and its
+ * record is then handed to nobody, one for each cut. Never use two stores, one for each part: a cut between them leaves a
+ * record that was judged and waits still, or neither.
  */
 #ifndef TILLERCLOVER_STORE_H
 #define TILLERCLOVER_STORE_H
@@ -74,12 +75,12 @@ enum tillerclover_store_answer {
  * byte to write there; otherwise both are left alone. `from` is 0 at the start of a run, so that nothing is written where
  * nothing changed, and then the place after the last write, which saves time. With any other `from` the answers are as
  * safe. */
-uint8_t tillerclover_store_next(const uint8_t *store, uint64_t store_length, const uint8_t *image,
-                                uint64_t image_length, uint64_t from, uint64_t *place, uint8_t *byte);
+uint64_t tillerclover_store_next(const uint8_t *store, uint64_t store_length, const uint8_t *image,
+                                 uint64_t image_length, uint64_t from, uint64_t *place, uint8_t *byte);
 
 /* Where the current image starts, in a store for images of n bytes. With DONE, `*place` is 0 or n; with UNFIT it is left
  * alone. */
-uint8_t tillerclover_store_current(const uint8_t *store, uint64_t store_length, uint64_t n, uint64_t *place);
+uint64_t tillerclover_store_current(const uint8_t *store, uint64_t store_length, uint64_t n, uint64_t *place);
 
 #ifdef __cplusplus
 }

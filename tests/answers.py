@@ -169,7 +169,8 @@ def calls_table():
          "| `tillerclover_access_list` | 17, 18; else 0 |",
          "| `tillerclover_test_list` | 19; then row by row 20, 21; else 0 |",
          "| `tillerclover_convert_list` | 23, 24, 25; else 0 |",
-         "| `tillerclover_fresh`, `_clear` | none: they give tables |"]
+         "| `tillerclover_fresh`, `_clear` | none: they make a new terminal |",
+         "| `tillerclover_is_sound` | none: false exactly where the others give 1 or 17 |"]
     )
 
 
@@ -201,6 +202,40 @@ def directory_table():
     return "\n".join(text)
 
 
+# ---- the rules in short, as the header has them
+
+
+def header_rules():
+    """The lines of the header on moves, writes and endpoints."""
+    names = states()
+    lines = []
+    for state in sorted(set(names) - {0}):
+        targets = {condition: ", ".join(names[t] for s, t, c in moves() if s == state and c == condition) for condition in ("true", "hasOwner")}
+        lines.append(f"{names[state]} to {targets['true']}" + (f"; to {targets['hasOwner']} if owned is 1" if targets["hasOwner"] else ""))
+    words = ("doxm", "row owners", "rows of cred and acl2", "target")
+    for row in rows_of(writes_table())[1:]:
+        taken = [word + (" if its owned is 1" if cell.startswith("owned") else "") for word, cell in zip(words, row[1:5]) if cell != "no"]
+        if taken.pop() != "target":
+            raise Changed("a state takes no target")
+        lines.append(f"{row[0].split()[1]} takes {', '.join(taken) or 'none of them'}")
+    groups = {("yes", "yes"): "secure and unsecure", ("yes", "no"): "secure alone", ("no", "yes"): "unsecure alone"}
+    paths = {path: name for name, _, path, _ in named("Resource")}
+    rows = [row for row in rows_of(directory_table())[1:] if row[2] == "application"]
+    for flags, words_of in groups.items():
+        lines.append(f"{words_of}: " + ", ".join(paths[row[1]] for row in rows if (row[4], row[5]) == flags))
+    return lines
+
+
+def check_header_rules():
+    """Each of them is a line of the header, and it has no other such line."""
+    shown = re.findall(r"^ \*     (\S.*)$", read(HEADER).split("/* ---- The rules in short")[1].split("*/")[0], re.M)
+    for line in header_rules():
+        if line not in shown:
+            fault(f"{HEADER}: by the definitions a line of the rules in short is '{line}'")
+    if len(shown) != len(header_rules()):
+        fault(f"{HEADER}: the rules in short have {len(shown)} lines, and by the definitions {len(header_rules())}")
+
+
 # The crate that makes a group of checks, the definition of the group, and the one number of a group without a definition.
 GROUPS = (
     ("check_waiting", None, 1), ("check_header", "headerChecks", None), ("caller", None, 7), ("check_request", "requestChecks", None),
@@ -230,7 +265,7 @@ def order_picture():
 
 SEQUENCE = (
     ("S->>P", "a record", None),
-    ("P->>L", "tillerclover_hand_in: tables, waiting records, record", "terminal::tillerclover_hand_in"),
+    ("P->>L", "tillerclover_hand_in: terminal, record", "terminal::tillerclover_hand_in_at"),
     ("L->>L", "check_terminal: 1", "check_waiting::check_terminal"),
     ("L->>L", "check_record: {sender}", "caller::check_record"),
     ("L->>L", "26 where a record of this seat waits", None),
@@ -242,7 +277,7 @@ SEQUENCE = (
     ("L-->>P", "0, permission 0", None),
     ("end", "", None),
     ("Note over P", "the plate is free", None),
-    ("P->>L", "tillerclover_take: tables, waiting records, default rows, clock, buffer", "terminal::tillerclover_take"),
+    ("P->>L", "tillerclover_take: terminal, default rows, clock, buffer", "terminal::tillerclover_take_at"),
     ("L->>L", "check_take: 1, 27", "judge::check_take"),
     ("L->>M", "due_record: whose turn it is", "queue_turn::due_record"),
     ("L->>L", "decide: {rest}", "decision::decide"),
@@ -251,7 +286,7 @@ SEQUENCE = (
     ("L-->>P", "the number and the record, the tables as they were", None),
     ("else", "permitted", None),
     ("L->>M", "execute_queued: reply, effect, what still waits", "execute::execute_queued"),
-    ("L-->>P", "0, permission, payload, reply, places, links, tables", None),
+    ("L-->>P", "0, permission, payload, reply, places, links", None),
     ("P->>P", "stores the tables where they changed, then acts", None),
     ("end", "", None),
     ("P-->>S", "the answer", None),

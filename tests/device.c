@@ -12,9 +12,9 @@
 #include <sys/wait.h>
 #include <unistd.h>
 
-#include "../examples/requests.h"
 #include "../examples/terminal/terminal.h"
 #include "chance.h"
+#include "tillerclover_records.h"
 
 /* ---- The device's faults */
 
@@ -164,7 +164,7 @@ static void start(void)
     shared->cut = false;
 }
 
-static void serve(const struct record *r)
+static void serve(const tillerclover_record *r)
 {
     static struct taken taken[TERMINAL_PLACES];
     terminal_hand_in(&t, r);
@@ -174,18 +174,18 @@ static void serve(const struct record *r)
     shared->cut = false;
 }
 
-static struct record any_record(void)
+static tillerclover_record any_record(void)
 {
     uint8_t uuid[TILLERCLOVER_UUID_LENGTH];
     memset(uuid, (int)(1 + any(250)), sizeof uuid);
     if (any(3) == 0) {
-        return delete_row(TILLERCLOVER_CRED, 0, 1 + any(8));
+        return tillerclover_delete_row(TILLERCLOVER_CRED, 0, 1 + any(8));
     }
-    return store_cred(0, (struct cred){.number = 1 + any(8), .subject = uuid, .type = 1});
+    return tillerclover_store_cred(0, &(tillerclover_cred){.number = 1 + any(8), .subject = uuid, .type = 1});
 }
 
 /* A life with a fault: a start, and the record or some at random. Gives its status. */
-static int live(struct fault f, const struct record *r)
+static int live(struct fault f, const tillerclover_record *r)
 {
     int status;
     uint64_t next = ((uint64_t)any(UINT32_MAX) << 32) | 1;
@@ -199,7 +199,7 @@ static int live(struct fault f, const struct record *r)
         expect(freopen("/dev/null", "w", stderr) != NULL, "a place for the last line");
         start();
         for (int i = 0; i < (r == NULL ? 6 : 1); i++) {
-            struct record some = any_record();
+            tillerclover_record some = any_record();
             serve(r == NULL ? &some : r);
         }
         if (any(20) == 0 && r == NULL) {
@@ -230,7 +230,7 @@ static void count(enum kind kind, int status, bool reached)
     ends += status == 1;
 }
 
-static void run(struct fault f, const struct record *r)
+static void run(struct fault f, const tillerclover_record *r)
 {
     int status = live(f, r);
     count(f.kind, status, shared->calls >= f.at);
@@ -246,7 +246,7 @@ static void copy(uint8_t *bytes, bool back)
 
 /* One store from the same device again and again, with each fault at each of its writes; the mark with many
  * values. */
-static void each_write(const struct record *r)
+static void each_write(const tillerclover_record *r)
 {
     static uint8_t before[DEVICE_LENGTH];
     tillerclover_tables answered = shared->answered;
@@ -274,11 +274,13 @@ int main(int count_of_words, char **words)
     uint8_t uuid[TILLERCLOVER_UUID_LENGTH];
     for (unsigned i = 1; i <= 2; i++) {
         memset(uuid, (int)i, sizeof uuid);
-        struct record r = store_cred(0, (struct cred){.number = i, .subject = uuid, .type = 1});
+        tillerclover_record r =
+            tillerclover_store_cred(0, &(tillerclover_cred){.number = i, .subject = uuid, .type = 1});
         run((struct fault){NONE, 0, 0}, &r);
     }
-    struct record stored = store_cred(0, (struct cred){.number = 9, .subject = uuid, .type = 1});
-    struct record deleted = delete_row(TILLERCLOVER_CRED, 0, 1);
+    tillerclover_record stored =
+        tillerclover_store_cred(0, &(tillerclover_cred){.number = 9, .subject = uuid, .type = 1});
+    tillerclover_record deleted = tillerclover_delete_row(TILLERCLOVER_CRED, 0, 1);
     each_write(&stored);
     each_write(&deleted);
     for (int i = 0; i < 400; i++) {

@@ -6,8 +6,8 @@ DEVICE=4352
 
 build_device() {
     cc -std=c11 -D_GNU_SOURCE -O1 -g -Wall -Wextra -Werror -fsanitize=undefined -fno-sanitize-recover=all \
-        -I"${INCLUDE:-include}" -Wl,--wrap=pwrite,--wrap=pread tests/device.c examples/requests.c \
-        examples/terminal/{terminal,device,store,file,record,fail}.c "$ARCHIVE" -o "$work/device"
+        -I"${INCLUDE:-include}" -Wl,--wrap=pwrite,--wrap=pread tests/device.c \
+        examples/terminal/{terminal,device,store,file,fail}.c "$ARCHIVE" -o "$work/device"
 }
 
 part_device() {

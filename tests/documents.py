@@ -10,12 +10,12 @@ PROOFS.md       each theorem that its tables name is exported with a statement b
 README.md, SECURITY.md, CHANGELOG.md, SECURITY-MODEL.md, ASSESSOR.md, ANSWERS.md, PICTURES.md
                 each theorem that is named before its file, as `name` (crate/proofs/File.antt), stands there, and each
                 `crate::function` is one
-CHANGELOG.md    its first heading is the header's version; the lengths of tables, rows and waiting records are today's
+CHANGELOG.md    its first heading is the interface's version, and it names the format's; the lengths of tables, rows and waiting records are today's
 MUST-FAIL.md    each edit has a row, and each row its edit; the rows of two edits or more name each entry point
 PICTURES.md     the pictures with those made from the definitions
 ANSWERS.md      the tables with those made from the header, the words of names.rs and the definitions; the columns
                 'usual cause' and 'what to do' are written by hand in the page, and kept
-tillerclover.h  offsets, lengths and shifts with the definitions
+tillerclover.h  offsets, lengths and shifts with the definitions; so the rules in short: moves, writes, endpoints
 tillerclover_yards.h
                 the identity and the reasons' numbers with the definitions
 GLOSSARY.md     sorted; each word of CONTRIBUTING's table stands there, and each name in code letters is in the sources
@@ -29,8 +29,8 @@ import re
 import sys
 
 sys.dont_write_bytecode = True
-from answers import ANSWERS, answers, order_picture, sequence_picture, states_picture, writes_table  # noqa: E402
-from sources import HEADER, Changed, asks, contracts, exports, faults, fault, found, functions_of, number, read, right_side, rows_of  # noqa: E402
+from answers import ANSWERS, answers, check_header_rules, order_picture, sequence_picture, states_picture, writes_table  # noqa: E402
+from sources import HEADER, Changed, asks, contracts, declares, exports, faults, fault, found, functions_of, number, read, right_side, rows_of  # noqa: E402
 
 PAGE, MODEL = "docs/PICTURES.md", "docs/SECURITY-MODEL.md"
 CITED = ["README.md", "SECURITY.md", "CHANGELOG.md", MODEL, "docs/ASSESSOR.md", "docs/ANSWERS.md", "docs/GLOSSARY.md", PAGE]
@@ -533,17 +533,20 @@ def check_cited(page):
         # `tillerclover::..` is the library's name in CMake and in Rust
         if crate != "tillerclover" and name not in functions_of(f"crates/{crate}/src"):
             fault(f"{page}: there is no function {name} in crates/{crate}/src")
-    for path in set(re.findall(r"(?<![\w/.])((?:docs|tests|include|examples|model|bindings|tool|bench|crates|packaging)/[\w./-]*\w)", text)):
+    for path in set(re.findall(r"(?<![\w/.])((?:docs|tests|targets|include|examples|model|bindings|tool|bench|crates|packaging)/[\w./-]*\w)", text)):
         if not os.path.exists(path) and "target" not in path:
             fault(f"{page}: there is no {path}")
 
 
 def check_changelog():
     text, header = read("CHANGELOG.md"), read(HEADER)
-    version = ".".join(re.search(rf"#define TILLERCLOVER_VERSION_{part} (\d+)", header).group(1) for part in ("MAJOR", "MINOR"))
+    version = ".".join(re.search(rf"#define TILLERCLOVER_INTERFACE_{part} (\d+)", header).group(1) for part in ("MAJOR", "MINOR"))
     heading = re.search(r"^## ([\d.]+)", text, re.M)
     if not heading or heading.group(1) != version:
         fault(f"CHANGELOG.md: the first heading is not that of version {version}")
+    stored = re.search(r"#define TILLERCLOVER_FORMAT (\d+)", header).group(1)
+    if f"### Format {stored}\n" not in text:
+        fault(f"CHANGELOG.md: no heading names format {stored}")
     said = {cells[0]: cells[1] for cells in rows_of(text) if len(cells) == 3}
     for row, long in (
         ("the tables", struct_fields()[1]), ("a credential row", number("Tables", "stride Creds")),
@@ -666,6 +669,7 @@ def main(words):
         check_edits()
         check_changelog()
         check_yards()
+        check_header_rules()
         for cited in CITED:
             check_cited(cited)
         renew(PAGE, lambda page: pictures(), bool(words))

@@ -11,7 +11,7 @@
 
 #include "../examples/terminal/front.h"
 #include "../examples/terminal/message.h"
-#include "../examples/terminal/record.h"
+#include "tillerclover_records.h"
 
 /* What the one and the other does in turn. */
 enum {
@@ -27,8 +27,9 @@ static void say(uint32_t kind, uint32_t number, const void *body, size_t length)
 /* A record of a sender: in clear for one, over DTLS for the other. */
 static void say_record(bool crypt, unsigned sender, uint32_t ticket)
 {
-    struct record r = record_of(TILLERCLOVER_RETRIEVE, crypt ? TILLERCLOVER_AUTH_CRYPT : TILLERCLOVER_ANON_CLEAR,
-                                TILLERCLOVER_WEIGHT, sender, NULL, 0);
+    tillerclover_record r =
+        tillerclover_record_of(TILLERCLOVER_RETRIEVE, crypt ? TILLERCLOVER_AUTH_CRYPT : TILLERCLOVER_ANON_CLEAR,
+                               TILLERCLOVER_WEIGHT, sender, NULL, 0);
     say(MESSAGE_RECORD, ticket, r.bytes, r.length);
 }
 
@@ -52,7 +53,7 @@ static void misbehave(int kind, bool secure)
         say(MESSAGE_RECORD, 1, bytes, 2);
         break;
     case 4:
-        say(MESSAGE_RECORD, 1, bytes, RECORD_ROOM + 1);
+        say(MESSAGE_RECORD, 1, bytes, TILLERCLOVER_RECORD_ROOM + 1);
         break;
     case 5:
         say_record(!secure, secure ? 0 : 7, 1);

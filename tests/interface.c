@@ -1,10 +1,11 @@
-/* The C interface against its header: layouts, edges of buffers and lengths, and pointers to nothing. What each answer
- * is for is proved; that C sees the same bytes is tried here. Prints nothing, and exits with 1 at the first fault. */
+/* The C interface against its header: layouts, edges of buffers and lengths, what a refusal leaves, and pointers to nothing.
+ * What each answer is for is proved; that C sees the same bytes is tried here, on every processor. Prints nothing, and
+ * exits with 1 at the first fault. */
 #include <stdio.h>
 #include <stdlib.h>
 #include <string.h>
 
-#include "../examples/requests.h"
+#include "tillerclover_records.h"
 
 enum {
     OWNER = 5,
@@ -22,9 +23,6 @@ static const uint8_t HAULIER_UUID[TILLERCLOVER_UUID_LENGTH] = {0xc4, 0x71, 0x0e,
                                                                0xb6, 0x5f, 0x87, 0x1b, 0x2e, 0x60, 0xf9, 0xad};
 static const uint8_t NIL[TILLERCLOVER_UUID_LENGTH];
 
-/* Two of them are the default rows of a build that has none. */
-static const uint8_t NONE[1];
-
 static void expect(int holds, const char *what)
 {
     if (!holds) {
@@ -35,240 +33,289 @@ static void expect(int holds, const char *what)
 
 /* ---- Records and rows */
 
-/* A credential row without a role. */
-static struct cred cred(unsigned number, const uint8_t uuid[TILLERCLOVER_UUID_LENGTH])
+static tillerclover_record store_cred(unsigned sender, tillerclover_cred row)
 {
-    return (struct cred){.number = number, .subject = uuid, .type = 1};
+    return tillerclover_store_cred(sender, &row);
+}
+
+static tillerclover_record store_ace(unsigned sender, tillerclover_ace row)
+{
+    return tillerclover_store_ace(sender, &row);
+}
+
+static tillerclover_record bare(enum tillerclover_verb verb, enum tillerclover_resource resource, unsigned sender)
+{
+    return tillerclover_request_bare(verb, resource, sender);
+}
+
+/* A credential row without a role. */
+static tillerclover_cred cred(unsigned number, const uint8_t uuid[TILLERCLOVER_UUID_LENGTH])
+{
+    return (tillerclover_cred){.number = number, .subject = uuid, .type = 1};
 }
 
 /* An access row that grants a UUID one resource, for every second. */
-static struct ace ace(unsigned number, unsigned permission, enum tillerclover_resource resource,
-                      const uint8_t uuid[TILLERCLOVER_UUID_LENGTH])
+static tillerclover_ace ace(unsigned number, unsigned permission, enum tillerclover_resource resource,
+                            const uint8_t uuid[TILLERCLOVER_UUID_LENGTH])
 {
-    return (struct ace){.number = number,
-                        .kind = TILLERCLOVER_SUBJECT_UUID,
-                        .uuid = uuid,
-                        .permission = permission,
-                        .set = TILLERCLOVER_SET_BIT(resource),
-                        .last = UINT32_MAX};
+    return (tillerclover_ace){.number = number,
+                              .kind = TILLERCLOVER_SUBJECT_UUID,
+                              .uuid = uuid,
+                              .permission = permission,
+                              .set = TILLERCLOVER_SET_BIT(resource),
+                              .last = UINT32_MAX};
 }
 
 /* The record with the body that leaves the authority out, and the one that leaves the period out. */
-static struct record short_cred(struct record r)
+static tillerclover_record short_cred(tillerclover_record r)
 {
     r.bytes[r.length - 3] = r.bytes[r.length - 1];
     r.length -= 2;
     return r;
 }
 
-static struct record short_ace(struct record r)
+static tillerclover_record short_ace(tillerclover_record r)
 {
     r.length -= 8;
     return r;
 }
 
-static const uint8_t *body_of(const struct record *r)
+static const uint8_t *body_of(const tillerclover_record *r)
 {
     return r->bytes + TILLERCLOVER_HEADER_LENGTH;
 }
 
-/* ---- Calls on one terminal without default rows */
+/* ---- Calls on one terminal without default rows. It stands at an odd address, with a byte before and after it that no call
+ * may change. */
 
+static uint8_t memory[1 + sizeof(tillerclover_terminal) + 1];
+static tillerclover_terminal *const x = (tillerclover_terminal *)(memory + 1);
 static uint8_t reply[TILLERCLOVER_REPLY_MAX];
 static uint32_t now;
-static tillerclover_waiting queue;
 
-static tillerclover_tables fresh(void)
+static void guarded(void)
 {
-    return tillerclover_fresh(&queue, NONE, 0, NONE, 0);
+    expect(memory[0] == 0x6D && memory[sizeof memory - 1] == 0x6D, "a byte beside the terminal was written");
 }
 
-static tillerclover_outcome judge(tillerclover_tables t, struct record r)
+static void fresh(void)
 {
-    return tillerclover_judge(t, &queue, NONE, 0, NONE, 0, now, r.bytes, r.length, reply, sizeof reply);
+    tillerclover_fresh(x, NULL);
 }
 
-/* The tables after a record that must be permitted. */
-static tillerclover_tables after(tillerclover_tables t, struct record r)
+/* A refusal must leave every byte. */
+static tillerclover_outcome judge(tillerclover_record r)
 {
-    tillerclover_outcome o = judge(t, r);
-    expect(o.answer == TILLERCLOVER_PERMITTED, "a record that sets a test up was refused");
-    return o.tables;
+    static tillerclover_terminal before;
+    memcpy(&before, x, sizeof before);
+    tillerclover_outcome o = tillerclover_judge(x, NULL, now, r.bytes, r.length, reply, sizeof reply);
+    expect(o.answer == TILLERCLOVER_PERMITTED || memcmp(x, &before, sizeof before) == 0, "a refusal wrote");
+    guarded();
+    return o;
 }
 
-static tillerclover_outcome hand_in(tillerclover_tables t, struct record r)
+static enum tillerclover_answer answer(tillerclover_record r)
 {
-    return tillerclover_hand_in(t, &queue, r.bytes, r.length);
+    return judge(r).answer;
 }
 
-static tillerclover_taken take(tillerclover_tables t)
+/* A record that must be permitted. */
+static void must(tillerclover_record r)
 {
-    return tillerclover_take(t, &queue, NONE, 0, NONE, 0, now, reply, sizeof reply);
+    expect(answer(r) == TILLERCLOVER_PERMITTED, "a record that sets a test up was refused");
 }
 
-static int same(const tillerclover_tables *a, const tillerclover_tables *b)
+static tillerclover_outcome hand_in(tillerclover_record r)
 {
-    return memcmp(a, b, sizeof *a) == 0;
+    static tillerclover_terminal before;
+    memcpy(&before, x, sizeof before);
+    tillerclover_outcome o = tillerclover_hand_in(x, r.bytes, r.length);
+    expect(memcmp(&x->tables, &before.tables, sizeof before.tables) == 0, "a hand-in changed the tables");
+    expect(o.answer == TILLERCLOVER_PERMITTED || memcmp(x, &before, sizeof before) == 0, "a refusal wrote");
+    guarded();
+    return o;
 }
 
-/* An owned terminal in RFPRO: the owner's credential row, and a haulier's. */
-static tillerclover_tables owned(void)
+static tillerclover_taken take(void)
 {
-    tillerclover_tables t = fresh();
-    t = after(t, store_cred(0, cred(OWNER, OWNER_UUID)));
-    t = after(t, store_cred(0, cred(HAULIER, HAULIER_UUID)));
-    t = after(t, set_owner(0, OWNER_UUID));
-    return after(t, set_state(OWNER, TILLERCLOVER_RFPRO));
-}
-
-/* Bytes that show where they come from. */
-static tillerclover_tables pattern(void)
-{
-    tillerclover_tables t;
-    uint8_t *bytes = (uint8_t *)&t;
-    for (size_t i = 0; i < sizeof t; i++) {
-        bytes[i] = (uint8_t)(i * 37 + i / 256 + 101);
-    }
+    tillerclover_taken t = tillerclover_take(x, NULL, now, reply, sizeof reply);
+    guarded();
     return t;
 }
 
-/* ---- Tables and outcomes: the library's layout against the header's */
+static int holds(const tillerclover_tables *t)
+{
+    return memcmp(&x->tables, t, sizeof *t) == 0;
+}
 
-static void whole_tables(void)
+/* An owned terminal in RFPRO: the owner's credential row, and a haulier's. */
+static void owned(void)
+{
+    fresh();
+    must(store_cred(0, cred(OWNER, OWNER_UUID)));
+    must(store_cred(0, cred(HAULIER, HAULIER_UUID)));
+    must(tillerclover_set_owner(0, OWNER_UUID));
+    must(tillerclover_set_state(OWNER, TILLERCLOVER_RFPRO));
+}
+
+/* Bytes that show where they come from. */
+static void pattern(void)
+{
+    uint8_t *bytes = (uint8_t *)&x->tables;
+    for (size_t i = 0; i < sizeof x->tables; i++) {
+        bytes[i] = (uint8_t)(i * 37 + i / 256 + 101);
+    }
+}
+
+/* ---- The terminal: the library's layout against the header's */
+
+/* A new terminal, whatever the memory held. */
+static void new_terminals(void)
 {
     static const tillerclover_waiting nothing;
-    tillerclover_tables worn, cleared, new, expected;
-    memset(&worn, 0xFF, sizeof worn);
-    memset(&queue, 0xFF, sizeof queue);
-    cleared = tillerclover_clear(worn, &queue, NONE, 0, NONE, 0);
-    expect(memcmp(&queue, &nothing, sizeof queue) == 0, "the memory is not fresh after clearing");
-    memset(&queue, 0x01, sizeof queue);
-    new = fresh();
-    expect(memcmp(&queue, &nothing, sizeof queue) == 0, "fresh memory has other bytes");
+    tillerclover_tables expected;
     memset(&expected, 0, sizeof expected);
     expected.state = TILLERCLOVER_RFOTM;
-    expect(same(&cleared, &expected), "tables are not fresh after clearing");
-    expect(same(&new, &expected), "fresh tables have other bytes");
+    for (int byte = 0; byte < 256; byte += 85) {
+        memset(x, byte, sizeof *x);
+        expect(!tillerclover_is_sound(x), "memory of one byte is sound");
+        tillerclover_clear(x, NULL);
+        expect(holds(&expected), "tables are not fresh after clearing");
+        expect(memcmp(&x->waiting, &nothing, sizeof nothing) == 0, "a record waits after clearing");
+        memset(x, byte, sizeof *x);
+        tillerclover_fresh(x, NULL);
+        expect(holds(&expected), "fresh tables have other bytes");
+        expect(memcmp(&x->waiting, &nothing, sizeof nothing) == 0, "a record waits in a new terminal");
+        expect(tillerclover_is_sound(x), "a new terminal is not sound");
+        guarded();
+    }
 }
 
 static int nothing_but_answer(const tillerclover_outcome *o)
 {
-    return o->permission == 0 && o->start == 0 && o->length == 0 && o->reply == 0 && o->first == 0 && o->many == 0 &&
-           o->set == 0 && o->size == 0;
+    return o->permission == 0 && o->payload_offset == 0 && o->payload_length == 0 && o->reply_length == 0 &&
+           o->store_table == TILLERCLOVER_NO_TABLE && o->store_first == 0 && o->store_count == 0 && o->link_set == 0 &&
+           o->link_count == 0;
 }
 
 static void refused_tables(void)
 {
-    tillerclover_tables t = pattern();
-    tillerclover_outcome o = judge(t, request_bare(TILLERCLOVER_RETRIEVE, TILLERCLOVER_WEIGHT, 0));
-    expect(o.answer == TILLERCLOVER_NOT_SOUND, "tables of any bytes were taken for sound");
-    expect(nothing_but_answer(&o), "a refusal has a permission, a payload, a reply, places or a set");
-    expect(same(&o.tables, &t), "a refusal changed the tables");
+    pattern();
+    tillerclover_outcome o = judge(bare(TILLERCLOVER_RETRIEVE, TILLERCLOVER_WEIGHT, 0));
+    expect(o.answer == TILLERCLOVER_NOT_SOUND && !tillerclover_is_sound(x), "tables of any bytes were taken for sound");
+    expect(nothing_but_answer(&o), "a refusal has a permission, a payload, a reply, places or links");
 }
 
 /* Each field is written by the library and read here by its name. Credential row 100 + i is row i of its table, and so
  * is access row 200 + i. Both tables are full. Both forms of a body store the row. */
-static tillerclover_tables each_field(void)
+static void each_field(void)
 {
-    tillerclover_tables expected = fresh();
-    tillerclover_tables t = expected;
-    struct record r;
+    tillerclover_tables expected;
+    tillerclover_record r;
+    fresh();
+    expected = x->tables;
     for (unsigned i = 0; i < TILLERCLOVER_ROW_OWNERS; i++) {
         uint8_t uuid[TILLERCLOVER_UUID_LENGTH];
         memset(uuid, (int)(0x20 + i), sizeof uuid);
-        t = after(t, request(TILLERCLOVER_UPDATE, (enum tillerclover_resource)i, 0, uuid, sizeof uuid));
+        must(tillerclover_set_row_owner((enum tillerclover_resource)i, 0, uuid));
         memcpy(expected.rowners + i * sizeof uuid, uuid, sizeof uuid);
-        expect(same(&t, &expected), "rowners stands elsewhere");
+        expect(holds(&expected), "rowners stands elsewhere");
     }
     for (unsigned i = 0; i < TILLERCLOVER_CRED_CAPACITY; i++) {
         r = store_cred(0, cred(100 + i, OWNER_UUID));
-        t = after(t, i % 2 ? short_cred(r) : r);
+        must(i % 2 ? short_cred(r) : r);
         expected.ncreds++;
         memcpy(expected.creds + i * TILLERCLOVER_CRED_ROW_LENGTH, body_of(&r), TILLERCLOVER_CRED_LENGTH);
-        expect(same(&t, &expected), "creds or ncreds stands elsewhere");
+        expect(holds(&expected), "creds or ncreds stands elsewhere");
     }
     for (unsigned i = 0; i < TILLERCLOVER_ACE_CAPACITY; i++) {
         r = store_ace(0, ace(200 + i, TILLERCLOVER_MAY_ALL, TILLERCLOVER_LAMP, OWNER_UUID));
-        t = after(t, i % 2 ? short_ace(r) : r);
+        must(i % 2 ? short_ace(r) : r);
         expected.naces++;
         memcpy(expected.aces + i * TILLERCLOVER_ACE_LENGTH, body_of(&r), TILLERCLOVER_ACE_LENGTH);
-        expect(same(&t, &expected), "aces or naces stands elsewhere");
+        expect(holds(&expected), "aces or naces stands elsewhere");
     }
-    t = after(t, set_owner(0, OWNER_UUID));
+    must(tillerclover_set_owner(0, OWNER_UUID));
     expected.owned = 1;
     memcpy(expected.devowner, OWNER_UUID, sizeof OWNER_UUID);
-    expect(same(&t, &expected), "owned or devowner stands elsewhere");
-    t = after(t, set_state(100, TILLERCLOVER_RFPRO));
-    t = after(t, set_state(100, TILLERCLOVER_RFNOP));
+    expect(holds(&expected), "owned or devowner stands elsewhere");
+    must(tillerclover_set_state(100, TILLERCLOVER_RFPRO));
+    must(tillerclover_set_state(100, TILLERCLOVER_RFNOP));
     expected.state = TILLERCLOVER_RFNOP;
-    expect(same(&t, &expected), "state stands elsewhere");
-    return t;
+    expect(holds(&expected), "state stands elsewhere");
 }
 
 /* Outcomes whose fields all differ, on those full tables. */
-static void each_outcome(tillerclover_tables t)
+static void each_outcome(void)
 {
-    tillerclover_outcome o = judge(t, request_text(TILLERCLOVER_UPDATE, TILLERCLOVER_LAMP, 100, "on"));
+    const tillerclover_tables before = x->tables;
+    tillerclover_outcome o = judge(tillerclover_request_text(TILLERCLOVER_UPDATE, TILLERCLOVER_LAMP, 100, "on"));
     expect(o.answer == TILLERCLOVER_PERMITTED && o.permission == TILLERCLOVER_MAY_ALL,
            "answer or permission stands elsewhere");
-    expect(o.start == 4 && o.length == 2 && o.reply == 0 && o.first == 0 && o.many == 0 && o.set == 0 && o.size == 0,
-           "start or length stands elsewhere");
-    expect(same(&o.tables, &t), "tables stands elsewhere in the outcome");
-    o = judge(t, request_bare(TILLERCLOVER_RETRIEVE, TILLERCLOVER_CRED, 100));
-    expect(o.answer == TILLERCLOVER_PERMITTED && o.start == 0 && o.length == 0,
-           "answer, start or length stands elsewhere");
-    expect(o.reply == TILLERCLOVER_UUID_LENGTH + TILLERCLOVER_CRED_CAPACITY * TILLERCLOVER_CRED_LENGTH &&
-               o.first == 0 && o.many == 0,
-           "reply stands elsewhere");
-    expect(same(&o.tables, &t), "tables stands elsewhere behind a reply");
-    o = judge(t, store_ace(100, ace(1, 0, TILLERCLOVER_LAMP, OWNER_UUID)));
+    expect(o.payload_offset == 4 && o.payload_length == 2 && o.reply_length == 0 && o.store_first == 0 &&
+               o.store_count == 0 && o.store_table == TILLERCLOVER_NO_TABLE && o.link_set == 0 && o.link_count == 0,
+           "the payload stands elsewhere");
+    expect(holds(&before), "a payload changed the tables");
+    o = judge(bare(TILLERCLOVER_RETRIEVE, TILLERCLOVER_CRED, 100));
+    expect(o.answer == TILLERCLOVER_PERMITTED && o.payload_offset == 0 && o.payload_length == 0,
+           "the payload stands elsewhere");
+    expect(o.reply_length == TILLERCLOVER_UUID_LENGTH + TILLERCLOVER_CRED_CAPACITY * TILLERCLOVER_CRED_LENGTH &&
+               o.store_first == 0 && o.store_count == 0,
+           "the reply's length stands elsewhere");
+    expect(holds(&before), "a reply changed the tables");
+    o = judge(store_ace(100, ace(1, 0, TILLERCLOVER_LAMP, OWNER_UUID)));
     expect(o.answer == TILLERCLOVER_WRONG_STATE && nothing_but_answer(&o), "a refusal has other fields");
 }
 
 /* One row deleted of each table: the caller stores the rows that are named, and the count. */
-static void stored_rows(tillerclover_tables t)
+static void stored_rows(void)
 {
-    t = after(t, set_state(100, TILLERCLOVER_RFPRO));
-    struct record r = delete_row(TILLERCLOVER_ACL2, 100, 205);
-    tillerclover_outcome o = judge(t, r);
-    expect(o.answer == TILLERCLOVER_PERMITTED && o.reply == 0, "a row was not deleted");
-    expect(o.first == 5 && o.many == TILLERCLOVER_ACE_CAPACITY - 5, "first or many stands elsewhere");
-    expect(tillerclover_places(&o, r.bytes) == TILLERCLOVER_ACES, "the places are said to be of another table");
-    t.naces = o.tables.naces;
-    memcpy(t.aces + o.first * TILLERCLOVER_ACE_LENGTH, o.tables.aces + o.first * TILLERCLOVER_ACE_LENGTH,
-           o.many * TILLERCLOVER_ACE_LENGTH);
-    expect(same(&o.tables, &t), "a delete changed another place");
-    r = delete_row(TILLERCLOVER_CRED, 100, 123);
-    o = judge(t, r);
-    expect(o.first == 23 && o.many == 1, "the last credential row stands elsewhere");
-    expect(tillerclover_places(&o, r.bytes) == TILLERCLOVER_CREDS, "the places are said to be of another table");
-    o = judge(t, delete_row(TILLERCLOVER_CRED, 100, 1));
-    expect(o.answer == TILLERCLOVER_MISSING && tillerclover_places(&o, NULL) == TILLERCLOVER_NO_TABLE,
-           "a refusal names a table");
+    must(tillerclover_set_state(100, TILLERCLOVER_RFPRO));
+    tillerclover_tables stored = x->tables;
+    tillerclover_outcome o = judge(tillerclover_delete_row(TILLERCLOVER_ACL2, 100, 205));
+    expect(o.answer == TILLERCLOVER_PERMITTED && o.reply_length == 0, "a row was not deleted");
+    expect(o.store_table == TILLERCLOVER_ACES && o.store_first == 5 && o.store_count == TILLERCLOVER_ACE_CAPACITY - 5,
+           "the places to store stand elsewhere");
+    stored.naces = x->tables.naces;
+    memcpy(stored.aces + o.store_first * TILLERCLOVER_ACE_LENGTH,
+           x->tables.aces + o.store_first * TILLERCLOVER_ACE_LENGTH, o.store_count * TILLERCLOVER_ACE_LENGTH);
+    expect(holds(&stored), "a delete changed another place");
+    o = judge(tillerclover_delete_row(TILLERCLOVER_CRED, 100, 123));
+    expect(o.store_table == TILLERCLOVER_CREDS && o.store_first == 23 && o.store_count == 1,
+           "the last credential row stands elsewhere");
+    o = judge(tillerclover_delete_row(TILLERCLOVER_CRED, 100, 1));
+    expect(o.answer == TILLERCLOVER_MISSING && nothing_but_answer(&o), "a refusal names places");
+    o = judge(tillerclover_delete_subject(100, HAULIER_UUID));
+    expect(o.answer == TILLERCLOVER_MISSING && nothing_but_answer(&o), "a subject without rows was deleted");
+    expect(hand_in(tillerclover_delete_row(TILLERCLOVER_ACL2, 100, 231)).answer == TILLERCLOVER_PERMITTED,
+           "a record was not kept");
+    o = take().outcome;
+    expect(o.store_table == TILLERCLOVER_ACES && o.store_first == 30 && o.store_count == 1,
+           "the places of a take stand elsewhere");
 }
 
-/* The set of the yard and its size: a link more for each row that is stored. DISPLAY has no secure endpoint. */
-static void sets(void)
+/* The links of the yard: one more for each row that is stored. DISPLAY has no secure endpoint. */
+static void links(void)
 {
-    tillerclover_tables t =
-        after(owned(), store_ace(OWNER, ace(1, TILLERCLOVER_MAY_RETRIEVE, TILLERCLOVER_YARD, OWNER_UUID)));
-    uint64_t expected = 0;
-    size_t size = 0;
+    uint64_t set = 0;
+    size_t count = 0;
+    owned();
+    must(store_ace(OWNER, ace(1, TILLERCLOVER_MAY_RETRIEVE, TILLERCLOVER_YARD, OWNER_UUID)));
     for (unsigned link = TILLERCLOVER_WEIGHT; link <= TILLERCLOVER_DISPLAY; link++) {
-        t = after(t,
-                  store_ace(OWNER, ace(link, TILLERCLOVER_MAY_RETRIEVE, (enum tillerclover_resource)link, OWNER_UUID)));
-        t = after(t, set_state(OWNER, TILLERCLOVER_RFNOP));
+        must(store_ace(OWNER, ace(link, TILLERCLOVER_MAY_RETRIEVE, (enum tillerclover_resource)link, OWNER_UUID)));
+        must(tillerclover_set_state(OWNER, TILLERCLOVER_RFNOP));
         if (link != TILLERCLOVER_DISPLAY) {
-            expected |= UINT64_C(0x8000000000000000) >> link;
-            size++;
+            set |= UINT64_C(0x8000000000000000) >> link;
+            count++;
         }
-        tillerclover_outcome o = judge(t, request_bare(TILLERCLOVER_RETRIEVE, TILLERCLOVER_YARD, OWNER));
-        expect(o.answer == TILLERCLOVER_PERMITTED && o.set == expected && o.size == size,
-               "set or size stands elsewhere");
-        expect(same(&o.tables, &t), "tables stands elsewhere behind a set");
-        o = judge(t, request_bare(TILLERCLOVER_OBSERVE, TILLERCLOVER_YARD, OWNER));
-        expect(o.answer == TILLERCLOVER_PERMITTED && o.set == 0 && o.size == 0, "an OBSERVE has a set");
-        t = after(t, set_state(OWNER, TILLERCLOVER_RFPRO));
+        const tillerclover_tables before = x->tables;
+        tillerclover_outcome o = judge(bare(TILLERCLOVER_RETRIEVE, TILLERCLOVER_YARD, OWNER));
+        expect(o.answer == TILLERCLOVER_PERMITTED && o.link_set == set && o.link_count == count,
+               "the links stand elsewhere");
+        expect(holds(&before), "links changed the tables");
+        o = judge(bare(TILLERCLOVER_OBSERVE, TILLERCLOVER_YARD, OWNER));
+        expect(o.answer == TILLERCLOVER_PERMITTED && o.link_set == 0 && o.link_count == 0, "an OBSERVE has links");
+        must(tillerclover_set_state(OWNER, TILLERCLOVER_RFPRO));
     }
 }
 
@@ -276,7 +323,7 @@ static void sets(void)
 static void subjects_and_wildcards(void)
 {
     static const struct {
-        struct ace row;
+        tillerclover_ace row;
         enum tillerclover_resource resource;
         unsigned sender;
     } FITS[] = {
@@ -301,21 +348,22 @@ static void subjects_and_wildcards(void)
          HAULIER},
     };
     for (size_t i = 0; i < sizeof FITS / sizeof *FITS; i++) {
-        struct cred haulier = cred(HAULIER, HAULIER_UUID);
-        struct ace row = FITS[i].row;
+        tillerclover_cred haulier = cred(HAULIER, HAULIER_UUID);
+        tillerclover_ace row = FITS[i].row;
         row.number = 1;
         row.permission = TILLERCLOVER_MAY_RETRIEVE;
         row.last = UINT32_MAX;
         haulier.role = ROLE;
         haulier.authority = AUTHORITY;
-        tillerclover_tables t = after(owned(), store_cred(OWNER, haulier));
-        struct record read = request_bare(TILLERCLOVER_RETRIEVE, FITS[i].resource, FITS[i].sender);
-        t = after(t, set_state(OWNER, TILLERCLOVER_RFNOP));
-        expect(judge(t, read).answer == TILLERCLOVER_NOT_PERMITTED, "a sender may read without a row");
-        t = after(t, set_state(OWNER, TILLERCLOVER_RFPRO));
-        t = after(t, store_ace(OWNER, row));
-        t = after(t, set_state(OWNER, TILLERCLOVER_RFNOP));
-        expect(judge(t, read).permission == TILLERCLOVER_MAY_RETRIEVE, "a subject or a wildcard has another number");
+        owned();
+        must(store_cred(OWNER, haulier));
+        tillerclover_record read = bare(TILLERCLOVER_RETRIEVE, FITS[i].resource, FITS[i].sender);
+        must(tillerclover_set_state(OWNER, TILLERCLOVER_RFNOP));
+        expect(answer(read) == TILLERCLOVER_NOT_PERMITTED, "a sender may read without a row");
+        must(tillerclover_set_state(OWNER, TILLERCLOVER_RFPRO));
+        must(store_ace(OWNER, row));
+        must(tillerclover_set_state(OWNER, TILLERCLOVER_RFNOP));
+        expect(judge(read).permission == TILLERCLOVER_MAY_RETRIEVE, "a subject or a wildcard has another number");
     }
 }
 
@@ -324,31 +372,29 @@ static void subjects_and_wildcards(void)
 /* The longest reply in a buffer that just fits, and in one that just does not; the bytes after it stay. */
 static void replies(void)
 {
-    tillerclover_tables t = fresh();
     uint8_t buffer[TILLERCLOVER_REPLY_MAX + 1], before[sizeof buffer];
+    tillerclover_record r = bare(TILLERCLOVER_RETRIEVE, TILLERCLOVER_ACL2, 0);
+    fresh();
     for (unsigned i = 0; i < TILLERCLOVER_ACE_CAPACITY; i++) {
-        t = after(t, store_ace(0, ace(200 + i, TILLERCLOVER_MAY_ALL, TILLERCLOVER_LAMP, OWNER_UUID)));
+        must(store_ace(0, ace(200 + i, TILLERCLOVER_MAY_ALL, TILLERCLOVER_LAMP, OWNER_UUID)));
     }
-    struct record r = request_bare(TILLERCLOVER_RETRIEVE, TILLERCLOVER_ACL2, 0);
     memset(buffer, 0xA5, sizeof buffer);
     memset(before, 0xA5, sizeof before);
-    tillerclover_outcome o =
-        tillerclover_judge(t, &queue, NONE, 0, NONE, 0, 0, r.bytes, r.length, buffer, TILLERCLOVER_REPLY_MAX - 1);
-    expect(o.answer == TILLERCLOVER_NO_ROOM && o.reply == 0, "a reply was put into a buffer that is too short");
+    tillerclover_outcome o = tillerclover_judge(x, NULL, 0, r.bytes, r.length, buffer, TILLERCLOVER_REPLY_MAX - 1);
+    expect(o.answer == TILLERCLOVER_NO_ROOM && nothing_but_answer(&o),
+           "a reply was put into a buffer that is too short");
     expect(memcmp(buffer, before, sizeof buffer) == 0, "a refusal wrote into the buffer");
-    o = tillerclover_judge(t, &queue, NONE, 0, NONE, 0, 0, r.bytes, r.length, buffer, TILLERCLOVER_REPLY_MAX);
-    expect(o.answer == TILLERCLOVER_PERMITTED && o.reply == TILLERCLOVER_REPLY_MAX,
+    o = tillerclover_judge(x, NULL, 0, r.bytes, r.length, buffer, TILLERCLOVER_REPLY_MAX);
+    expect(o.answer == TILLERCLOVER_PERMITTED && o.reply_length == TILLERCLOVER_REPLY_MAX,
            "the longest reply has another length");
-    memcpy(before, t.rowners + TILLERCLOVER_ACL2 * TILLERCLOVER_UUID_LENGTH, TILLERCLOVER_UUID_LENGTH);
-    memcpy(before + TILLERCLOVER_UUID_LENGTH, t.aces, sizeof t.aces);
+    memcpy(before, x->tables.rowners + TILLERCLOVER_ACL2 * TILLERCLOVER_UUID_LENGTH, TILLERCLOVER_UUID_LENGTH);
+    memcpy(before + TILLERCLOVER_UUID_LENGTH, x->tables.aces, sizeof x->tables.aces);
     expect(memcmp(buffer, before, sizeof buffer) == 0, "the longest reply has other bytes");
 }
 
 /* The access list in a buffer that just fits, in one that just does not, and of tables that are not sound. */
 static void texts(void)
 {
-    tillerclover_tables t =
-        after(fresh(), store_ace(0, ace(1, TILLERCLOVER_MAY_RETRIEVE, TILLERCLOVER_WEIGHT, OWNER_UUID)));
     static const char expected[] =
         "{\"aclist2\":[{\"aceid\":1,\"subject\":{\"uuid\":\"5b0d3a64-9c21-4e7f-8a15-3de290c74618\"},"
         "\"resources\":[{\"href\":\"/weight\"}],\"permission\":2}]}";
@@ -356,19 +402,25 @@ static void texts(void)
         LENGTH = sizeof expected - 1
     };
     uint8_t buffer[LENGTH + 1], before[sizeof buffer];
+    fresh();
+    must(store_ace(0, ace(1, TILLERCLOVER_MAY_RETRIEVE, TILLERCLOVER_WEIGHT, OWNER_UUID)));
+    const tillerclover_tables tables = x->tables;
     memset(buffer, 0xA5, sizeof buffer);
     memset(before, 0xA5, sizeof before);
-    tillerclover_listed l = tillerclover_access_list(t, &queue, buffer, LENGTH - 1);
+    tillerclover_listed l = tillerclover_access_list(x, buffer, LENGTH - 1);
     expect(l.answer == TILLERCLOVER_LIST_NO_ROOM && l.length == 0, "a list was put into a buffer that is too short");
     expect(memcmp(buffer, before, sizeof buffer) == 0, "a list that does not fit wrote into the buffer");
-    l = tillerclover_access_list(pattern(), &queue, buffer, sizeof buffer);
+    pattern();
+    l = tillerclover_access_list(x, buffer, sizeof buffer);
     expect(l.answer == TILLERCLOVER_LIST_NOT_SOUND && l.length == 0, "tables of any bytes were listed");
     expect(memcmp(buffer, before, sizeof buffer) == 0, "tables that are not sound wrote into the buffer");
-    l = tillerclover_access_list(t, &queue, buffer, LENGTH);
+    x->tables = tables;
+    l = tillerclover_access_list(x, buffer, LENGTH);
     expect(l.answer == TILLERCLOVER_PERMITTED && l.length == LENGTH,
            "answer or length stands elsewhere in what is listed");
     memcpy(before, expected, LENGTH);
     expect(memcmp(buffer, before, sizeof buffer) == 0, "the list has another text");
+    expect(holds(&tables), "a list changed the tables");
 }
 
 struct list {
@@ -376,16 +428,16 @@ struct list {
     size_t length;
 };
 
-static void add_row(struct list *l, struct ace row)
+static void add_row(struct list *l, tillerclover_ace row)
 {
-    pack_ace(l->rows + l->length, &row);
+    tillerclover_pack_ace(l->rows + l->length, &row);
     l->length += TILLERCLOVER_ACE_LENGTH;
 }
 
-static void expect_tested(const struct list *l, enum tillerclover_answer answer, size_t row)
+static void expect_tested(const struct list *l, enum tillerclover_answer expected, size_t row)
 {
     tillerclover_tested tested = tillerclover_test_list(l->rows, l->length);
-    expect(tested.answer == answer && tested.row == row, "answer or row stands elsewhere in what is said of a list");
+    expect(tested.answer == expected && tested.row == row, "answer or row stands elsewhere in what is said of a list");
 }
 
 /* Lists of 32 and 33 rows, one that lost a byte, and a last row with each fault. */
@@ -404,7 +456,7 @@ static void tested_lists(void)
     l.length = last;
     add_row(&l, ace(205, TILLERCLOVER_MAY_RETRIEVE, TILLERCLOVER_WEIGHT, OWNER_UUID));
     expect_tested(&l, TILLERCLOVER_TEST_NOT_STORABLE, TILLERCLOVER_ACE_CAPACITY);
-    struct ace everybody = ace(1, TILLERCLOVER_MAY_UPDATE, TILLERCLOVER_ACL2, NULL);
+    tillerclover_ace everybody = ace(1, TILLERCLOVER_MAY_UPDATE, TILLERCLOVER_ACL2, NULL);
     everybody.kind = TILLERCLOVER_SUBJECT_CONNECTION;
     everybody.first = everybody.last = 9;
     l.length = last;
@@ -422,20 +474,17 @@ struct old_list {
 /* A row of an older terminal: anybody may retrieve WEIGHT. */
 static void add_old_row(struct old_list *list)
 {
-    uint8_t *row = list->bytes + list->length;
-    memcpy(row + TILLERCLOVER_OLD_SUBJECT_AT, NIL, sizeof NIL);
-    row[TILLERCLOVER_OLD_PERMISSION_AT] = TILLERCLOVER_MAY_RETRIEVE << TILLERCLOVER_OLD_PERMISSION_SHIFT;
-    for (unsigned i = 0; i < 8; i++) {
-        row[TILLERCLOVER_OLD_SET_AT + i] = (uint8_t)(TILLERCLOVER_SET_BIT(TILLERCLOVER_WEIGHT) >> (56 - 8 * i));
-    }
+    const tillerclover_old_row row = {
+        .subject = NIL, .permission = TILLERCLOVER_MAY_RETRIEVE, .set = TILLERCLOVER_SET_BIT(TILLERCLOVER_WEIGHT)};
+    tillerclover_pack_old_row(list->bytes + list->length, &row);
     list->length += TILLERCLOVER_OLD_ROW_LENGTH;
 }
 
 static void expect_not_converted(const struct old_list *list, size_t length, uint8_t *buffer, size_t capacity,
-                                 enum tillerclover_answer answer)
+                                 enum tillerclover_answer expected)
 {
     tillerclover_converted c = tillerclover_convert_list(list->bytes, length, buffer, capacity);
-    expect(c.answer == answer && c.length == 0, "a list of the older form was converted, or has another fault");
+    expect(c.answer == expected && c.length == 0, "a list of the older form was converted, or has another fault");
 }
 
 /* Sixteen rows for anybody in a buffer that just fits, and in one that just does not; one row more, and bad ones. */
@@ -463,7 +512,7 @@ static void conversions(void)
            "answer or length stands elsewhere in what is converted");
     struct list expected = {.length = 0};
     for (unsigned i = 0; i < TILLERCLOVER_ACE_CAPACITY; i++) {
-        struct ace row = ace(i + 1, TILLERCLOVER_MAY_RETRIEVE, TILLERCLOVER_WEIGHT, NULL);
+        tillerclover_ace row = ace(i + 1, TILLERCLOVER_MAY_RETRIEVE, TILLERCLOVER_WEIGHT, NULL);
         row.kind = TILLERCLOVER_SUBJECT_CONNECTION;
         row.connection = i % 2 ? TILLERCLOVER_ANON_CLEAR : TILLERCLOVER_AUTH_CRYPT;
         add_row(&expected, row);
@@ -475,27 +524,37 @@ static void conversions(void)
 /* A build with default rows: a clear brings them. A list with half a row counts as none, and the other list stays. */
 static void default_rows(void)
 {
-    uint8_t default_creds[TILLERCLOVER_CRED_LENGTH], default_aces[TILLERCLOVER_ACE_LENGTH];
-    struct cred c = cred(OWNER, OWNER_UUID);
-    struct ace a = ace(1, TILLERCLOVER_MAY_RETRIEVE, TILLERCLOVER_WEIGHT, OWNER_UUID);
-    pack_cred(default_creds, &c);
-    pack_ace(default_aces, &a);
-    tillerclover_tables expected = fresh();
+    uint8_t creds[TILLERCLOVER_CRED_LENGTH], aces[TILLERCLOVER_ACE_LENGTH];
+    tillerclover_cred c = cred(OWNER, OWNER_UUID);
+    tillerclover_ace a = ace(1, TILLERCLOVER_MAY_RETRIEVE, TILLERCLOVER_WEIGHT, OWNER_UUID);
+    tillerclover_pack_cred(creds, &c);
+    tillerclover_pack_ace(aces, &a);
+    const tillerclover_defaults half = {creds, sizeof creds - 1, aces, sizeof aces};
+    const tillerclover_defaults defaults = {creds, sizeof creds, aces, sizeof aces};
+    fresh();
+    tillerclover_tables expected = x->tables;
     expected.naces = 1;
-    memcpy(expected.aces, default_aces, sizeof default_aces);
-    tillerclover_tables t = tillerclover_clear(pattern(), &queue, default_creds, sizeof default_creds - 1, default_aces,
-                                               sizeof default_aces);
-    expect(same(&t, &expected), "half a row was taken, or an access row was not");
+    memcpy(expected.aces, aces, sizeof aces);
+    pattern();
+    tillerclover_clear(x, &half);
+    expect(holds(&expected), "half a row was taken, or an access row was not");
     expected.ncreds = 1;
-    memcpy(expected.creds, default_creds, sizeof default_creds);
-    t = tillerclover_clear(pattern(), &queue, default_creds, sizeof default_creds, default_aces, sizeof default_aces);
-    expect(same(&t, &expected), "a clear has other default rows");
-    t = tillerclover_fresh(&queue, default_creds, sizeof default_creds, default_aces, sizeof default_aces);
-    expect(same(&t, &expected), "fresh tables have other default rows");
-    struct record r = set_state(0, TILLERCLOVER_RESET);
-    tillerclover_outcome o = tillerclover_judge(fresh(), &queue, default_creds, sizeof default_creds, default_aces,
-                                                sizeof default_aces, 0, r.bytes, r.length, reply, sizeof reply);
-    expect(same(&o.tables, &expected), "RESET has other default rows");
+    memcpy(expected.creds, creds, sizeof creds);
+    pattern();
+    tillerclover_clear(x, &defaults);
+    expect(holds(&expected), "a clear has other default rows");
+    pattern();
+    tillerclover_fresh(x, &defaults);
+    expect(holds(&expected), "a new terminal has other default rows");
+    tillerclover_record r = tillerclover_set_state(0, TILLERCLOVER_RESET);
+    fresh();
+    tillerclover_outcome o = tillerclover_judge(x, &defaults, 0, r.bytes, r.length, reply, sizeof reply);
+    expect(o.answer == TILLERCLOVER_PERMITTED && holds(&expected), "RESET has other default rows");
+    fresh();
+    expect(hand_in(r).answer == TILLERCLOVER_PERMITTED, "a record was not kept");
+    o = tillerclover_take(x, &defaults, 0, reply, sizeof reply).outcome;
+    expect(o.answer == TILLERCLOVER_PERMITTED && holds(&expected), "a RESET that is taken has other default rows");
+    guarded();
 }
 
 /* ---- The clock, asserted roles, the queue */
@@ -505,22 +564,31 @@ static void clocks(void)
 {
     static const uint32_t first = 0x01020304, last = 0xA0B0C0D0;
     const uint32_t clock[] = {0, first - 1, first, last, last + 1, UINT32_MAX};
-    struct ace season = ace(1, TILLERCLOVER_MAY_RETRIEVE, TILLERCLOVER_WEIGHT, OWNER_UUID);
+    tillerclover_ace season = ace(1, TILLERCLOVER_MAY_RETRIEVE, TILLERCLOVER_WEIGHT, OWNER_UUID);
     season.first = first;
     season.last = last;
-    tillerclover_tables t = after(after(owned(), store_ace(OWNER, season)), set_state(OWNER, TILLERCLOVER_RFNOP));
+    owned();
+    must(store_ace(OWNER, season));
+    must(tillerclover_set_state(OWNER, TILLERCLOVER_RFNOP));
+    const tillerclover_tables before = x->tables;
     for (size_t i = 0; i < sizeof clock / sizeof *clock; i++) {
         now = clock[i];
-        tillerclover_outcome o = judge(t, request_bare(TILLERCLOVER_RETRIEVE, TILLERCLOVER_WEIGHT, OWNER));
         int within = first <= now && now <= last;
-        expect(o.answer == (within ? TILLERCLOVER_PERMITTED : TILLERCLOVER_NOT_PERMITTED),
+        expect(answer(bare(TILLERCLOVER_RETRIEVE, TILLERCLOVER_WEIGHT, OWNER)) ==
+                   (within ? TILLERCLOVER_PERMITTED : TILLERCLOVER_NOT_PERMITTED),
                "the clock is read otherwise");
-        expect(same(&o.tables, &t), "the clock changed the tables");
+        expect(holds(&before), "the clock changed the tables");
     }
     now = 0;
 }
 
-static void put_role(tillerclover_tables *t, size_t place, const struct record *r)
+static tillerclover_record assert_role(unsigned role, unsigned authority, uint32_t last)
+{
+    const tillerclover_role asserted = {role, authority, last};
+    return tillerclover_assert_role(HAULIER, &asserted);
+}
+
+static void put_role(tillerclover_tables *t, size_t place, const tillerclover_record *r)
 {
     memcpy(t->creds + TILLERCLOVER_CRED_ROW_LENGTH + TILLERCLOVER_CRED_ROLES_AT + place * TILLERCLOVER_ROLE_LENGTH,
            body_of(r), TILLERCLOVER_ROLE_LENGTH);
@@ -529,31 +597,34 @@ static void put_role(tillerclover_tables *t, size_t place, const struct record *
 /* Asserted roles follow the body in the caller's row, in order of arrival. They are read as they were sent. */
 static void roles(void)
 {
-    struct record one = assert_role(HAULIER, (struct asserted){ROLE, AUTHORITY, 0x01020304});
-    struct record two = assert_role(HAULIER, (struct asserted){ROLE, OTHER_AUTHORITY, UINT32_MAX});
-    struct record three = assert_role(HAULIER, (struct asserted){OTHER_ROLE, WORKS, UINT32_MAX});
-    tillerclover_tables t = owned(), expected;
-    expect(judge(t, one).answer == TILLERCLOVER_WRONG_STATE, "a role was asserted in RFPRO");
-    expected = t = after(t, set_state(OWNER, TILLERCLOVER_RFNOP));
+    tillerclover_record one = assert_role(ROLE, AUTHORITY, 0x01020304);
+    tillerclover_record two = assert_role(ROLE, OTHER_AUTHORITY, UINT32_MAX);
+    tillerclover_record three = assert_role(OTHER_ROLE, WORKS, UINT32_MAX);
+    owned();
+    expect(answer(one) == TILLERCLOVER_WRONG_STATE, "a role was asserted in RFPRO");
+    must(tillerclover_set_state(OWNER, TILLERCLOVER_RFNOP));
+    tillerclover_tables expected = x->tables;
     now = 0x01020304;
-    t = after(after(t, one), two);
+    must(one);
+    must(two);
     put_role(&expected, 0, &one);
     put_role(&expected, 1, &two);
-    expect(same(&t, &expected), "asserted roles stand elsewhere");
-    expect(judge(t, three).answer == TILLERCLOVER_ROLES_FULL, "a third role found a place");
-    tillerclover_outcome o = judge(t, request_bare(TILLERCLOVER_RETRIEVE, TILLERCLOVER_ROLES, HAULIER));
+    expect(holds(&expected), "asserted roles stand elsewhere");
+    expect(answer(three) == TILLERCLOVER_ROLES_FULL, "a third role found a place");
+    tillerclover_outcome o = judge(bare(TILLERCLOVER_RETRIEVE, TILLERCLOVER_ROLES, HAULIER));
     expect(o.permission == (TILLERCLOVER_MAY_RETRIEVE | TILLERCLOVER_MAY_UPDATE),
            "a partner has another permission on roles");
-    expect(o.reply == TILLERCLOVER_ROLE_CAPACITY * TILLERCLOVER_ROLE_LENGTH &&
-               memcmp(reply, t.creds + TILLERCLOVER_CRED_ROW_LENGTH + TILLERCLOVER_CRED_ROLES_AT, o.reply) == 0,
+    expect(o.reply_length == TILLERCLOVER_ROLE_CAPACITY * TILLERCLOVER_ROLE_LENGTH &&
+               memcmp(reply, x->tables.creds + TILLERCLOVER_CRED_ROW_LENGTH + TILLERCLOVER_CRED_ROLES_AT,
+                      o.reply_length) == 0,
            "the reply of roles has other bytes");
-    expect(judge(t, request_bare(TILLERCLOVER_RETRIEVE, TILLERCLOVER_ROLES, OWNER)).reply == 0,
+    expect(judge(bare(TILLERCLOVER_RETRIEVE, TILLERCLOVER_ROLES, OWNER)).reply_length == 0,
            "another partner has these roles");
     now++;
-    t = after(t, three);
+    must(three);
     put_role(&expected, 0, &two);
     put_role(&expected, 1, &three);
-    expect(same(&t, &expected), "a role that is over kept its place");
+    expect(holds(&expected), "a role that is over kept its place");
     now = 0;
 }
 
@@ -561,44 +632,82 @@ static void roles(void)
 static void queued_records(void)
 {
     uint8_t body[TILLERCLOVER_RECORD_MAX - TILLERCLOVER_HEADER_LENGTH];
-    tillerclover_tables t = after(fresh(), store_cred(0, cred(0x0102, OWNER_UUID)));
-    tillerclover_waiting expected = {{0}}, before;
+    static tillerclover_waiting expected, before;
     uint8_t *slot = expected.bytes + TILLERCLOVER_WAITING_SLOTS_AT;
     memset(body, 0x33, sizeof body);
-    struct record r = request(TILLERCLOVER_UPDATE, TILLERCLOVER_TARE, 0x0102, body, sizeof body);
-    tillerclover_taken taken = take(t);
-    expect(taken.outcome.answer == TILLERCLOVER_NOTHING_WAITING && taken.size == 0 && same(&taken.outcome.tables, &t),
+    tillerclover_record r = tillerclover_request(TILLERCLOVER_UPDATE, TILLERCLOVER_TARE, 0x0102, body, sizeof body);
+    fresh();
+    must(store_cred(0, cred(0x0102, OWNER_UUID)));
+    const tillerclover_tables tables = x->tables;
+    tillerclover_taken taken = take();
+    expect(taken.outcome.answer == TILLERCLOVER_NOTHING_WAITING && taken.record_length == 0 && holds(&tables),
            "something was taken where nothing waits");
-    tillerclover_outcome o = hand_in(t, r);
-    expect(o.answer == TILLERCLOVER_PERMITTED && nothing_but_answer(&o) && same(&o.tables, &t),
-           "a record was not kept");
+    tillerclover_outcome o = hand_in(r);
+    expect(o.answer == TILLERCLOVER_PERMITTED && nothing_but_answer(&o), "a record was not kept");
     expected.bytes[TILLERCLOVER_WAITING_COUNT_AT] = 1;
     slot[TILLERCLOVER_SLOT_SENDER_AT] = 1;
     slot[TILLERCLOVER_SLOT_SENDER_AT + 1] = 2;
     slot[TILLERCLOVER_SLOT_LENGTH_AT] = 1;
     memcpy(slot + TILLERCLOVER_SLOT_RECORD_AT, r.bytes, r.length);
-    expect(memcmp(&queue, &expected, sizeof queue) == 0, "a waiting record stands elsewhere");
-    before = queue;
-    expect(hand_in(t, r).answer == TILLERCLOVER_OCCUPIED, "a second record of one sender was kept");
-    queue.bytes[sizeof queue - 1] = 1;
-    taken = take(t);
-    expect(taken.outcome.answer == TILLERCLOVER_NOT_SOUND && taken.size == 0,
+    expect(memcmp(&x->waiting, &expected, sizeof expected) == 0, "a waiting record stands elsewhere");
+    before = x->waiting;
+    expect(hand_in(r).answer == TILLERCLOVER_OCCUPIED, "a second record of one sender was kept");
+    x->waiting.bytes[sizeof before - 1] = 1;
+    taken = take();
+    expect(taken.outcome.answer == TILLERCLOVER_NOT_SOUND && taken.record_length == 0 && !tillerclover_is_sound(x),
            "memory of any bytes was taken for sound");
-    expect(judge(t, r).answer == TILLERCLOVER_NOT_SOUND, "a record was judged beside memory that is not sound");
-    expect(tillerclover_access_list(t, &queue, reply, sizeof reply).answer == TILLERCLOVER_LIST_NOT_SOUND,
+    expect(answer(r) == TILLERCLOVER_NOT_SOUND, "a record was judged beside memory that is not sound");
+    expect(tillerclover_access_list(x, reply, sizeof reply).answer == TILLERCLOVER_LIST_NOT_SOUND,
            "a list beside such memory");
-    queue.bytes[sizeof queue - 1] = 0;
-    expect(memcmp(&queue, &before, sizeof queue) == 0, "a refusal changed the memory");
-    taken = take(t);
-    expect(taken.outcome.answer == TILLERCLOVER_NOT_PERMITTED && taken.outcome.length == 0, "a record was let through");
-    expect(taken.size == r.length && memcmp(taken.record, r.bytes, r.length) == 0, "size or record stands elsewhere");
+    x->waiting.bytes[sizeof before - 1] = 0;
+    expect(memcmp(&x->waiting, &before, sizeof before) == 0, "a refusal changed the memory");
+    taken = take();
+    expect(taken.outcome.answer == TILLERCLOVER_NOT_PERMITTED && nothing_but_answer(&taken.outcome),
+           "a record was let through");
+    expect(taken.record_length == r.length && memcmp(taken.record, r.bytes, r.length) == 0,
+           "the record that is taken stands elsewhere");
     memset(&expected, 0, sizeof expected);
     expected.bytes[TILLERCLOVER_WAITING_ROUND_AT] = 1;
     expected.bytes[TILLERCLOVER_WAITING_ROUND_AT + 1] = 1;
     expected.bytes[TILLERCLOVER_WAITING_ROUND_AT + 2] = 2;
-    expect(memcmp(&queue, &expected, sizeof queue) == 0, "a place was not emptied, or the round stands elsewhere");
-    expect(TILLERCLOVER_WAITING_SLOTS_AT + (TILLERCLOVER_CRED_CAPACITY + 1) * TILLERCLOVER_SLOT_LENGTH == sizeof queue,
+    expect(memcmp(&x->waiting, &expected, sizeof expected) == 0,
+           "a place was not emptied, or the round stands elsewhere");
+    expect(TILLERCLOVER_WAITING_SLOTS_AT + (TILLERCLOVER_CRED_CAPACITY + 1) * TILLERCLOVER_SLOT_LENGTH ==
+               sizeof x->waiting,
            "the memory has another size");
+}
+
+/* What the header says of sound queues: any order of slots, any number in the round. */
+static void sound_queues(void)
+{
+    fresh();
+    must(store_cred(0, cred(OWNER, OWNER_UUID)));
+    must(store_cred(0, cred(HAULIER, HAULIER_UUID)));
+    tillerclover_record first = bare(TILLERCLOVER_RETRIEVE, TILLERCLOVER_PSTAT, OWNER);
+    tillerclover_record second = bare(TILLERCLOVER_RETRIEVE, TILLERCLOVER_PSTAT, HAULIER);
+    uint8_t *at = x->waiting.bytes + TILLERCLOVER_WAITING_ROUND_AT;
+    expect(hand_in(second).answer == TILLERCLOVER_PERMITTED && hand_in(first).answer == TILLERCLOVER_PERMITTED,
+           "a record was not kept");
+    const tillerclover_waiting both = x->waiting;
+    expect(tillerclover_is_sound(x) && tillerclover_record_sender(take().record) == OWNER, "slots have an order");
+    x->waiting = both;
+    at[0] = 1, at[1] = 0, at[2] = 0;
+    expect(tillerclover_is_sound(x) && tillerclover_record_sender(take().record) == OWNER,
+           "after the unauthenticated another turn comes");
+    x->waiting = both;
+    at[0] = 1, at[1] = 0, at[2] = OWNER;
+    expect(tillerclover_is_sound(x) && tillerclover_record_sender(take().record) == HAULIER,
+           "the round stands elsewhere");
+    x->waiting = both;
+    at[0] = 1, at[1] = 9, at[2] = 9;
+    expect(tillerclover_is_sound(x) && tillerclover_record_sender(take().record) == OWNER,
+           "a round of no credential row does not begin anew");
+    x->waiting = both;
+    at[0] = 2;
+    expect(!tillerclover_is_sound(x), "a round begins with 2");
+    x->waiting = both;
+    at[2] = 1;
+    expect(!tillerclover_is_sound(x), "a number stands in a round that begins anew");
 }
 
 /* ---- Pointers to nothing */
@@ -607,22 +716,27 @@ static void queued_records(void)
  * written through. */
 static void no_bytes(uint8_t *nothing)
 {
-    struct record read = request_bare(TILLERCLOVER_RETRIEVE, TILLERCLOVER_CRED, 0);
-    tillerclover_tables t = tillerclover_fresh(&queue, nothing, 0, nothing, 0), expected = fresh();
-    expect(same(&t, &expected), "no list gave rows");
-    t = tillerclover_clear(pattern(), &queue, nothing, 0, nothing, 0);
-    expect(same(&t, &expected), "no list gave rows");
-    tillerclover_outcome o = tillerclover_judge(t, &queue, nothing, 0, nothing, 0, 0, nothing, 0, nothing, 0);
+    const tillerclover_defaults none = {nothing, 0, nothing, 0};
+    tillerclover_record read = bare(TILLERCLOVER_RETRIEVE, TILLERCLOVER_CRED, 0);
+    fresh();
+    const tillerclover_tables expected = x->tables;
+    pattern();
+    tillerclover_fresh(x, &none);
+    expect(holds(&expected), "no list gave rows");
+    pattern();
+    tillerclover_clear(x, &none);
+    expect(holds(&expected), "no list gave rows");
+    tillerclover_outcome o = tillerclover_judge(x, &none, 0, nothing, 0, nothing, 0);
     expect(o.answer == TILLERCLOVER_BAD_LENGTH, "an empty record was not refused for its length");
-    o = tillerclover_hand_in(t, &queue, nothing, 0);
+    o = tillerclover_hand_in(x, nothing, 0);
     expect(o.answer == TILLERCLOVER_BAD_LENGTH, "an empty record was not refused for its length");
-    o = tillerclover_judge(t, &queue, nothing, 0, nothing, 0, 0, read.bytes, read.length, nothing, 0);
+    o = tillerclover_judge(x, &none, 0, read.bytes, read.length, nothing, 0);
     expect(o.answer == TILLERCLOVER_NO_ROOM, "a reply was put into no buffer");
-    o = tillerclover_hand_in(t, &queue, read.bytes, read.length);
-    tillerclover_taken taken = tillerclover_take(t, &queue, nothing, 0, nothing, 0, 0, nothing, 0);
+    o = tillerclover_hand_in(x, read.bytes, read.length);
+    tillerclover_taken taken = tillerclover_take(x, &none, 0, nothing, 0);
     expect(o.answer == TILLERCLOVER_PERMITTED && taken.outcome.answer == TILLERCLOVER_NO_ROOM,
            "a reply was put into no buffer");
-    tillerclover_listed l = tillerclover_access_list(t, &queue, nothing, 0);
+    tillerclover_listed l = tillerclover_access_list(x, nothing, 0);
     expect(l.answer == TILLERCLOVER_LIST_NO_ROOM && l.length == 0, "a list was put into no buffer");
     tillerclover_tested tested = tillerclover_test_list(nothing, 0);
     expect(tested.answer == TILLERCLOVER_PERMITTED && tested.row == 0, "a list of no rows was refused");
@@ -633,13 +747,13 @@ static void no_bytes(uint8_t *nothing)
 int main(void)
 {
     static uint8_t array[1];
-    expect(tillerclover_version() == TILLERCLOVER_VERSION, "the version is another");
-    whole_tables();
+    memory[0] = memory[sizeof memory - 1] = 0x6D;
+    new_terminals();
     refused_tables();
-    tillerclover_tables full = each_field();
-    each_outcome(full);
-    stored_rows(full);
-    sets();
+    each_field();
+    each_outcome();
+    stored_rows();
+    links();
     subjects_and_wildcards();
     replies();
     texts();
@@ -649,6 +763,7 @@ int main(void)
     clocks();
     roles();
     queued_records();
+    sound_queues();
     no_bytes(NULL);
     no_bytes(array + 1);
     uint8_t *none = malloc(0);

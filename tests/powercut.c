@@ -4,21 +4,15 @@
 #include <stdio.h>
 #include <string.h>
 
-#include "../examples/requests.h"
 #include "chance.h"
+#include "tillerclover_records.h"
 #include "tillerclover_store.h"
-
-struct terminal {
-    tillerclover_tables tables;
-    tillerclover_waiting waiting;
-};
 
 enum {
     TABLES = sizeof(tillerclover_tables),
-    WHOLE = sizeof(struct terminal),
+    WHOLE = sizeof(tillerclover_terminal),
     INPUTS = 12000
 };
-_Static_assert(WHOLE == TABLES + TILLERCLOVER_WAITING_LENGTH, "an image has no padding");
 
 /* ---- The device and the program's loop */
 
@@ -60,29 +54,29 @@ static int stored(const uint8_t *image, unsigned cut)
 
 /* ---- The inputs of a day */
 
-static struct record any_record(void)
+static tillerclover_record any_record(void)
 {
     uint8_t uuid[TILLERCLOVER_UUID_LENGTH];
     unsigned sender = any(4) ? 0 : 1 + any(5);
     memset(uuid, (int)(1 + any(5)), sizeof uuid);
     switch (any(8)) {
     case 0:
-        return set_owner(sender, uuid);
+        return tillerclover_set_owner(sender, uuid);
     case 1:
-        return set_state(sender, (enum tillerclover_state)any(6));
+        return tillerclover_set_state(sender, (enum tillerclover_state)any(6));
     case 2:
-        return delete_row(any(2) ? TILLERCLOVER_CRED : TILLERCLOVER_ACL2, sender, 1 + any(6));
+        return tillerclover_delete_row(any(2) ? TILLERCLOVER_CRED : TILLERCLOVER_ACL2, sender, 1 + any(6));
     case 3:
-        return store_ace(sender, (struct ace){.number = 1 + any(6),
-                                              .kind = TILLERCLOVER_SUBJECT_UUID,
-                                              .uuid = uuid,
-                                              .permission = any(32),
-                                              .set = TILLERCLOVER_SET_BIT(TILLERCLOVER_TARE),
-                                              .last = UINT32_MAX});
+        return tillerclover_store_ace(sender, &(tillerclover_ace){.number = 1 + any(6),
+                                                                  .kind = TILLERCLOVER_SUBJECT_UUID,
+                                                                  .uuid = uuid,
+                                                                  .permission = any(32),
+                                                                  .set = TILLERCLOVER_SET_BIT(TILLERCLOVER_TARE),
+                                                                  .last = UINT32_MAX});
     case 4:
-        return request_text(TILLERCLOVER_UPDATE, TILLERCLOVER_TARE, sender, "00412");
+        return tillerclover_request_text(TILLERCLOVER_UPDATE, TILLERCLOVER_TARE, sender, "00412");
     default:
-        return store_cred(sender, (struct cred){.number = 1 + any(6), .subject = uuid, .type = 1});
+        return tillerclover_store_cred(sender, &(tillerclover_cred){.number = 1 + any(6), .subject = uuid, .type = 1});
     }
 }
 
@@ -95,7 +89,7 @@ enum kind {
 
 struct input {
     enum kind kind;
-    struct record record;
+    tillerclover_record record;
     uint32_t clock;
 };
 
@@ -106,49 +100,43 @@ struct input any_input(void)
 }
 
 /* The terminal after an input, and its answer. */
-static unsigned next(struct terminal *x, const struct input *i)
+static unsigned next(tillerclover_terminal *x, const struct input *i)
 {
     uint8_t reply[TILLERCLOVER_REPLY_MAX];
-    const struct record *r = &i->record;
-    tillerclover_outcome o;
+    const tillerclover_record *r = &i->record;
     switch (i->kind) {
     case CLEAR:
-        x->tables = tillerclover_clear(x->tables, &x->waiting, NULL, 0, NULL, 0);
+        tillerclover_clear(x, NULL);
         return 0;
     case HAND_IN:
-        o = tillerclover_hand_in(x->tables, &x->waiting, r->bytes, r->length);
-        break;
+        return tillerclover_hand_in(x, r->bytes, r->length).answer;
     case TAKE:
-        o = tillerclover_take(x->tables, &x->waiting, NULL, 0, NULL, 0, i->clock, reply, sizeof reply).outcome;
-        break;
+        return tillerclover_take(x, NULL, i->clock, reply, sizeof reply).outcome.answer;
     default:
-        o = tillerclover_judge(x->tables, &x->waiting, NULL, 0, NULL, 0, i->clock, r->bytes, r->length, reply,
-                               sizeof reply);
+        return tillerclover_judge(x, NULL, i->clock, r->bytes, r->length, reply, sizeof reply).answer;
     }
-    x->tables = o.tables;
-    return o.answer;
 }
 
 /* ---- Days */
 
 /* What a program has when the power comes on. */
-static struct terminal found(void)
+static tillerclover_terminal found(void)
 {
-    struct terminal x;
+    tillerclover_terminal x;
     memset(&x, 0, sizeof x);
     memcpy(&x, current(), image_size);
     return x;
 }
 
-static int equal(const struct terminal *x, const struct terminal *y)
+static int equal(const tillerclover_terminal *x, const tillerclover_terminal *y)
 {
     return memcmp(x, y, sizeof *x) == 0;
 }
 
 /* What is left of a terminal after a restart: with the tables alone nothing waits. */
-static struct terminal restarted(const struct terminal *x)
+static tillerclover_terminal restarted(const tillerclover_terminal *x)
 {
-    struct terminal left = *x;
+    tillerclover_terminal left = *x;
     memset((uint8_t *)&left + image_size, 0, sizeof left - image_size);
     return left;
 }
@@ -163,15 +151,15 @@ static void day(const char *name, uint64_t size)
     writes = cuts = 0;
     for (uint64_t i = 0; i < store_size; i++)
         device[i] = (uint8_t)any(256); /* memory of any content */
-    struct terminal x = found(), uncut;
-    struct record tare = request_text(TILLERCLOVER_RETRIEVE, TILLERCLOVER_TARE, 0, "");
+    tillerclover_terminal x = found(), uncut;
+    tillerclover_record tare = tillerclover_request_text(TILLERCLOVER_RETRIEVE, TILLERCLOVER_TARE, 0, "");
     expect(next(&x, &(struct input){JUDGE, tare, 0}) == TILLERCLOVER_NOT_SOUND, "new memory holds no tables");
     next(&x, &first); /* the first image */
     expect(stored((const uint8_t *)&x, 0), "the first image is stored");
     uncut = x;
     for (unsigned k = 0; k < INPUTS; k++) {
         struct input i = any_input();
-        struct terminal after = uncut;
+        tillerclover_terminal after = uncut;
         unsigned told = next(&x, &i), answer = next(&after, &i);
         if (stored((const uint8_t *)&x, any(3) ? 0 : 1 + any(40))) {
             expect(told == answer && equal(&x, &after), "an answered input is answered as without cuts");
@@ -181,7 +169,7 @@ static void day(const char *name, uint64_t size)
         }
         cuts++;
         x = found();
-        struct terminal with = restarted(&after), without = restarted(&uncut);
+        tillerclover_terminal with = restarted(&after), without = restarted(&uncut);
         expect(equal(&x, &with) || equal(&x, &without), "an input that was cut counts, or it is left out");
         counted += equal(&x, &with) && !equal(&x, &without);
         uncut = x;
@@ -192,36 +180,30 @@ static void day(const char *name, uint64_t size)
 
 /* ---- Stored in place */
 
-static int sound(const tillerclover_tables *t)
-{
-    static tillerclover_waiting nothing;
-    static uint8_t text[TILLERCLOVER_TEXT_MAX];
-    return tillerclover_access_list(*t, &nothing, text, sizeof text).answer == TILLERCLOVER_PERMITTED;
-}
-
 /* 24 credential rows, each written byte by byte over the tables: after a cut these are often neither the old nor the new ones. */
 static void in_place(void)
 {
-    static struct terminal x, y;
+    static tillerclover_terminal x, y;
     unsigned long failures = 0, neither = 0, but_sound = 0;
-    x.tables = tillerclover_fresh(&x.waiting, NULL, 0, NULL, 0);
+    tillerclover_fresh(&x, NULL);
     for (unsigned row = 1; row <= TILLERCLOVER_CRED_CAPACITY; row++) {
         uint8_t uuid[TILLERCLOVER_UUID_LENGTH];
         memset(uuid, (int)(0x10 + row), sizeof uuid);
-        struct input i = {JUDGE, store_cred(0, (struct cred){.number = row, .subject = uuid, .type = 1}), 0};
+        struct input i = {
+            JUDGE, tillerclover_store_cred(0, &(tillerclover_cred){.number = row, .subject = uuid, .type = 1}), 0};
         y = x;
         expect(next(&y, &i) == TILLERCLOVER_PERMITTED, "the row is stored");
-        tillerclover_tables torn = x.tables;
+        tillerclover_terminal torn = x;
         for (unsigned at = 0; at < TABLES; at++) {
-            uint8_t *byte = (uint8_t *)&torn + at, new = ((const uint8_t *)&y.tables)[at];
+            uint8_t *byte = (uint8_t *)&torn.tables + at, new = ((const uint8_t *)&y.tables)[at];
             if (*byte == new)
                 continue;
             for (unsigned value = 0; value < 256; value++, failures++) {
                 *byte = (uint8_t)value;
-                if (memcmp(&torn, &x.tables, TABLES) == 0 || memcmp(&torn, &y.tables, TABLES) == 0)
+                if (equal(&torn, &x) || equal(&torn, &y))
                     continue;
                 neither++;
-                but_sound += (unsigned long)sound(&torn);
+                but_sound += tillerclover_is_sound(&torn);
             }
             *byte = new;
         }

@@ -8,7 +8,7 @@
 set -uo pipefail
 cd "$(dirname "$0")/.." || exit 2
 
-ALL=(layout model crates clippy binding tool compare runs example interface store same install refuse documents vectors inputs terminal)
+ALL=(layout model crates clippy binding tool compare runs example interface store same install refuse documents vectors inputs targets terminal)
 root=$PWD
 work=$(mktemp -d) || exit 2
 trap 'rm -rf "$work"' EXIT
@@ -97,7 +97,7 @@ tool_cargo() { (cd tool && rm -f Cargo.lock && cargo "$1" --config ../tests/debi
 # ---- the tests
 
 # The C files.
-c_files() { find include bench tests examples -name '*.[ch]' | sort; }
+c_files() { find include bench tests targets examples -name '*.[ch]' | sort; }
 
 # Every file is in its layout: Rattle by rt, Rust by rustfmt.toml, C by .clang-format; scripts are clean by shellcheck.
 test_layout() {
@@ -109,7 +109,7 @@ test_layout() {
     log in_tool cargo fmt --check || failed=1
     mapfile -t files < <(c_files)
     log clang-format --dry-run --Werror "${files[@]}" || failed=1
-    log shellcheck .ci/run tests/*.sh bench/*.sh examples/terminal/*.sh packaging/*.sh || failed=1
+    log shellcheck .ci/run tests/*.sh targets/*.sh bench/*.sh examples/terminal/*.sh packaging/*.sh || failed=1
     return "$failed"
 }
 
@@ -169,8 +169,7 @@ test_runs() {
 
 # c_program NAME FLAG.. FILE..: a C program over the library, without a warning
 c_program() {
-    log cc -std=c11 -Wall -Wextra -Wpedantic -Werror -Iinclude "${@:2}" examples/requests.c examples/terminal/record.c \
-        target/staticlib/libterminal.a -o "$work/$1"
+    log cc -std=c11 -Wall -Wextra -Wpedantic -Wconversion -Werror -Iinclude "${@:2}" target/staticlib/libterminal.a -o "$work/$1"
 }
 
 # The C examples are built without a warning and print what they are to print.
@@ -182,28 +181,32 @@ test_example() {
     done
 }
 
-# compiles LANGUAGE TEXT: the compiler takes the text after the header, without a warning
+# compiles LANGUAGE TEXT: the compiler takes the text after the headers without a warning, also for 32 bits
 compiles() {
-    local compiler=cc
+    local compiler=cc bits
     [[ $1 != c++* ]] || compiler=c++
-    printf '#include "tillerclover.h"\n%s\n' "$2" |
-        "$compiler" -std="$1" -Wall -Wextra -Wpedantic -Werror -Iinclude -x "${compiler/cc/c}" -S -o /dev/null - >"$work/log" 2>&1
+    for bits in "-m64" "-m32 -ffreestanding"; do
+        # shellcheck disable=SC2086
+        printf '#include "tillerclover.h"\n%s\n' "$2" |
+            "$compiler" $bits -std="$1" -Wall -Wextra -Wpedantic -Wconversion -Wcast-qual -Werror -Iinclude -x "${compiler/cc/c}" -S -o /dev/null - \
+                >"$work/log" 2>&1 || return
+    done
 }
 
-# The header in C and C++, and what C sees of the library: layouts, edges, no bytes; also under the sanitizers.
+# The headers in C and C++, and what C sees of the library: layouts, edges, no bytes; also under the sanitizers.
 test_interface() {
     need cc gcc && need c++ g++ && library || return 1
-    local language failed=0
+    local language name failed=0
     for language in c11 c17 c++11 c++17; do
-        compiles $language 'int main(void) { return tillerclover_version() != TILLERCLOVER_VERSION; }' ||
-            { cat "$work/log" && echo "interface: $language does not take the header" && failed=1; }
-        ! compiles $language 'void dropped(tillerclover_waiting *w) { tillerclover_fresh(w, 0, 0, 0, 0); }' ||
+        compiles $language 'int interface(void) { return TILLERCLOVER_INTERFACE + TILLERCLOVER_FORMAT; }' &&
+            compiles $language $'#ifdef __GLIBC__\n#include "tillerclover_records.h"\n#endif' ||
+            { cat "$work/log" && echo "interface: $language does not take the headers" && failed=1; }
+        ! compiles $language 'void dropped(tillerclover_terminal *t) { tillerclover_hand_in(t, 0, 0); }' ||
             { echo "interface: in $language a result may be dropped" && failed=1; }
         compiles $language $'#if defined TILLERCLOVER_ASSERT || defined TILLERCLOVER_RESULT\n#error\n#endif' ||
             { echo "interface: in $language the header leaves a macro of its own" && failed=1; }
     done
-    local name
-    for name in interface yards; do
+    for name in interface records yards; do
         c_program "$name" "tests/$name.c" && log "$work/$name" &&
             c_program sanitized -g -fsanitize=address,undefined -fno-sanitize-recover=all "tests/$name.c" && log "$work/sanitized" ||
             failed=1
@@ -256,7 +259,7 @@ test_install() {
     log tool_of "$archive" || return 1
     touch "$archive" && cp -R tests/install "$outside" && sed -i "s|@BINDING@|$root/bindings/rust|" "$outside/Cargo.toml" || return 1
     log make install PREFIX="$prefix" ARCHIVE="$archive" &&
-        log outside_c "$prefix/lib" "$outside" && log diff - "$work/text" <<<"version 1000, state 1, answer 8" &&
+        log outside_c "$prefix/lib" "$outside" && log diff - "$work/text" <<<"interface 2000, format 1, state 1, answer 8, not permitted" &&
         log cmake -S "$outside" -B "$outside/build" -DCMAKE_PREFIX_PATH="$prefix" && log cmake --build "$outside/build" &&
         log "$outside/build/outside" &&
         log env TILLERCLOVER_LIB="$prefix/lib" cargo run --quiet --offline --manifest-path "$outside/Cargo.toml" || return 1
@@ -345,6 +348,11 @@ test_refuse() {
 # What the documents and the header say of the sources is so; each sentence of the papers has its row.
 test_documents() {
     need python3 python3 && log tests/documents.py && log tests/trace.py
+}
+
+# The library on the other processors, under emulation.
+test_targets() {
+    library && log targets/test.sh && cat "$work/log"
 }
 
 # The vectors are those that the model writes today.

@@ -53,7 +53,7 @@ static void part(const struct device *d, uint64_t place, uint64_t *start, uint64
     *end = *start == 2 * d->n ? length_of(d) : *start + d->n;
 }
 
-static int next(const struct device *d, const uint8_t *image, uint64_t from, uint64_t *place, uint8_t *byte)
+static uint64_t next(const struct device *d, const uint8_t *image, uint64_t from, uint64_t *place, uint8_t *byte)
 {
     return tillerclover_store_next(d->bytes, length_of(d), image, d->n, from, place, byte);
 }
@@ -66,11 +66,11 @@ static unsigned put(struct device *d, const uint8_t *image,
 {
     uint64_t from = 0, place;
     uint8_t byte;
-    unsigned writes = 0, differ = 0, same = holds(d, image);
+    unsigned writes = 0, differ = 0, same = holds(d, image) != 0;
     const uint8_t *spare = current(d) == d->bytes ? d->bytes + d->n : d->bytes;
     for (uint64_t i = 0; i < d->n; i++)
         differ += spare[i] != image[i];
-    int answer;
+    uint64_t answer;
     while ((answer = next(d, image, from, &place, &byte)) == TILLERCLOVER_STORE_WRITE) {
         expect(place < length_of(d) && place >= from, "writes rise, and lie in the store");
         expect(d->bytes[place] != byte, "a write changes its byte");
@@ -132,7 +132,7 @@ static int attempt(struct device *d, const uint8_t *image, const uint8_t *before
     for (;;) {
         if (any(8) == 0)
             from = any((unsigned)length_of(d) + 3); /* a program that lost its position */
-        int answer = next(d, image, from, &place, &byte);
+        uint64_t answer = next(d, image, from, &place, &byte);
         if (answer == TILLERCLOVER_STORE_DONE)
             return 1;
         expect(answer == TILLERCLOVER_STORE_WRITE, "a store of the right length fits");
@@ -186,7 +186,7 @@ static void lengths(void)
     for (uint64_t store = 0; store <= 40; store++)
         for (uint64_t n = 0; n <= 20; n++) {
             int fits = store == TILLERCLOVER_STORE_LENGTH(n);
-            int answer = tillerclover_store_next(bytes, store, image, n, 0, &place, &byte);
+            uint64_t answer = tillerclover_store_next(bytes, store, image, n, 0, &place, &byte);
             expect((answer == TILLERCLOVER_STORE_UNFIT) == !fits, "only a store of the right length fits");
             answer = tillerclover_store_current(bytes, store, n, &place);
             expect(answer == (fits ? TILLERCLOVER_STORE_DONE : TILLERCLOVER_STORE_UNFIT),

@@ -104,22 +104,22 @@ part_tables() {
 # The example terminal's own code reads the file, and writes one that the command reads.
 part_store() {
     cat >main.c <<'END'
-#include <string.h>
 #include "store.h"
 int main(int count, char **files)
 {
-    struct state state;
-    memset(&state, 0, sizeof state);
-    if (count != 3 || store_read(files[1], &state) != FOUND_WHOLE) {
+    static tillerclover_terminal state, none;
+    struct file from, to;
+    if (count != 3 || store_open(&from, files[1], &state) != FOUND_WHOLE || store_open(&to, files[2], &none) != FOUND_NOTHING) {
         return 1;
     }
-    store_write(files[2], &state);
+    store_write(&to, &state);
     return 0;
 }
 END
     local code=$root/examples/terminal
-    cc -std=gnu11 -I"$code" -I"$root/include" main.c "$code/store.c" "$code/fail.c" -o again || return
+    cc -std=c11 -D_GNU_SOURCE -I"$code" -I"$root/include" main.c "$code"/{store,file,fail}.c -o again || fault "the terminal's store is not built"
     yard a
+    rm -f b
     ./again a b || fault "the terminal does not read the file"
     cmp -s a b || fault "the terminal writes another file"
     gives 0 "b: sound" show b
@@ -636,7 +636,7 @@ part_habits() {
     sum=$(sha256sum "$root/target/staticlib/libterminal.a" | cut -d ' ' -f 1)
     gives 0 "libterminal.a      sha256 $sum" --version
     gives 0 "libterminal.a      sha256 $sum" list make --version
-    gives 0 "library interface  $(sed -n 's/^#define TILLERCLOVER_VERSION_MAJOR //p' "$root/include/tillerclover.h")." show --version
+    gives 0 "library interface  $(sed -n 's/^#define TILLERCLOVER_INTERFACE_MAJOR //p' "$root/include/tillerclover.h")." show --version
     gives 0 "toolchain          $(rt version | head -n 1)" judge --version
     # errors for programs
     gives 2 '{"error":{"file":"missing","kind":"failed","message":"cannot be read: no such file or directory","process":null,"status":2}}' show missing --json

@@ -11,40 +11,44 @@ enum {
     OCTET_STREAM = 42
 };
 
+/* The library's answers to a record by their number: CoAP code, seconds until it is worth trying again, and words where the
+ * terminal has its own. */
 struct meaning {
     unsigned code, max_age;
     const char *words;
 };
-
-/* The library's answers to a record by their number: CoAP code, seconds until it is worth trying again, words. */
 static const struct meaning MEANINGS[] = {
-    [0] = {0, 0, "permitted"},
-    [1] = {500, 0, "tables not sound: the terminal must be cleared"},
-    [2] = {413, 0, "record too short or too long"},
-    [3] = {405, 0, "no such verb"},
-    [4] = {400, 0, "a zero bit of the header is set"},
-    [5] = {400, 0, "connection and credential number disagree"},
-    [6] = {404, 0, "unknown resource"},
-    [7] = {401, 0, "no such credential"},
-    [8] = {403, 0, "not permitted"},
-    [9] = {405, 0, "verb not offered"},
-    [10] = {400, 0, "body malformed"},
-    [11] = {409, 0, "not in this device state"},
-    [12] = {409, 0, "target state not on the list"},
-    [13] = {404, 0, "no such row"},
-    [14] = {503, 60, "table full"},
-    [15] = {500, 0, "buffer too short for the reply"},
-    [16] = {403, 0, "no endpoint for the connection"},
-    [22] = {503, 60, "both places for asserted roles are taken"},
-    [26] = {503, 1, "another record of this sender waits"},
-    [27] = {503, 1, "the record was dropped with its row"},
+    [TILLERCLOVER_PERMITTED] = {205, 0, NULL},
+    [TILLERCLOVER_NOT_SOUND] = {500, 0, "tables not sound: the terminal must be cleared"},
+    [TILLERCLOVER_BAD_LENGTH] = {413, 0, NULL},
+    [TILLERCLOVER_NO_VERB] = {405, 0, NULL},
+    [TILLERCLOVER_ZERO_BIT_SET] = {400, 0, NULL},
+    [TILLERCLOVER_MISMATCH] = {400, 0, NULL},
+    [TILLERCLOVER_UNKNOWN_RESOURCE] = {404, 0, NULL},
+    [TILLERCLOVER_NO_CREDENTIAL] = {401, 0, NULL},
+    [TILLERCLOVER_NOT_PERMITTED] = {403, 0, NULL},
+    [TILLERCLOVER_NOT_OFFERED] = {405, 0, NULL},
+    [TILLERCLOVER_MALFORMED] = {400, 0, NULL},
+    [TILLERCLOVER_WRONG_STATE] = {409, 0, NULL},
+    [TILLERCLOVER_BAD_TARGET] = {409, 0, NULL},
+    [TILLERCLOVER_MISSING] = {404, 0, NULL},
+    [TILLERCLOVER_FULL] = {503, 60, NULL},
+    [TILLERCLOVER_NO_ROOM] = {500, 0, NULL},
+    [TILLERCLOVER_NO_ENDPOINT] = {403, 0, NULL},
+    [TILLERCLOVER_ROLES_FULL] = {503, 60, NULL},
+    [TILLERCLOVER_OCCUPIED] = {503, 1, NULL},
+    [TILLERCLOVER_NOTHING_WAITING] = {503, 1, "the record was dropped with its row"},
 };
 
 static struct meaning meaning_of(unsigned number)
 {
     static const struct meaning NO_ANSWER = {500, 0, "not an answer to a record"};
-    bool listed = number < sizeof MEANINGS / sizeof *MEANINGS && MEANINGS[number].words != NULL;
-    return listed ? MEANINGS[number] : NO_ANSWER;
+    bool listed = number < sizeof MEANINGS / sizeof *MEANINGS && MEANINGS[number].code != 0;
+    struct meaning meaning = listed ? MEANINGS[number] : NO_ANSWER;
+    if (meaning.words == NULL) {
+        meaning.words = tillerclover_answer_text((enum tillerclover_answer)number);
+    }
+    return meaning;
 }
 
 const char *answer_meaning(unsigned number)
@@ -106,8 +110,10 @@ static struct answer yard(unsigned verb, uint64_t set)
 static struct answer weighed(const struct taken *t, struct plate *plate, uint32_t clock)
 {
     char text[PLATE_TEXT];
-    unsigned verb = record_verb(t->record);
-    switch (plate_act(plate, clock, verb, record_resource(t->record), t->record + t->start, t->length, text)) {
+    const tillerclover_outcome *o = &t->taken.outcome;
+    const uint8_t *record = t->taken.record;
+    unsigned verb = tillerclover_record_verb(record), resource = tillerclover_record_resource(record);
+    switch (plate_act(plate, clock, verb, resource, record + o->payload_offset, o->payload_length, text)) {
     case PLATE_NOT_OFFERED:
         return answer_words(405, "permitted, but the plate does not do this");
     case PLATE_BAD_BODY:
@@ -121,15 +127,16 @@ static struct answer weighed(const struct taken *t, struct plate *plate, uint32_
 
 struct answer answer_taken(const struct taken *t, struct plate *plate, uint32_t clock)
 {
-    unsigned verb = record_verb(t->record), resource = record_resource(t->record);
-    if (t->answer != TILLERCLOVER_PERMITTED) {
-        return answer_refusal(t->answer);
+    const tillerclover_outcome *o = &t->taken.outcome;
+    unsigned verb = tillerclover_record_verb(t->taken.record), resource = tillerclover_record_resource(t->taken.record);
+    if (o->answer != TILLERCLOVER_PERMITTED) {
+        return answer_refusal(o->answer);
     }
     if (resource < TILLERCLOVER_WEIGHT) {
-        return permitted(verb, OCTET_STREAM, t->buffer, t->reply);
+        return permitted(verb, OCTET_STREAM, t->reply, o->reply_length);
     }
     if (resource == TILLERCLOVER_YARD) {
-        return yard(verb, t->set);
+        return yard(verb, o->link_set);
     }
     return weighed(t, plate, clock);
 }

@@ -22,8 +22,9 @@ static void report(const struct core *c, const uint8_t *record, size_t size, uns
 {
     static const char *const VERBS[] = {"CREATE", "RETRIEVE", "UPDATE", "DELETE", "OBSERVE", "5", "6", "7"};
     if (c->verbose) {
-        log_line(record_sender(record) == 0 ? FRONT_CLEAR : FRONT_SECURE, "%u %s %s, %zu bytes: %u %s, %u.%02u",
-                 record_sender(record), VERBS[record_verb(record)], directory_path(record_resource(record)),
+        log_line(tillerclover_record_sender(record) == 0 ? FRONT_CLEAR : FRONT_SECURE,
+                 "%u %s %s, %zu bytes: %u %s, %u.%02u", tillerclover_record_sender(record),
+                 VERBS[tillerclover_record_verb(record)], directory_path(tillerclover_record_resource(record)),
                  size - TILLERCLOVER_HEADER_LENGTH, number, answer_meaning(number), code / 100, code % 100);
     }
 }
@@ -101,17 +102,17 @@ static void refuse(struct core *c, const struct client *from, unsigned number)
 }
 
 /* Whether the record may change the tables. */
-static bool may_store(const struct record *r)
+static bool may_store(const tillerclover_record *r)
 {
-    unsigned verb = record_verb(r->bytes);
+    unsigned verb = tillerclover_record_verb(r->bytes);
     return verb != TILLERCLOVER_RETRIEVE && verb != TILLERCLOVER_OBSERVE &&
-           record_resource(r->bytes) < TILLERCLOVER_WEIGHT;
+           tillerclover_record_resource(r->bytes) < TILLERCLOVER_WEIGHT;
 }
 
 /* Hands the record of a client in. False: it is refused, and answered. */
 static bool hand_in(struct core *c, const struct client *client)
 {
-    uint8_t number = terminal_hand_in(&c->terminal, &client->record);
+    enum tillerclover_answer number = terminal_hand_in(&c->terminal, &client->record);
     if (number != TILLERCLOVER_PERMITTED) {
         refuse(c, client, number);
     }
@@ -139,11 +140,12 @@ static void take_record(struct core *c, struct client *from)
 /* A front states who sent a record. It is believed so far: in clear that is nobody, and over DTLS somebody. */
 static bool is_record_of(int front, const struct message *m)
 {
-    if (m->length < TILLERCLOVER_HEADER_LENGTH || m->length > RECORD_ROOM) {
+    if (m->length < TILLERCLOVER_HEADER_LENGTH || m->length > TILLERCLOVER_RECORD_ROOM) {
         return false;
     }
-    bool crypt = record_connection(m->body) == TILLERCLOVER_AUTH_CRYPT;
-    return front == FRONT_SECURE ? crypt && record_sender(m->body) != 0 : !crypt && record_sender(m->body) == 0;
+    bool crypt = tillerclover_record_connection(m->body) == TILLERCLOVER_AUTH_CRYPT;
+    return front == FRONT_SECURE ? crypt && tillerclover_record_sender(m->body) != 0
+                                 : !crypt && tillerclover_record_sender(m->body) == 0;
 }
 
 /* False: no front says this. */
@@ -157,7 +159,8 @@ static bool take(struct core *c, int front, struct message *m)
         return true;
     case MESSAGE_RECORD:
         if (is_record_of(front, m)) {
-            struct client from = {.waits = true, .sender = record_sender(m->body), .front = front, .ticket = m->number};
+            struct client from = {
+                .waits = true, .sender = tillerclover_record_sender(m->body), .front = front, .ticket = m->number};
             from.record.length = m->length;
             memcpy(from.record.bytes, m->body, m->length);
             take_record(c, &from);
@@ -191,11 +194,12 @@ static void serve(struct core *c)
     size_t many = terminal_round(&c->terminal, clock, taken);
     for (size_t i = 0; i < many; i++) {
         struct answer a = answer_taken(&taken[i], &c->plate, clock);
-        struct client *client = find(c, record_sender(taken[i].record));
+        const tillerclover_taken *t = &taken[i].taken;
+        struct client *client = find(c, tillerclover_record_sender(t->record));
         if (client != NULL) {
             answer(c, client, &a);
         }
-        report(c, taken[i].record, taken[i].size, taken[i].answer, a.code);
+        report(c, t->record, t->record_length, t->outcome.answer, a.code);
     }
     answer_lost(c);
     end_sessions(c);

@@ -14,7 +14,7 @@ struct client {
     uint32_t ticket;
     /* The record is not handed in yet: it may change the tables, and they were stored a moment ago. */
     bool held;
-    struct record record;
+    tillerclover_record record;
 };
 
 struct core {

@@ -42,7 +42,7 @@ static void settle(const struct device *d)
     posix_fadvise(d->file.descriptor, 0, 0, POSIX_FADV_DONTNEED);
 }
 
-enum found device_open(struct device *d, const char *path, struct state *state)
+enum found device_open(struct device *d, const char *path, tillerclover_terminal *state)
 {
     uint64_t at;
     *d = (struct device){0};
@@ -56,7 +56,7 @@ enum found device_open(struct device *d, const char *path, struct state *state)
         tillerclover_store_current(d->bytes, DEVICE_LENGTH, DEVICE_IMAGE, &at) != TILLERCLOVER_STORE_DONE) {
         fail_to(d, "read", "it is too short");
     }
-    *state = (struct state){0};
+    *state = (tillerclover_terminal){0};
     memcpy(&state->tables, d->bytes + at, DEVICE_IMAGE);
     return FOUND_WHOLE;
 }
@@ -105,11 +105,11 @@ static void put(struct device *d, uint64_t at, uint8_t byte)
     d->writes++;
 }
 
-void device_write(struct device *d, const struct state *state)
+void device_write(struct device *d, const tillerclover_terminal *state)
 {
     const uint8_t *image = (const uint8_t *)&state->tables;
-    uint64_t from = 0, at, writes = 0;
-    uint8_t byte, answer;
+    uint64_t from = 0, at, writes = 0, answer;
+    uint8_t byte;
     while ((answer = tillerclover_store_next(d->bytes, DEVICE_LENGTH, image, DEVICE_IMAGE, from, &at, &byte)) ==
            TILLERCLOVER_STORE_WRITE) {
         if (writes++ > DEVICE_IMAGE) {

@@ -24,10 +24,10 @@ struct device {
 /* Opens, locks and reads the device. The tables are those that are current on it, sound or not; nothing waits. The state
  * is left as it was where there is no file. One of another length, one that cannot be read, or that another process has
  * locked, ends the program. */
-enum found device_open(struct device *d, const char *path, struct state *state);
+enum found device_open(struct device *d, const char *path, tillerclover_terminal *state);
 
 /* When this returns, the tables are on the device and survive a loss of power. Where there was no file, it is made. A
  * device that does not take or keep its bytes ends the program; the tables from before are then current, or these. */
-void device_write(struct device *d, const struct state *state);
+void device_write(struct device *d, const tillerclover_terminal *state);
 
 #endif

@@ -10,7 +10,9 @@ struct resource {
 };
 
 enum {
-    DIRECTORY_LENGTH = 13
+    DIRECTORY_LENGTH = 13,
+    /* A number that no resource has, for a path that is not in the directory: the library refuses it. */
+    DIRECTORY_NONE = 63
 };
 extern const struct resource DIRECTORY[DIRECTORY_LENGTH];
 

@@ -8,7 +8,7 @@ enum {
     LIFETIME = 247000
 };
 
-struct recent_request recent_request_of(const coap_session_t *session, const struct record *record,
+struct recent_request recent_request_of(const coap_session_t *session, const tillerclover_record *record,
                                         const coap_pdu_t *request)
 {
     coap_bin_const_t token = coap_pdu_get_token(request);
@@ -38,7 +38,7 @@ static struct recent_answer *place_for(struct recent *r, unsigned sender)
         if (a->since < oldest->since) {
             oldest = a;
         }
-        if (a->since != 0 && record_sender(a->request.record.bytes) == sender) {
+        if (a->since != 0 && tillerclover_record_sender(a->request.record.bytes) == sender) {
             many++;
             own = own == NULL || a->since < own->since ? a : own;
         }
@@ -48,7 +48,8 @@ static struct recent_answer *place_for(struct recent *r, unsigned sender)
 
 void recent_add(struct recent *r, const struct recent_request *request, const struct answer *answer)
 {
-    *place_for(r, record_sender(request->record.bytes)) = (struct recent_answer){clock_steady(), *request, *answer};
+    *place_for(r, tillerclover_record_sender(request->record.bytes)) =
+        (struct recent_answer){clock_steady(), *request, *answer};
 }
 
 const struct answer *recent_find(const struct recent *r, const struct recent_request *request)

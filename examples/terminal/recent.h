@@ -6,7 +6,7 @@
 #include <coap3/coap.h>
 
 #include "answer.h"
-#include "record.h"
+#include "tillerclover_records.h"
 
 /* For each credential, or in clear for all together, the latest ones. */
 enum {
@@ -23,7 +23,7 @@ struct recent_request {
     coap_pdu_code_t code;
     size_t token_length;
     uint8_t token[8];
-    struct record record;
+    tillerclover_record record;
 };
 
 struct recent_answer {
@@ -38,7 +38,7 @@ struct recent {
     struct recent_answer list[RECENT];
 };
 
-struct recent_request recent_request_of(const coap_session_t *session, const struct record *record,
+struct recent_request recent_request_of(const coap_session_t *session, const tillerclover_record *record,
                                         const coap_pdu_t *request);
 bool recent_same(const struct recent_request *a, const struct recent_request *b);
 

@@ -25,14 +25,14 @@ static unsigned verb_of(const coap_pdu_t *request)
     }
 }
 
-struct record request_record(const coap_resource_t *resource, unsigned sender, const coap_pdu_t *request)
+tillerclover_record request_record(const coap_resource_t *resource, unsigned sender, const coap_pdu_t *request)
 {
     const struct resource *entry = coap_resource_get_userdata((coap_resource_t *)(uintptr_t)resource);
     const uint8_t *body = NULL;
     size_t length = 0;
     coap_get_data(request, &length, &body);
-    return record_of(verb_of(request), sender != 0 ? TILLERCLOVER_AUTH_CRYPT : TILLERCLOVER_ANON_CLEAR,
-                     entry ? (unsigned)entry->number : RECORD_NO_RESOURCE, sender, body, length);
+    return tillerclover_record_of(verb_of(request), sender != 0 ? TILLERCLOVER_AUTH_CRYPT : TILLERCLOVER_ANON_CLEAR,
+                                  entry ? (unsigned)entry->number : DIRECTORY_NONE, sender, body, length);
 }
 
 bool request_options_served(const coap_pdu_t *request)

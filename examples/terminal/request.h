@@ -5,10 +5,10 @@
 #include <coap3/coap.h>
 
 #include "answer.h"
-#include "record.h"
+#include "tillerclover_records.h"
 
 /* `sender` is the credential number of the session's key, or 0 in clear. */
-struct record request_record(const coap_resource_t *resource, unsigned sender, const coap_pdu_t *request);
+tillerclover_record request_record(const coap_resource_t *resource, unsigned sender, const coap_pdu_t *request);
 
 /* Whether each option is one that the terminal serves, or may pass over. */
 bool request_options_served(const coap_pdu_t *request);

@@ -204,7 +204,7 @@ static void handle_new(struct server *s, const struct recent_request *key, coap_
                        const coap_pdu_t *request, coap_pdu_t *response)
 {
     coap_bin_const_t token = coap_pdu_get_token(request);
-    const struct record *r = &key->record;
+    const tillerclover_record *r = &key->record;
     struct waiting_client *w = waiting_free(&s->waiting);
     coap_pdu_t *copy = w != NULL ? coap_pdu_duplicate(request, session, token.length, token.s, NULL) : NULL;
     if (copy == NULL || !message_send(s->core, MESSAGE_RECORD, ++s->ticket, r->bytes, r->length)) {
@@ -229,7 +229,7 @@ static void handle(coap_resource_t *resource, coap_session_t *session, const coa
                    const coap_string_t *query, coap_pdu_t *response)
 {
     struct server *s = coap_get_app_data(coap_session_get_context(session));
-    struct record record = request_record(resource, sessions_sender(session), request);
+    tillerclover_record record = request_record(resource, sessions_sender(session), request);
     struct recent_request key = recent_request_of(session, &record, request);
     (void)query;
     if (s->secure && !sessions_shown(session)) {

@@ -7,15 +7,14 @@
  */
 struct image {
     uint8_t kind[8];
-    struct state state;
+    tillerclover_terminal state;
     uint8_t checksum[4];
 };
-_Static_assert(sizeof(struct image) == 8 + sizeof(tillerclover_tables) + sizeof(tillerclover_waiting) + 4,
-               "the file has no padding");
+_Static_assert(sizeof(struct image) == 8 + sizeof(tillerclover_terminal) + 4, "the file has no padding");
 
-/* With the version of the tables' bytes: a file of another one is not taken. */
+/* With the version of the format: a file of another one is not taken. */
 static const uint8_t KIND[8] = {
-    't', 'i', 'l', 'l', 'e', 'r', '0' + TILLERCLOVER_VERSION_MAJOR / 10, '0' + TILLERCLOVER_VERSION_MAJOR % 10,
+    't', 'i', 'l', 'l', 'e', 'r', '0' + TILLERCLOVER_FORMAT / 10, '0' + TILLERCLOVER_FORMAT % 10,
 };
 
 /* CRC-32 as in gzip, the low byte first. */
@@ -35,7 +34,7 @@ static void checksum(const void *bytes, size_t length, uint8_t sum[4])
     }
 }
 
-enum found store_open(struct file *f, const char *path, struct state *state)
+enum found store_open(struct file *f, const char *path, tillerclover_terminal *state)
 {
     /* one byte more, to see a file that is longer */
     uint8_t bytes[sizeof(struct image) + 1];
@@ -58,7 +57,7 @@ enum found store_open(struct file *f, const char *path, struct state *state)
     return FOUND_WHOLE;
 }
 
-void store_write(struct file *f, const struct state *state)
+void store_write(struct file *f, const tillerclover_terminal *state)
 {
     struct image image = {.state = *state};
     memcpy(image.kind, KIND, sizeof KIND);

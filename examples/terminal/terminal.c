@@ -3,8 +3,8 @@
 #include "fail.h"
 #include "terminal.h"
 
-/* This terminal's build has no default rows. */
-static const uint8_t NONE[1] = {0};
+/* This terminal's build has none. */
+static const tillerclover_defaults *const NO_DEFAULTS = NULL;
 
 /* ---- Storing */
 
@@ -56,12 +56,6 @@ void terminal_open(struct terminal *t, const char *path, bool on_device, bool ma
     }
 }
 
-/* An empty record is refused for its length, unless the tables are not sound: that check comes first. */
-static bool sound(struct terminal *t)
-{
-    return tillerclover_hand_in(t->now.tables, &t->now.waiting, NONE, 0).answer != TILLERCLOVER_NOT_SOUND;
-}
-
 bool terminal_start(struct terminal *t, uint32_t clock)
 {
     static struct taken taken[TERMINAL_PLACES];
@@ -69,22 +63,22 @@ bool terminal_start(struct terminal *t, uint32_t clock)
         /* Tables that are not sound: from here on it is the library that says so. */
         memset(&t->now.tables, 0xFF, sizeof t->now.tables);
         t->stored = t->now.tables;
-        return sound(t);
+        return tillerclover_is_sound(&t->now);
     }
     if (t->found == FOUND_NOTHING) {
-        t->now.tables = tillerclover_fresh(&t->now.waiting, NONE, 0, NONE, 0);
+        tillerclover_fresh(&t->now, NO_DEFAULTS);
     }
     t->stored = t->now.tables;
     terminal_round(t, clock, taken);
     /* Also where no table changed: a terminal that cannot store is not to start, and what waited in the file must not
      * be judged at the next start again. */
     store(t);
-    return sound(t);
+    return tillerclover_is_sound(&t->now);
 }
 
 void terminal_clear(struct terminal *t)
 {
-    t->now.tables = tillerclover_clear(t->now.tables, &t->now.waiting, NONE, 0, NONE, 0);
+    tillerclover_clear(&t->now, NO_DEFAULTS);
     store(t);
 }
 
@@ -96,28 +90,17 @@ bool terminal_knows(const struct terminal *t, unsigned sender)
     return sender == 0 || row_of(&t->now.tables, number) != NULL;
 }
 
-uint8_t terminal_hand_in(struct terminal *t, const struct record *r)
+enum tillerclover_answer terminal_hand_in(struct terminal *t, const tillerclover_record *r)
 {
-    return tillerclover_hand_in(t->now.tables, &t->now.waiting, r->bytes, r->length).answer;
+    return tillerclover_hand_in(&t->now, r->bytes, r->length).answer;
 }
 
 /* Takes the next record. False: none waits, or the tables are not sound. */
 static bool take(struct terminal *t, uint32_t clock, struct taken *next)
 {
-    tillerclover_taken k =
-        tillerclover_take(t->now.tables, &t->now.waiting, NONE, 0, NONE, 0, clock, next->buffer, sizeof next->buffer);
-    if (k.outcome.answer == TILLERCLOVER_NOTHING_WAITING || k.outcome.answer == TILLERCLOVER_NOT_SOUND) {
-        return false;
-    }
-    t->now.tables = k.outcome.tables;
-    next->answer = k.outcome.answer;
-    next->start = k.outcome.start;
-    next->length = k.outcome.length;
-    memcpy(next->record, k.record, sizeof next->record);
-    next->size = k.size;
-    next->set = k.outcome.set;
-    next->reply = k.outcome.reply;
-    return true;
+    next->taken = tillerclover_take(&t->now, NO_DEFAULTS, clock, next->reply, sizeof next->reply);
+    enum tillerclover_answer answer = next->taken.outcome.answer;
+    return answer != TILLERCLOVER_NOTHING_WAITING && answer != TILLERCLOVER_NOT_SOUND;
 }
 
 size_t terminal_round(struct terminal *t, uint32_t clock, struct taken taken[TERMINAL_PLACES])

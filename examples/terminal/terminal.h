@@ -5,8 +5,8 @@
 #include <stdbool.h>
 
 #include "device.h"
-#include "record.h"
 #include "store.h"
+#include "tillerclover_records.h"
 
 /* Records that can wait at a time: one of the unauthenticated, and one of each credential. */
 enum {
@@ -19,7 +19,7 @@ struct terminal {
     struct device device;
     struct file file;
     enum found found;
-    struct state now;
+    tillerclover_terminal now;
     /* the tables as they are stored */
     tillerclover_tables stored;
     /* what was done since the start */
@@ -30,19 +30,10 @@ struct terminal {
     size_t ended_length;
 };
 
-/* A record that was taken, and what becomes of it: the fields of tillerclover_outcome that concern its sender. */
+/* A record that was taken, what becomes of it, and the reply's buffer. */
 struct taken {
-    uint8_t answer;
-    /* the payload: `length` bytes of the record from `start` on */
-    size_t start, length;
-    uint8_t record[TILLERCLOVER_RECORD_MAX];
-    /* how many bytes the record has */
-    size_t size;
-    /* the links of /yard */
-    uint64_t set;
-    /* the first `reply` bytes are the reply */
-    size_t reply;
-    uint8_t buffer[TILLERCLOVER_REPLY_MAX];
+    tillerclover_taken taken;
+    uint8_t reply[TILLERCLOVER_REPLY_MAX];
 };
 
 /* Opens the file or the device. Where there is none the program ends, unless `make` is set: then terminal_start makes
@@ -61,7 +52,7 @@ void terminal_clear(struct terminal *t);
 bool terminal_knows(const struct terminal *t, unsigned sender);
 
 /* TILLERCLOVER_PERMITTED: the record waits. Any other answer is final. */
-uint8_t terminal_hand_in(struct terminal *t, const struct record *r);
+enum tillerclover_answer terminal_hand_in(struct terminal *t, const tillerclover_record *r);
 
 /* One round: takes all that wait, in the library's order, and then stores the tables where they changed; `stores`
  * counts that. What `taken` holds may be answered when this returns. Gives the number of records. */

@@ -1,7 +1,7 @@
 //! The proved library, called on the model's cases. Whatever it must not write to
 //! is watched.
 
-use tillerclover::{interface, Tables, Taken, Waiting};
+use tillerclover::{interface, Tables, Waiting};
 
 use crate::case::{Call, Case, Seen, GUARD};
 use crate::defaults::Defaults;
@@ -25,70 +25,76 @@ pub fn queue(queue_bytes: &QueueBytes) -> Waiting {
     queue
 }
 
-/// The queue of a call, and a guard after it.
+/// The tables and the queue of a call, and a guard after each.
 #[repr(C)]
 struct Watched {
+    tables: Tables,
+    after_tables: [u8; GUARD],
     queue: Waiting,
-    guard: [u8; GUARD],
+    after_queue: [u8; GUARD],
 }
 
 const UNTOUCHED: [u8; GUARD] = [0x5B; GUARD];
 
 impl Watched {
-    fn new(queue_bytes: &QueueBytes) -> Watched {
-        Watched { queue: queue(queue_bytes), guard: UNTOUCHED }
+    fn new(case: &Case) -> Watched {
+        let (tables, queue) = (Tables::from_bytes(&case.tables), queue(&case.queue));
+        Watched { tables, after_tables: UNTOUCHED, queue, after_queue: UNTOUCHED }
     }
 
-    /// The queue afterwards.
-    fn bytes(&self) -> QueueBytes {
-        assert_eq!(self.guard, UNTOUCHED, "bytes behind the memory of what waits were written");
-        QueueBytes::from_bytes(&self.queue.bytes)
+    /// Tables and queue afterwards.
+    fn bytes(&self) -> (TableBytes, QueueBytes) {
+        assert_eq!(self.after_tables, UNTOUCHED, "bytes behind the tables were written");
+        assert_eq!(self.after_queue, UNTOUCHED, "bytes behind the memory of what waits were written");
+        (self.tables.to_bytes(), QueueBytes::from_bytes(&self.queue.bytes))
     }
 }
 
-/// Fresh tables and queue, whatever the queue was.
+/// Fresh tables and queue, whatever both were.
 pub fn fresh(case: &Case) -> (TableBytes, QueueBytes) {
-    let mut watched = Watched::new(&case.queue);
-    let tables = interface::fresh(&mut watched.queue, default_lists(&case.defaults));
-    (tables.to_bytes(), watched.bytes())
+    let mut watched = Watched::new(case);
+    interface::fresh(&mut watched.tables, &mut watched.queue, default_lists(&case.defaults));
+    watched.bytes()
 }
 
 pub fn clear(case: &Case) -> (TableBytes, QueueBytes) {
-    let mut watched = Watched::new(&case.queue);
-    let tables = interface::clear(&Tables::from_bytes(&case.tables), &mut watched.queue, default_lists(&case.defaults));
-    (tables.to_bytes(), watched.bytes())
+    let mut watched = Watched::new(case);
+    interface::clear(&mut watched.tables, &mut watched.queue, default_lists(&case.defaults));
+    watched.bytes()
 }
 
 /// The call of a case.
 pub fn judge(case: &Case) -> Seen {
     // The guard follows the buffer.
     let mut buffer = Case::pattern(case.capacity + GUARD);
-    let mut watched = Watched::new(&case.queue);
-    let tables = Tables::from_bytes(&case.tables);
+    let mut watched = Watched::new(case);
     let defaults = default_lists(&case.defaults);
-    let (reply, queue) = (&mut buffer[..case.capacity], &mut watched.queue);
+    let sound = interface::is_sound(&watched.tables, &watched.queue);
+    let (reply, tables, queue) = (&mut buffer[..case.capacity], &mut watched.tables, &mut watched.queue);
     let (outcome, taken, record) = match case.call {
-        Call::Judge => (interface::judge(&tables, queue, defaults, case.clock, &case.record, reply), 0, Vec::new()),
-        Call::HandIn => (interface::hand_in(&tables, queue, &case.record), 0, Vec::new()),
+        Call::Judge => (interface::judge(tables, queue, defaults, case.clock, &case.record, reply), 0, Vec::new()),
+        Call::HandIn => (interface::hand_in(tables, queue, &case.record), 0, Vec::new()),
         Call::Take => {
-            let Taken { outcome, size, record } = interface::take(&tables, queue, defaults, case.clock, reply);
-            (outcome, size, record.to_vec())
+            let taken = interface::take(tables, queue, defaults, case.clock, reply);
+            (taken.outcome, taken.record_length, taken.record.to_vec())
         }
     };
+    assert_eq!(sound, outcome.answer != tillerclover::Answer::NOT_SOUND, "sound is another thing than answer 1");
+    let (tables, queue) = watched.bytes();
     Seen {
         answer: outcome.answer.number(),
         permission: outcome.permission.number(),
-        payload: outcome.start..outcome.start.saturating_add(outcome.length),
-        reply: outcome.reply,
+        payload: outcome.payload_offset..outcome.payload_offset.saturating_add(outcome.payload_length),
+        reply: outcome.reply_length,
         buffer,
-        store_first: outcome.first,
-        store_count: outcome.many,
-        links: outcome.set.0,
-        link_count: outcome.size,
+        store_first: outcome.store_first,
+        store_count: outcome.store_count,
+        links: outcome.link_set.0,
+        link_count: outcome.link_count,
         taken,
         record,
-        tables: outcome.tables.to_bytes(),
-        queue: watched.bytes(),
+        tables,
+        queue,
     }
 }
 

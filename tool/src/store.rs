@@ -9,7 +9,7 @@ use std::process;
 use std::time::Duration;
 
 use tempfile::NamedTempFile;
-use tillerclover::{Given, Tables, Terminal, Waiting, VERSION_MAJOR};
+use tillerclover::{Given, Tables, Terminal, Waiting, FORMAT};
 
 use crate::error::{plain, Error, Kind};
 use crate::lock::Locked;
@@ -25,8 +25,8 @@ pub enum Form {
     Terminal,
 }
 
-/// With the version of the tables' bytes, as the example terminal writes it.
-const MARK: [u8; 8] = [b't', b'i', b'l', b'l', b'e', b'r', b'0' + VERSION_MAJOR / 10, b'0' + VERSION_MAJOR % 10];
+/// With the version of the format, as the example terminal writes it.
+const MARK: [u8; 8] = [b't', b'i', b'l', b'l', b'e', b'r', b'0' + FORMAT / 10, b'0' + FORMAT % 10];
 const BOTH: usize = Tables::SIZE + Waiting::SIZE;
 
 impl Form {

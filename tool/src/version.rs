@@ -2,7 +2,7 @@
 
 use std::sync::OnceLock;
 
-use tillerclover::{VERSION_MAJOR, VERSION_MINOR};
+use tillerclover::{FORMAT, INTERFACE_MAJOR, INTERFACE_MINOR};
 
 /// The SHA-256 of the archive that is linked.
 pub const ARCHIVE: &str = env!("TILLERCLOVER_ARCHIVE_SHA256");
@@ -14,7 +14,7 @@ pub fn long() -> &'static str {
     static LONG: OnceLock<String> = OnceLock::new();
     LONG.get_or_init(|| {
         format!(
-            "{}\nlibrary interface  {VERSION_MAJOR}.{VERSION_MINOR}\ntable format       {VERSION_MAJOR:02}\n\
+            "{}\nlibrary interface  {INTERFACE_MAJOR}.{INTERFACE_MINOR}\ntable format       {FORMAT:02}\n\
              toolchain          {TOOLCHAIN}\nlibterminal.a      sha256 {ARCHIVE}",
             env!("CARGO_PKG_VERSION")
         )
@@ -24,7 +24,7 @@ pub fn long() -> &'static str {
 /// The same in a line.
 pub fn line() -> String {
     format!(
-        "tillerclover {}, library interface {VERSION_MAJOR}.{VERSION_MINOR}, table format {VERSION_MAJOR:02}, libterminal.a sha256 {ARCHIVE}",
+        "tillerclover {}, library interface {INTERFACE_MAJOR}.{INTERFACE_MINOR}, table format {FORMAT:02}, libterminal.a sha256 {ARCHIVE}",
         env!("CARGO_PKG_VERSION")
     )
 }

@@ -8,13 +8,12 @@ fn state_of(tables: &mut Tables, waiting: &mut Waiting, clock: u32) -> Option<St
     let (mut buffer, mut reply) = ([0; 4], [0; interface::REPLY_MAX]);
     let record = record_in(&mut buffer, Verb::RETRIEVE, Resource::PSTAT, ANYONE, &[])?;
     let outcome = interface::judge(tables, waiting, Defaults::default(), clock, record, &mut reply);
-    *tables = outcome.tables;
     outcome.answer.is_permitted().then(|| State(reply[0] >> 5))
 }
 
 fn main() {
-    let mut waiting = Waiting::FRESH;
-    let mut tables = interface::fresh(&mut waiting, Defaults::default());
+    let (mut tables, mut waiting) = (Tables::default(), Waiting::FRESH);
+    interface::fresh(&mut tables, &mut waiting, Defaults::default());
     let state = state_of(&mut tables, &mut waiting, 0);
     println!("a new terminal is in {state:?} and holds {} credential rows", tables.ncreds);
     assert_eq!(state, Some(State::RFOTM));

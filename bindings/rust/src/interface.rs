@@ -1,9 +1,10 @@
-//! The functions of include/tillerclover.h, one by one, over slices. This is the
-//! one module that calls the library.
+//! The functions of include/tillerclover.h, one by one, over slices: tables and
+//! what waits are changed in place. This is the one module that calls the library.
 
 use core::mem::offset_of;
 
-use crate::names::{Answer, Permission, Set};
+use crate::names::{Answer, Permission, Resource, Set};
+use crate::record::Header;
 use crate::tables::{Tables, Waiting};
 
 /// The longest record that is not refused for its length.
@@ -25,46 +26,52 @@ pub struct Defaults<'a> {
     pub aces: &'a [u8],
 }
 
-/// What becomes of a record.
-#[repr(C)]
-#[derive(Clone, Copy, Debug)]
+/// The table that places to store are in.
+#[derive(Clone, Copy, Debug, PartialEq, Eq)]
+pub enum Table {
+    /// Credential rows.
+    Creds,
+    /// Access rows.
+    Aces,
+}
+
+/// What becomes of a record. All fields but the answer are 0, or none, for a refusal.
+#[derive(Clone, Copy, Debug, PartialEq, Eq)]
 pub struct Outcome {
     /// Permitted, or the first refusal that applies.
     pub answer: Answer,
-    /// The effective permission before the record changed the tables; of a refusal none.
+    /// The effective permission before the record changed the tables.
     pub permission: Permission,
     /// Where the payload begins in the record: 4 where it has a byte.
-    pub start: usize,
+    pub payload_offset: usize,
     /// How many bytes the payload has.
-    pub length: usize,
+    pub payload_length: usize,
     /// How many bytes of the lent buffer are the reply.
-    pub reply: usize,
+    pub reply_length: usize,
+    /// The table that a DELETE leaves places to store in.
+    pub store_table: Option<Table>,
     /// The first place to store after a DELETE.
-    pub first: usize,
+    pub store_first: usize,
     /// How many places there are to store.
-    pub many: usize,
+    pub store_count: usize,
     /// The links of /yard that the sender may use.
-    pub set: Set,
+    pub link_set: Set,
     /// How many links these are.
-    pub size: usize,
-    /// The tables that hold from now on.
-    pub tables: Tables,
+    pub link_count: usize,
 }
 
 /// What becomes of a take: a record, and its outcome.
-#[repr(C)]
 #[derive(Clone, Copy, Debug)]
 pub struct Taken {
     /// The outcome; its payload is a part of `record`.
     pub outcome: Outcome,
     /// How many bytes the record has; 0 where none was taken.
-    pub size: usize,
+    pub record_length: usize,
     /// The record, zeros behind it.
     pub record: [u8; RECORD_MAX],
 }
 
 /// What is said of a text.
-#[repr(C)]
 #[derive(Clone, Copy, Debug, PartialEq, Eq)]
 pub struct Listed {
     /// Permitted, not sound or no room.
@@ -74,7 +81,6 @@ pub struct Listed {
 }
 
 /// What is said of a list of access rows.
-#[repr(C)]
 #[derive(Clone, Copy, Debug, PartialEq, Eq)]
 pub struct Tested {
     /// Permitted, a bad size, a row not storable, or one that gives too much.
@@ -84,7 +90,6 @@ pub struct Tested {
 }
 
 /// What is said of a conversion.
-#[repr(C)]
 #[derive(Clone, Copy, Debug, PartialEq, Eq)]
 pub struct Converted {
     /// Permitted, a bad file, too many rows or no room.
@@ -93,111 +98,209 @@ pub struct Converted {
     pub length: usize,
 }
 
-const _: () = assert!(size_of::<usize>() == 8 && align_of::<Tables>() == 1 && align_of::<Waiting>() == 1);
+const _: () =
+    assert!(size_of::<usize>() <= size_of::<u64>() && align_of::<Tables>() == 1 && align_of::<Waiting>() == 1);
 const _: () = assert!(size_of::<Tables>() == 2172 && size_of::<Waiting>() == 6504);
 const _: () = assert!(offset_of!(Tables, state) == 0 && offset_of!(Tables, owned) == 1);
 const _: () = assert!(offset_of!(Tables, ncreds) == 2 && offset_of!(Tables, naces) == 3);
 const _: () = assert!(offset_of!(Tables, devowner) == 4 && offset_of!(Tables, rowners) == 20);
 const _: () = assert!(offset_of!(Tables, creds) == 84 && offset_of!(Tables, aces) == 1020);
-const _: () = assert!(size_of::<Outcome>() == 2240 && offset_of!(Outcome, tables) == 64);
-const _: () = assert!(offset_of!(Outcome, answer) == 0 && offset_of!(Outcome, permission) == 1);
-const _: () = assert!(offset_of!(Outcome, start) == 8 && offset_of!(Outcome, length) == 16);
-const _: () = assert!(offset_of!(Outcome, reply) == 24 && offset_of!(Outcome, first) == 32);
-const _: () = assert!(offset_of!(Outcome, many) == 40 && offset_of!(Outcome, set) == 48);
-const _: () = assert!(offset_of!(Outcome, size) == 56);
-const _: () = assert!(size_of::<Taken>() == 2504 && offset_of!(Taken, outcome) == 0);
-const _: () = assert!(offset_of!(Taken, size) == 2240 && offset_of!(Taken, record) == 2248);
-const _: () = assert!(size_of::<Listed>() == 16 && offset_of!(Listed, answer) == 0 && offset_of!(Listed, length) == 8);
-const _: () = assert!(size_of::<Tested>() == 16 && offset_of!(Tested, answer) == 0 && offset_of!(Tested, row) == 8);
-const _: () = assert!(size_of::<Converted>() == 16 && offset_of!(Converted, answer) == 0);
-const _: () = assert!(offset_of!(Converted, length) == 8);
+
+/// The numbers that the library says of a record.
+type Said = [u64; 9];
 
 extern "C" {
-    fn tillerclover_fresh(
-        waiting: *mut Waiting,
+    fn tillerclover_fresh_at(
+        counts: *mut u8,
+        devowner: *mut u8,
+        rowners: *mut u8,
+        creds: *mut u8,
+        aces: *mut u8,
+        queue: *mut u8,
+        default_creds: *const u8,
+        default_creds_length: u64,
+        default_aces: *const u8,
+        default_aces_length: u64,
+    );
+    fn tillerclover_clear_at(
+        counts: *mut u8,
+        devowner: *mut u8,
+        rowners: *mut u8,
+        creds: *mut u8,
+        aces: *mut u8,
+        queue: *mut u8,
+        default_creds: *const u8,
+        default_creds_length: u64,
+        default_aces: *const u8,
+        default_aces_length: u64,
+    );
+    fn tillerclover_is_sound_at(
+        counts: *const u8,
+        devowner: *const u8,
+        rowners: *const u8,
         creds: *const u8,
-        creds_length: usize,
         aces: *const u8,
-        aces_length: usize,
-    ) -> Tables;
-    fn tillerclover_clear(
-        tables: Tables,
-        waiting: *mut Waiting,
-        creds: *const u8,
-        creds_length: usize,
-        aces: *const u8,
-        aces_length: usize,
-    ) -> Tables;
-    fn tillerclover_judge(
-        tables: Tables,
-        waiting: *mut Waiting,
-        creds: *const u8,
-        creds_length: usize,
-        aces: *const u8,
-        aces_length: usize,
+        queue: *const u8,
+    ) -> u64;
+    fn tillerclover_judge_at(
+        counts: *mut u8,
+        devowner: *mut u8,
+        rowners: *mut u8,
+        creds: *mut u8,
+        aces: *mut u8,
+        queue: *mut u8,
+        default_creds: *const u8,
+        default_creds_length: u64,
+        default_aces: *const u8,
+        default_aces_length: u64,
         clock: u32,
         record: *const u8,
-        length: usize,
+        length: u64,
         reply: *mut u8,
-        room: usize,
-    ) -> Outcome;
-    fn tillerclover_hand_in(tables: Tables, waiting: *mut Waiting, record: *const u8, length: usize) -> Outcome;
-    fn tillerclover_take(
-        tables: Tables,
-        waiting: *mut Waiting,
+        capacity: u64,
+        said: *mut u64,
+    );
+    fn tillerclover_hand_in_at(
+        counts: *const u8,
+        devowner: *const u8,
+        rowners: *const u8,
         creds: *const u8,
-        creds_length: usize,
         aces: *const u8,
-        aces_length: usize,
+        queue: *mut u8,
+        record: *const u8,
+        length: u64,
+        said: *mut u64,
+    );
+    fn tillerclover_take_at(
+        counts: *mut u8,
+        devowner: *mut u8,
+        rowners: *mut u8,
+        creds: *mut u8,
+        aces: *mut u8,
+        queue: *mut u8,
+        default_creds: *const u8,
+        default_creds_length: u64,
+        default_aces: *const u8,
+        default_aces_length: u64,
         clock: u32,
         reply: *mut u8,
-        room: usize,
-    ) -> Taken;
-    fn tillerclover_access_list(tables: Tables, waiting: *const Waiting, text: *mut u8, room: usize) -> Listed;
-    fn tillerclover_test_list(rows: *const u8, length: usize) -> Tested;
-    fn tillerclover_convert_list(file: *const u8, length: usize, rows: *mut u8, room: usize) -> Converted;
+        capacity: u64,
+        said: *mut u64,
+        length: *mut u64,
+        bytes: *mut u8,
+    );
+    fn tillerclover_access_list_at(
+        counts: *const u8,
+        devowner: *const u8,
+        rowners: *const u8,
+        creds: *const u8,
+        aces: *const u8,
+        queue: *const u8,
+        text: *mut u8,
+        capacity: u64,
+        said: *mut u64,
+    );
+    fn tillerclover_test_list_at(rows: *const u8, length: u64, said: *mut u64);
+    fn tillerclover_convert_list_at(file: *const u8, length: u64, rows: *mut u8, capacity: u64, said: *mut u64);
 }
 
 // The library takes any bytes, keeps no pointer and reads and writes within the lengths alone. Each pointer and length
 // below is that of a living slice or reference, and what is written to is borrowed for the call alone.
 
-/// The tables of a new terminal. Nothing waits then.
+/// The five parts of tables, for a call: the first is state, owned and the two counts.
+#[inline(always)]
+fn parts(tables: &Tables) -> [*const u8; 5] {
+    let all: *const Tables = tables;
+    let at = |offset| all.cast::<u8>().wrapping_add(offset);
+    [0, offset_of!(Tables, devowner), offset_of!(Tables, rowners), offset_of!(Tables, creds), offset_of!(Tables, aces)]
+        .map(at)
+}
+
+/// The same of tables that the call changes.
+#[inline(always)]
+fn parts_mut(tables: &mut Tables) -> [*mut u8; 5] {
+    let all: *mut Tables = tables;
+    let at = |offset| all.cast::<u8>().wrapping_add(offset);
+    [0, offset_of!(Tables, devowner), offset_of!(Tables, rowners), offset_of!(Tables, creds), offset_of!(Tables, aces)]
+        .map(at)
+}
+
+impl Outcome {
+    /// What was said of this record. Where there are places to store, its resource names their table.
+    #[inline(always)]
+    fn of(said: &Said, record: &[u8]) -> Outcome {
+        let &[answer, permission, offset, length, reply_length, store_first, store_count, links, link_count] = said;
+        let table = || match Header::read(record)?.resource {
+            Resource::CRED => Some(Table::Creds),
+            _ => Some(Table::Aces),
+        };
+        Outcome {
+            answer: Answer(answer as u8),
+            permission: Permission(permission as u8),
+            payload_offset: offset as usize,
+            payload_length: length as usize,
+            reply_length: reply_length as usize,
+            store_table: if store_count == 0 { None } else { table() },
+            store_first: store_first as usize,
+            store_count: store_count as usize,
+            link_set: Set(links),
+            link_count: link_count as usize,
+        }
+    }
+}
+
+/// A new terminal, whatever tables and waiting records held.
 ///
 /// ```
-/// use tillerclover::{interface, Defaults, State, Waiting};
-/// let mut waiting = Waiting::FRESH;
-/// let tables = interface::fresh(&mut waiting, Defaults::default());
+/// use tillerclover::{interface, Defaults, State, Tables, Waiting};
+/// let (mut tables, mut waiting) = (Tables::default(), Waiting::FRESH);
+/// interface::fresh(&mut tables, &mut waiting, Defaults::default());
 /// assert_eq!((tables.state(), tables.creds().len()), (State::RFOTM, 0));
 /// ```
 #[inline]
-#[must_use]
-pub fn fresh(waiting: &mut Waiting, defaults: Defaults) -> Tables {
-    let Defaults { creds, aces } = defaults;
-    unsafe { tillerclover_fresh(waiting, creds.as_ptr(), creds.len(), aces.as_ptr(), aces.len()) }
+pub fn fresh(tables: &mut Tables, waiting: &mut Waiting, defaults: Defaults) {
+    let (Defaults { creds, aces }, queue) = (defaults, waiting.bytes.as_mut_ptr());
+    let [t0, t1, t2, t3, t4] = parts_mut(tables);
+    let (many, more) = (creds.len() as u64, aces.len() as u64);
+    unsafe { tillerclover_fresh_at(t0, t1, t2, t3, t4, queue, creds.as_ptr(), many, aces.as_ptr(), more) }
 }
 
-/// The clear button: the tables of a new terminal, whatever these are. Nothing waits then.
+/// The clear button: a new terminal, whatever was there.
 #[inline]
-#[must_use]
-pub fn clear(tables: &Tables, waiting: &mut Waiting, defaults: Defaults) -> Tables {
-    let Defaults { creds, aces } = defaults;
-    unsafe { tillerclover_clear(*tables, waiting, creds.as_ptr(), creds.len(), aces.as_ptr(), aces.len()) }
+pub fn clear(tables: &mut Tables, waiting: &mut Waiting, defaults: Defaults) {
+    let (Defaults { creds, aces }, queue) = (defaults, waiting.bytes.as_mut_ptr());
+    let [t0, t1, t2, t3, t4] = parts_mut(tables);
+    let (many, more) = (creds.len() as u64, aces.len() as u64);
+    unsafe { tillerclover_clear_at(t0, t1, t2, t3, t4, queue, creds.as_ptr(), many, aces.as_ptr(), more) }
 }
 
-/// Judges a record at once, with a buffer for a reply.
+/// Whether tables and waiting records are sound. Where they are not, every record is refused until a clear.
 ///
 /// ```
-/// use tillerclover::{interface, record, Answer, Defaults, Resource, Verb, Waiting, ANYONE};
-/// let (mut waiting, mut reply) = (Waiting::FRESH, [0; interface::REPLY_MAX]);
-/// let tables = interface::fresh(&mut waiting, Defaults::default());
+/// use tillerclover::{interface, Tables, Waiting};
+/// assert!(!interface::is_sound(&Tables::default(), &Waiting::FRESH));
+/// ```
+#[inline]
+#[must_use]
+pub fn is_sound(tables: &Tables, waiting: &Waiting) -> bool {
+    let [t0, t1, t2, t3, t4] = parts(tables);
+    unsafe { tillerclover_is_sound_at(t0, t1, t2, t3, t4, waiting.bytes.as_ptr()) != 0 }
+}
+
+/// Judges a record at once, with a buffer for a reply. A refusal changes no byte.
+///
+/// ```
+/// use tillerclover::{interface, record, Answer, Defaults, Resource, Tables, Verb, Waiting, ANYONE};
+/// let (mut tables, mut waiting, mut reply) = (Tables::default(), Waiting::FRESH, [0; interface::REPLY_MAX]);
+/// interface::fresh(&mut tables, &mut waiting, Defaults::default());
 /// let read = record(Verb::RETRIEVE, Resource::PSTAT, ANYONE, &[]);
-/// let outcome = interface::judge(&tables, &mut waiting, Defaults::default(), 0, &read, &mut reply);
-/// assert_eq!((outcome.answer, outcome.reply, reply[0]), (Answer::PERMITTED, 17, 1 << 5));
+/// let outcome = interface::judge(&mut tables, &mut waiting, Defaults::default(), 0, &read, &mut reply);
+/// assert_eq!((outcome.answer, outcome.reply_length, reply[0]), (Answer::PERMITTED, 17, 1 << 5));
 /// ```
 #[inline]
 #[must_use]
 pub fn judge(
-    tables: &Tables,
+    tables: &mut Tables,
     waiting: &mut Waiting,
     defaults: Defaults,
     clock: u32,
@@ -205,30 +308,35 @@ pub fn judge(
     reply: &mut [u8],
 ) -> Outcome {
     // The library's own function.
-    unsafe { judge_by(tillerclover_judge, tables, waiting, defaults, clock, record, reply) }
+    unsafe { judge_by(tillerclover_judge_at, tables, waiting, defaults, clock, record, reply) }
 }
 
-/// How the library and the benchmark's yardstick judge a record: tables, waiting records, the two default lists, clock,
-/// record and buffer, each pointer with its length.
+/// How the library and the benchmark's yardstick judge a record: the tables in five parts, waiting records, the two default
+/// lists, clock, record and buffer, each slice with its length, and a place for what is said.
 pub(crate) type Judging = unsafe extern "C" fn(
-    Tables,
-    *mut Waiting,
+    *mut u8,
+    *mut u8,
+    *mut u8,
+    *mut u8,
+    *mut u8,
+    *mut u8,
     *const u8,
-    usize,
+    u64,
     *const u8,
-    usize,
+    u64,
     u32,
     *const u8,
-    usize,
+    u64,
     *mut u8,
-    usize,
-) -> Outcome;
+    u64,
+    *mut u64,
+);
 
 /// A call of such a function, which must keep to what is said above of the library.
 #[inline(always)]
 pub(crate) unsafe fn judge_by(
     judging: Judging,
-    tables: &Tables,
+    tables: &mut Tables,
     waiting: &mut Waiting,
     defaults: Defaults,
     clock: u32,
@@ -236,53 +344,77 @@ pub(crate) unsafe fn judge_by(
     reply: &mut [u8],
 ) -> Outcome {
     let Defaults { creds, aces } = defaults;
+    let [t0, t1, t2, t3, t4] = parts_mut(tables);
+    let mut said = [0; 9];
     judging(
-        *tables,
-        waiting,
+        t0,
+        t1,
+        t2,
+        t3,
+        t4,
+        waiting.bytes.as_mut_ptr(),
         creds.as_ptr(),
-        creds.len(),
+        creds.len() as u64,
         aces.as_ptr(),
-        aces.len(),
+        aces.len() as u64,
         clock,
         record.as_ptr(),
-        record.len(),
+        record.len() as u64,
         reply.as_mut_ptr(),
-        reply.len(),
-    )
+        reply.len() as u64,
+        said.as_mut_ptr(),
+    );
+    Outcome::of(&said, record)
 }
 
 /// Hands a record in: it waits in its sender's place until its turn comes.
 #[inline]
 #[must_use]
 pub fn hand_in(tables: &Tables, waiting: &mut Waiting, record: &[u8]) -> Outcome {
-    unsafe { tillerclover_hand_in(*tables, waiting, record.as_ptr(), record.len()) }
+    let ([t0, t1, t2, t3, t4], queue) = (parts(tables), waiting.bytes.as_mut_ptr());
+    let (length, mut said) = (record.len() as u64, [0; 9]);
+    unsafe { tillerclover_hand_in_at(t0, t1, t2, t3, t4, queue, record.as_ptr(), length, said.as_mut_ptr()) }
+    Outcome::of(&said, record)
 }
 
 /// Takes the record whose turn it is, and judges it.
 #[inline]
 #[must_use]
-pub fn take(tables: &Tables, waiting: &mut Waiting, defaults: Defaults, clock: u32, reply: &mut [u8]) -> Taken {
+pub fn take(tables: &mut Tables, waiting: &mut Waiting, defaults: Defaults, clock: u32, reply: &mut [u8]) -> Taken {
     let Defaults { creds, aces } = defaults;
+    let [t0, t1, t2, t3, t4] = parts_mut(tables);
+    let (mut said, mut length, mut record) = ([0; 9], 0, [0; RECORD_MAX]);
     unsafe {
-        tillerclover_take(
-            *tables,
-            waiting,
+        tillerclover_take_at(
+            t0,
+            t1,
+            t2,
+            t3,
+            t4,
+            waiting.bytes.as_mut_ptr(),
             creds.as_ptr(),
-            creds.len(),
+            creds.len() as u64,
             aces.as_ptr(),
-            aces.len(),
+            aces.len() as u64,
             clock,
             reply.as_mut_ptr(),
-            reply.len(),
+            reply.len() as u64,
+            said.as_mut_ptr(),
+            &mut length,
+            record.as_mut_ptr(),
         )
     }
+    Taken { outcome: Outcome::of(&said, &record), record_length: length as usize, record }
 }
 
 /// Writes the access list as the office's JSON.
 #[inline]
 #[must_use]
 pub fn access_list(tables: &Tables, waiting: &Waiting, text: &mut [u8]) -> Listed {
-    unsafe { tillerclover_access_list(*tables, waiting, text.as_mut_ptr(), text.len()) }
+    let ([t0, t1, t2, t3, t4], queue) = (parts(tables), waiting.bytes.as_ptr());
+    let (capacity, mut said) = (text.len() as u64, [0; 2]);
+    unsafe { tillerclover_access_list_at(t0, t1, t2, t3, t4, queue, text.as_mut_ptr(), capacity, said.as_mut_ptr()) }
+    Listed { answer: Answer(said[0] as u8), length: said[1] as usize }
 }
 
 /// Tests a list of access rows before it is loaded.
@@ -297,7 +429,9 @@ pub fn access_list(tables: &Tables, waiting: &Waiting, text: &mut [u8]) -> Liste
 #[inline]
 #[must_use]
 pub fn test_list(rows: &[u8]) -> Tested {
-    unsafe { tillerclover_test_list(rows.as_ptr(), rows.len()) }
+    let mut said = [0; 2];
+    unsafe { tillerclover_test_list_at(rows.as_ptr(), rows.len() as u64, said.as_mut_ptr()) }
+    Tested { answer: Answer(said[0] as u8), row: said[1] as usize }
 }
 
 /// Makes access rows of an older terminal's list.
@@ -320,5 +454,7 @@ pub fn test_list(rows: &[u8]) -> Tested {
 #[inline]
 #[must_use]
 pub fn convert_list(file: &[u8], rows: &mut [u8]) -> Converted {
-    unsafe { tillerclover_convert_list(file.as_ptr(), file.len(), rows.as_mut_ptr(), rows.len()) }
+    let (length, capacity, mut said) = (file.len() as u64, rows.len() as u64, [0; 2]);
+    unsafe { tillerclover_convert_list_at(file.as_ptr(), length, rows.as_mut_ptr(), capacity, said.as_mut_ptr()) }
+    Converted { answer: Answer(said[0] as u8), length: said[1] as usize }
 }

@@ -2,7 +2,7 @@
 //! behind names and slices. It decides nothing itself.
 //!
 //! [`Terminal`] keeps the tables and what waits beside them together, and is what
-//! a program wants. [`interface`] has the eight functions of the C header one by
+//! a program wants. [`interface`] has the functions of the C header one by
 //! one, for a program that keeps both elsewhere.
 //!
 //! Every field of a record and of the tables has a type with names. These types
@@ -57,10 +57,13 @@ extern crate alloc;
 #[cfg(feature = "measure")]
 extern crate std;
 
-/// The version of the tables' bytes, as in the C header: what was stored under another one means other things.
-pub const VERSION_MAJOR: u8 = 1;
-/// The version of all else, as in the C header.
-pub const VERSION_MINOR: u8 = 0;
+/// The version of the interface, as in the C header.
+pub const INTERFACE_MAJOR: u8 = 2;
+/// What was added since.
+pub const INTERFACE_MINOR: u8 = 0;
+/// The version of the bytes of tables and waiting records, as in the C header: what was stored in another one means other
+/// things.
+pub const FORMAT: u8 = 1;
 
 #[allow(unsafe_code)]
 pub mod interface;
@@ -80,7 +83,7 @@ mod uuid;
 #[allow(unsafe_code)]
 pub mod yards;
 
-pub use interface::{Converted, Defaults, Listed, Outcome, Taken, Tested};
+pub use interface::{Converted, Defaults, Listed, Outcome, Table, Taken, Tested};
 pub use names::{Answer, Connection, Permission, PermissionError, Resource, Set, State, Verb, Wildcards};
 pub use record::{doxm_body, pstat_body, record_in, Header, ANYONE};
 #[cfg(feature = "alloc")]

@@ -12,25 +12,30 @@ use crate::tables::{Tables, Waiting};
 pub const ARCHIVE: &str = env!("TILLERCLOVER_ARCHIVE");
 
 extern "C" {
-    fn yardstick_judge(
-        tables: Tables,
-        waiting: *mut Waiting,
-        creds: *const u8,
-        creds_length: usize,
-        aces: *const u8,
-        aces_length: usize,
+    fn yardstick_judge_at(
+        counts: *mut u8,
+        devowner: *mut u8,
+        rowners: *mut u8,
+        creds: *mut u8,
+        aces: *mut u8,
+        queue: *mut u8,
+        default_creds: *const u8,
+        default_creds_length: u64,
+        default_aces: *const u8,
+        default_aces_length: u64,
         clock: u32,
         record: *const u8,
-        length: usize,
+        length: u64,
         reply: *mut u8,
-        room: usize,
-    ) -> Outcome;
+        capacity: u64,
+        said: *mut u64,
+    );
 }
 
 /// The same decision in C by hand, bench/yardstick.c, called as the library's is.
 #[inline]
 pub fn yardstick(
-    tables: &Tables,
+    tables: &mut Tables,
     waiting: &mut Waiting,
     defaults: Defaults,
     clock: u32,
@@ -38,7 +43,7 @@ pub fn yardstick(
     reply: &mut [u8],
 ) -> Outcome {
     // It keeps no pointer, and stays within the lengths.
-    unsafe { judge_by(yardstick_judge, tables, waiting, defaults, clock, record, reply) }
+    unsafe { judge_by(yardstick_judge_at, tables, waiting, defaults, clock, record, reply) }
 }
 
 #[repr(C, align(16))]

@@ -76,10 +76,10 @@ impl<E: core::error::Error + 'static> core::error::Error for Error<E> {
     }
 }
 
-const DONE: u8 = 0;
-const WRITE: u8 = 1;
+const DONE: u64 = 0;
+const WRITE: u64 = 1;
 
-const _: () = assert!(size_of::<usize>() == size_of::<u64>());
+const _: () = assert!(size_of::<usize>() <= size_of::<u64>());
 
 extern "C" {
     fn tillerclover_store_next(
@@ -90,8 +90,8 @@ extern "C" {
         from: u64,
         place: *mut u64,
         byte: *mut u8,
-    ) -> u8;
-    fn tillerclover_store_current(store: *const u8, store_length: u64, n: u64, place: *mut u64) -> u8;
+    ) -> u64;
+    fn tillerclover_store_current(store: *const u8, store_length: u64, n: u64, place: *mut u64) -> u64;
 }
 
 // The library takes any bytes, keeps no pointer and reads within the lengths alone. Each pointer and length below is that

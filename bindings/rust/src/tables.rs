@@ -39,6 +39,13 @@ pub struct Tables {
     pub aces: [u8; Ace::CAPACITY * Ace::LENGTH],
 }
 
+/// All bytes are 0: no tables yet, and not sound. [`crate::interface::fresh`] makes them those of a new terminal.
+impl Default for Tables {
+    fn default() -> Tables {
+        Tables::from_bytes(&[0; Tables::SIZE])
+    }
+}
+
 impl Tables {
     /// How many bytes they have.
     pub const SIZE: usize = size_of::<Tables>();

@@ -1,5 +1,5 @@
 //! A terminal: the tables, what waits beside them and the build's default rows,
-//! kept together so that no change of the tables is lost.
+//! kept together, since they belong together.
 
 use alloc::string::String;
 use alloc::vec::Vec;
@@ -75,10 +75,10 @@ impl Response {
         Response {
             answer: outcome.answer,
             permission: outcome.permission,
-            payload: record[outcome.start..outcome.start + outcome.length].to_vec(),
-            reply: reply[..outcome.reply].to_vec(),
-            places: outcome.first..outcome.first + outcome.many,
-            links: outcome.set,
+            payload: record[outcome.payload_offset..][..outcome.payload_length].to_vec(),
+            reply: reply[..outcome.reply_length].to_vec(),
+            places: outcome.store_first..outcome.store_first + outcome.store_count,
+            links: outcome.link_set,
         }
     }
 }
@@ -114,8 +114,8 @@ impl Terminal {
     /// Where the archive is not of this crate's build.
     pub fn with_defaults(defaults: Given) -> Terminal {
         assert!(crate::yards::identified(), "the archive and this crate are not of one build");
-        let mut waiting = Waiting::FRESH;
-        let tables = interface::fresh(&mut waiting, defaults.lent());
+        let (mut tables, mut waiting) = (Tables::default(), Waiting::FRESH);
+        interface::fresh(&mut tables, &mut waiting, defaults.lent());
         Terminal { tables, waiting, defaults }
     }
 
@@ -124,7 +124,6 @@ impl Terminal {
         let mut reply = [0; REPLY_MAX];
         let Terminal { tables, waiting, defaults } = self;
         let outcome = interface::judge(tables, waiting, defaults.lent(), clock, record, &mut reply);
-        self.tables = outcome.tables;
         Response::new(&outcome, record, &reply)
     }
 
@@ -149,18 +148,18 @@ impl Terminal {
         let mut reply = [0; REPLY_MAX];
         let Terminal { tables, waiting, defaults } = self;
         let taken = interface::take(tables, waiting, defaults.lent(), clock, &mut reply);
-        self.tables = taken.outcome.tables;
-        (taken.record[..taken.size].to_vec(), Response::new(&taken.outcome, &taken.record, &reply))
+        (taken.record[..taken.record_length].to_vec(), Response::new(&taken.outcome, &taken.record, &reply))
     }
 
     /// The clear button.
     pub fn clear(&mut self) {
-        self.tables = interface::clear(&self.tables, &mut self.waiting, self.defaults.lent());
+        interface::clear(&mut self.tables, &mut self.waiting, self.defaults.lent());
     }
 
-    /// Whether tables and memory are sound. An empty record is refused for its length, but for unsoundness before that.
+    /// Whether tables and memory are sound.
+    #[must_use]
     pub fn is_sound(&self) -> bool {
-        interface::hand_in(&self.tables, &mut self.waiting.clone(), &[]).answer != Answer::NOT_SOUND
+        interface::is_sound(&self.tables, &self.waiting)
     }
 
     /// The access list as the office's JSON, or why there is none.

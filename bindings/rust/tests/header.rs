@@ -7,7 +7,7 @@ use std::collections::BTreeMap;
 use tillerclover::{
     interface, Ace, Answer, Asserted, Connection, Cred, Header, OldRow, Permission, Resource, State, Verb,
 };
-use tillerclover::{Waiting, Wildcards, VERSION_MAJOR, VERSION_MINOR};
+use tillerclover::{Waiting, Wildcards, FORMAT, INTERFACE_MAJOR, INTERFACE_MINOR};
 
 /// The header's enums, each with its constants; macros that are numbers stand in one without a name.
 fn header() -> BTreeMap<String, BTreeMap<String, usize>> {
@@ -68,12 +68,29 @@ fn names_mean_the_same() {
         ("WILDCARD_MINUS", Wildcards::UNSECURE.number()),
         ("WILDCARD_PLUS", Wildcards::SECURE.number()),
         ("MAY_DELETE", Permission::DELETE.number()),
-        ("VERSION_MAJOR", VERSION_MAJOR),
-        ("VERSION_MINOR", VERSION_MINOR),
+        ("INTERFACE_MAJOR", INTERFACE_MAJOR),
+        ("INTERFACE_MINOR", INTERFACE_MINOR),
+        ("FORMAT", FORMAT),
     ] {
         let found = header.values().find_map(|numbers| numbers.get(name));
         assert_eq!(found, Some(&number.into()), "{name}");
     }
+}
+
+#[test]
+fn answers_have_the_same_words() {
+    let path = concat!(env!("CARGO_MANIFEST_DIR"), "/include/tillerclover_records.h");
+    let text = std::fs::read_to_string(path).expect("the header of records");
+    let answers = &header()["answer"];
+    let mut words = BTreeMap::new();
+    for arm in text.split("case TILLERCLOVER_").skip(1) {
+        let (name, rest) = arm.split_once(':').expect("a name");
+        if let (Some(number), Some(said)) = (answers.get(name), rest.split('"').nth(1)) {
+            words.insert(*number, said.to_string());
+        }
+    }
+    let own: BTreeMap<_, _> = Answer::ALL.iter().map(|one| (usize::from(one.number()), one.to_string())).collect();
+    assert_eq!(words, own);
 }
 
 #[test]

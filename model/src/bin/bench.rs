@@ -153,9 +153,11 @@ struct Case {
     what: &'static str,
     put: Put,
     given: Given,
-    /// The queue of a call, and what is in it before the call.
-    lent: RefCell<Waiting>,
     queue: Waiting,
+    /// What the calls change in place.
+    lent: RefCell<(Given, Waiting)>,
+    /// Whether a call changes the tables, or the queue: then they are put back before the next one.
+    changes: (bool, bool),
 }
 
 impl Case {
@@ -172,26 +174,35 @@ impl Case {
             ));
         }
         let (given, queue) = (Given::from_bytes(&put.tables), queue(&put.queue));
-        Case { name, what, put, given, lent: RefCell::new(queue.clone()), queue }
+        let changes = (found.tables != put.tables, found.queue != put.queue);
+        Case { name, what, put, given, lent: RefCell::new((given, queue.clone())), queue, changes }
+    }
+
+    /// The tables and the queue of the next call.
+    fn put_back(&self, (given, queue): &mut (Given, Waiting)) {
+        if self.changes.0 {
+            *given = self.given;
+        }
+        if self.changes.1 {
+            queue.bytes.copy_from_slice(&self.queue.bytes);
+        }
     }
 
     fn ask_library(&self, reply: &mut Reply) {
         let Put { call, clock, record, defaults, .. } = &self.put;
-        let given = black_box(&self.given);
         let defaults = default_lists(defaults);
-        let mut queue_bytes = self.lent.borrow_mut();
-        let queue = black_box(&mut *queue_bytes);
+        let mut lent = self.lent.borrow_mut();
+        self.put_back(&mut lent);
+        let (given, queue) = black_box(&mut *lent);
         match call {
             Call::Judge => {
                 let record = black_box(record);
                 black_box(interface::judge(given, queue, defaults, black_box(*clock), record, black_box(reply)));
             }
             Call::HandIn => {
-                queue.bytes.copy_from_slice(&self.queue.bytes);
                 black_box(interface::hand_in(given, queue, black_box(record)));
             }
             Call::Take => {
-                queue.bytes.copy_from_slice(&self.queue.bytes);
                 black_box(interface::take(given, queue, defaults, black_box(*clock), black_box(reply)));
             }
         }
@@ -202,10 +213,11 @@ impl Case {
     }
 
     fn ask_yardstick(&self, reply: &mut Reply) {
-        let mut queue_bytes = self.lent.borrow_mut();
+        let mut lent = self.lent.borrow_mut();
+        let (given, queue) = black_box(&mut *lent);
         black_box(beside::yardstick(
-            black_box(&self.given),
-            black_box(&mut *queue_bytes),
+            given,
+            queue,
             default_lists(&self.put.defaults),
             black_box(self.put.clock),
             black_box(&self.put.record),
@@ -467,11 +479,12 @@ fn mixed(repetitions: u64) {
     }
     let count = cases.len() as f64;
     let all = [cases];
-    let fresh = RefCell::new(Waiting::FRESH);
+    let lent = RefCell::new((Given::default(), Waiting::FRESH));
     let library = |cases: &Vec<(Put, Given)>, reply: &mut Reply| {
+        let (tables, queue) = &mut *lent.borrow_mut();
         for (put, given) in cases {
-            let queue = &mut *fresh.borrow_mut();
-            black_box(interface::judge(given, queue, default_lists(&put.defaults), put.clock, &put.record, reply));
+            *tables = *given;
+            black_box(interface::judge(tables, queue, default_lists(&put.defaults), put.clock, &put.record, reply));
         }
     };
     let model = |cases: &Vec<(Put, Given)>| {
@@ -637,10 +650,10 @@ fn turns(repetitions: u64) {
     let times = measure(&cases, repetitions, |case, reply| case.ask_library(reply), |case| case.ask_model());
     // Calls that change the queue get a new one, which is none of their time.
     let restore = |case: &Case, _: &mut Reply| {
-        black_box(&mut *case.lent.borrow_mut()).bytes.copy_from_slice(&black_box(&case.queue).bytes);
+        black_box(&mut *case.lent.borrow_mut()).1.bytes.copy_from_slice(&black_box(&case.queue).bytes);
     };
     let copied = measure(&cases[..1], repetitions, restore, |_| {})[0].library;
-    let net = |at: usize| times[at].library - if cases[at].put.call == Call::Judge { 0.0 } else { copied };
+    let net = |at: usize| times[at].library - if cases[at].changes.1 { copied } else { 0.0 };
     for (at, case) in cases.iter().enumerate() {
         println!(
             "{:10}  {:6.0} ns  {:7.0} ns  {:5.2}  {:9.2}  {}",
@@ -663,45 +676,45 @@ const COMPARED: u64 = 300_000;
 /// The cases in which both are timed.
 const BY_HAND: [&str; 6] = ["serve", "foreman", "poll", "refuse1", "refuse2", "refuse8"];
 
-/// What the two make of a case: the library first.
-fn both(put: &Put) -> [Outcome; 2] {
-    let given = Given::from_bytes(&put.tables);
-    let queue = queue(&put.queue);
-    let (mut one, mut other) = (EMPTY, EMPTY);
-    [
-        interface::judge(&given, &mut queue.clone(), default_lists(&put.defaults), put.clock, &put.record, &mut one),
-        beside::yardstick(&given, &mut queue.clone(), default_lists(&put.defaults), put.clock, &put.record, &mut other),
-    ]
+/// How both are called.
+type Judging = fn(&mut Given, &mut Waiting, tillerclover::Defaults, u32, &[u8], &mut [u8]) -> Outcome;
+
+/// What the two make of a case, and the tables afterwards: the library first.
+fn both(put: &Put) -> [(Outcome, Given); 2] {
+    [interface::judge as Judging, beside::yardstick].map(|judging| {
+        let (mut given, mut queue, mut reply) = (Given::from_bytes(&put.tables), queue(&put.queue), EMPTY);
+        let defaults = default_lists(&put.defaults);
+        (judging(&mut given, &mut queue, defaults, put.clock, &put.record, &mut reply), given)
+    })
 }
 
 /// Whether they are equal. Of a record of a security resource only that it passes 1 to 7.
-fn equal([library, by_hand]: &[Outcome; 2]) -> bool {
-    if by_hand.answer == SECURITY {
-        return !(1..=7).contains(&library.answer.number());
+fn equal([library, by_hand]: &[(Outcome, Given); 2]) -> bool {
+    if by_hand.0.answer == SECURITY {
+        return !(1..=7).contains(&library.0.answer.number());
     }
-    let told = |o: &Outcome| (o.answer, o.permission, o.start, o.length, o.reply, o.first, o.many, o.set, o.size);
-    told(library) == told(by_hand) && library.tables.to_bytes() == by_hand.tables.to_bytes()
+    library == by_hand
 }
 
 /// The answer of both. Ends the program where they differ.
 fn agreed(put: &Put) -> u8 {
     let outcomes = both(put);
     if equal(&outcomes) {
-        return outcomes[1].answer.number();
+        return outcomes[1].0.answer.number();
     }
     let small = shrink(put.clone(), |put| !equal(&both(put)));
     eprintln!("bench: bench/yardstick.c differs from the library, on this case made as small as it goes:");
     eprintln!("{}", small.line());
-    for (side, o) in ["library", "by hand"].iter().zip(both(&small)) {
-        let tables = if o.tables.to_bytes() == small.tables { "unchanged" } else { "changed" };
+    for (side, (o, given)) in ["library", "by hand"].iter().zip(both(&small)) {
+        let tables = if given.to_bytes() == small.tables { "unchanged" } else { "changed" };
         eprintln!(
             "  {side}: answer {}, permission {}, payload from {} length {}, set {:016x} size {}, tables {tables}",
             o.answer.number(),
             o.permission.number(),
-            o.start,
-            o.length,
-            o.set.0,
-            o.size
+            o.payload_offset,
+            o.payload_length,
+            o.link_set.0,
+            o.link_count
         );
     }
     exit(1);
@@ -796,7 +809,7 @@ fn reply_in(buffer: &mut Buffer) -> &mut Reply {
 fn stack() {
     let mut cases: Vec<Case> = Rows::KINDS.iter().flat_map(|&rows| cases(rows)).collect();
     let (bytes, name) = deepest(&mut cases, Case::ask_library);
-    println!("\nstack of a decision, tables and outcome included: at most {bytes} bytes (`{name}`)");
+    println!("\nstack of a decision, outcome included: at most {bytes} bytes (`{name}`)");
     cases.retain(|case| BY_HAND.contains(&case.name));
     let (bytes, name) = deepest(&mut cases, Case::ask_yardstick);
     println!("the same by hand: at most {bytes} bytes (`{name}`)");
@@ -807,7 +820,7 @@ fn stack() {
     let text = depth(|buffer| {
         black_box(interface::access_list(black_box(&given), &fresh, black_box(&mut buffer[..])));
     });
-    println!("stack of an office text of full tables, tables included: {text} bytes");
+    println!("stack of an office text of full tables: {text} bytes");
     let full = list(Access::CAPACITY as u16, 1);
     let tested = depth(|_| {
         black_box(interface::test_list(black_box(&full)));

@@ -1,0 +1,346 @@
+/* Tillerclover: records and rows by what they say, and answers in words, for C11 and for C++11 and later.
+ *
+ * Nothing here decides: the library checks every field of what is packed. There is nothing to link; the functions are this
+ * header's own. A field keeps the low bits that it has room for, so a number that is too large is another number.
+ *
+ *     tillerclover_record tare = tillerclover_request_text(TILLERCLOVER_UPDATE, TILLERCLOVER_TARE, 7, "7420 kg");
+ *     outcome = tillerclover_judge(&terminal, NULL, now, tare.bytes, tare.length, reply, sizeof reply);
+ *     puts(tillerclover_answer_text(outcome.answer));
+ */
+#ifndef TILLERCLOVER_RECORDS_H
+#define TILLERCLOVER_RECORDS_H
+
+#include <string.h>
+
+#include "tillerclover.h"
+
+#ifdef __cplusplus
+extern "C" {
+#endif
+
+/* ---- Answers */
+
+/* An answer in a few words, as the command `tillerclover` prints it; docs/ANSWERS.md says what to do. */
+static inline const char *tillerclover_answer_text(enum tillerclover_answer answer)
+{
+    switch (answer) {
+    case TILLERCLOVER_PERMITTED:
+        return "permitted";
+    case TILLERCLOVER_NOT_SOUND:
+        return "tables not sound";
+    case TILLERCLOVER_BAD_LENGTH:
+        return "record too short or too long";
+    case TILLERCLOVER_NO_VERB:
+        return "no such verb";
+    case TILLERCLOVER_ZERO_BIT_SET:
+        return "a zero bit of the header is set";
+    case TILLERCLOVER_MISMATCH:
+        return "connection and credential number disagree";
+    case TILLERCLOVER_UNKNOWN_RESOURCE:
+        return "unknown resource";
+    case TILLERCLOVER_NO_CREDENTIAL:
+        return "no such credential";
+    case TILLERCLOVER_NOT_PERMITTED:
+        return "not permitted";
+    case TILLERCLOVER_NOT_OFFERED:
+        return "verb not offered";
+    case TILLERCLOVER_MALFORMED:
+        return "body malformed";
+    case TILLERCLOVER_WRONG_STATE:
+        return "not in this device state";
+    case TILLERCLOVER_BAD_TARGET:
+        return "target state not on the list";
+    case TILLERCLOVER_MISSING:
+        return "no such row";
+    case TILLERCLOVER_FULL:
+        return "table full";
+    case TILLERCLOVER_NO_ROOM:
+        return "buffer too short for the reply";
+    case TILLERCLOVER_NO_ENDPOINT:
+        return "no endpoint for the connection";
+    case TILLERCLOVER_LIST_NOT_SOUND:
+        return "no text: tables not sound";
+    case TILLERCLOVER_LIST_NO_ROOM:
+        return "no text: buffer too short";
+    case TILLERCLOVER_TEST_BAD_SIZE:
+        return "list of a bad size";
+    case TILLERCLOVER_TEST_NOT_STORABLE:
+        return "row not storable, or its number repeated";
+    case TILLERCLOVER_TEST_EXCESSIVE:
+        return "row gives too much";
+    case TILLERCLOVER_ROLES_FULL:
+        return "both places for asserted roles are taken";
+    case TILLERCLOVER_CONVERT_BAD_FILE:
+        return "no list of an older terminal";
+    case TILLERCLOVER_CONVERT_TOO_MANY:
+        return "too many rows";
+    case TILLERCLOVER_CONVERT_NO_ROOM:
+        return "buffer too short for the rows";
+    case TILLERCLOVER_OCCUPIED:
+        return "another record of this sender waits";
+    case TILLERCLOVER_NOTHING_WAITING:
+        return "nothing waits";
+    }
+    return "no answer";
+}
+
+/* ---- Numbers of 16, 32 and 64 bits, the most significant byte first */
+
+static inline void tillerclover_put_16(uint8_t *at, unsigned number)
+{
+    at[0] = (uint8_t)(number >> 8 & 255);
+    at[1] = (uint8_t)(number & 255);
+}
+
+static inline void tillerclover_put_32(uint8_t *at, uint32_t number)
+{
+    tillerclover_put_16(at, (unsigned)(number >> 16));
+    tillerclover_put_16(at + 2, (unsigned)(number & 65535));
+}
+
+static inline void tillerclover_put_64(uint8_t *at, uint64_t number)
+{
+    tillerclover_put_32(at, (uint32_t)(number >> 32));
+    tillerclover_put_32(at + 4, (uint32_t)(number & UINT32_MAX));
+}
+
+static inline unsigned tillerclover_get_16(const uint8_t *at)
+{
+    return (unsigned)at[0] << 8 | at[1];
+}
+
+/* ---- Rows, as the bodies that store them; these are also the rows of lists and of default rows */
+
+/* A credential row. `subject` is a UUID; role 0 is none. */
+typedef struct tillerclover_cred {
+    unsigned number;
+    const uint8_t *subject;
+    unsigned role, authority, type;
+} tillerclover_cred;
+
+/* An access row. Its subject is the UUID, the role with its authority, or the connection, by `kind`; the others are not
+ * looked at. It fits from the second `first` to the second `last`, both included: zeros are the second 0 alone. */
+typedef struct tillerclover_ace {
+    unsigned number;
+    enum tillerclover_subject kind;
+    const uint8_t *uuid;
+    unsigned role, authority;
+    enum tillerclover_connection connection;
+    unsigned permission, wildcards;
+    uint64_t set;
+    uint32_t first, last;
+} tillerclover_ace;
+
+/* A role that a partner asserts for itself, up to the last second and with it. */
+typedef struct tillerclover_role {
+    unsigned role, authority;
+    uint32_t last;
+} tillerclover_role;
+
+/* A row of an older terminal's list. The nil UUID stands for anybody. */
+typedef struct tillerclover_old_row {
+    const uint8_t *subject;
+    unsigned permission;
+    uint64_t set;
+} tillerclover_old_row;
+
+/* TILLERCLOVER_CRED_LENGTH bytes. */
+static inline void tillerclover_pack_cred(uint8_t *body, const tillerclover_cred *row)
+{
+    tillerclover_put_16(body + TILLERCLOVER_CRED_NUMBER_AT, row->number);
+    memcpy(body + TILLERCLOVER_CRED_SUBJECT_AT, row->subject, TILLERCLOVER_UUID_LENGTH);
+    tillerclover_put_16(body + TILLERCLOVER_CRED_ROLE_AT, row->role);
+    tillerclover_put_16(body + TILLERCLOVER_CRED_AUTHORITY_AT, row->authority);
+    body[TILLERCLOVER_CRED_TYPE_AT] = (uint8_t)((row->type & 63) << TILLERCLOVER_CRED_TYPE_SHIFT);
+}
+
+/* TILLERCLOVER_ACE_LENGTH bytes. */
+static inline void tillerclover_pack_ace(uint8_t *body, const tillerclover_ace *row)
+{
+    memset(body, 0, TILLERCLOVER_ACE_LENGTH);
+    tillerclover_put_16(body + TILLERCLOVER_ACE_NUMBER_AT, row->number);
+    tillerclover_put_16(body + TILLERCLOVER_ACE_WORD, ((unsigned)row->kind & 3) << TILLERCLOVER_ACE_KIND_SHIFT |
+                                                          (row->permission & 31) << TILLERCLOVER_ACE_PERMISSION_SHIFT |
+                                                          (row->wildcards & 7) << TILLERCLOVER_ACE_WILDCARDS_SHIFT);
+    tillerclover_put_64(body + TILLERCLOVER_ACE_SET_AT, row->set);
+    switch (row->kind) {
+    case TILLERCLOVER_SUBJECT_UUID:
+        memcpy(body + TILLERCLOVER_ACE_SUBJECT_AT, row->uuid, TILLERCLOVER_UUID_LENGTH);
+        break;
+    case TILLERCLOVER_SUBJECT_ROLE:
+        tillerclover_put_16(body + TILLERCLOVER_ACE_AUTHORITY_AT, row->authority);
+        tillerclover_put_16(body + TILLERCLOVER_ACE_ROLE_AT, row->role);
+        break;
+    case TILLERCLOVER_SUBJECT_CONNECTION:
+        body[TILLERCLOVER_ACE_CONNECTION_AT] = (uint8_t)((unsigned)row->connection & 1);
+        break;
+    }
+    tillerclover_put_32(body + TILLERCLOVER_ACE_FIRST_AT, row->first);
+    tillerclover_put_32(body + TILLERCLOVER_ACE_LAST_AT, row->last);
+}
+
+/* TILLERCLOVER_ROLE_LENGTH bytes. */
+static inline void tillerclover_pack_role(uint8_t *body, const tillerclover_role *role)
+{
+    tillerclover_put_16(body + TILLERCLOVER_ASSERTED_AUTHORITY_AT, role->authority);
+    tillerclover_put_16(body + TILLERCLOVER_ASSERTED_ROLE_AT, role->role);
+    tillerclover_put_32(body + TILLERCLOVER_ASSERTED_LAST_AT, role->last);
+}
+
+/* TILLERCLOVER_OLD_ROW_LENGTH bytes. */
+static inline void tillerclover_pack_old_row(uint8_t *bytes, const tillerclover_old_row *row)
+{
+    memcpy(bytes + TILLERCLOVER_OLD_SUBJECT_AT, row->subject, TILLERCLOVER_UUID_LENGTH);
+    bytes[TILLERCLOVER_OLD_PERMISSION_AT] = (uint8_t)((row->permission & 31) << TILLERCLOVER_OLD_PERMISSION_SHIFT);
+    tillerclover_put_64(bytes + TILLERCLOVER_OLD_SET_AT, row->set);
+}
+
+/* ---- Records */
+
+enum {
+    /* One byte too many: a longer body is cut here, and the library refuses the record for its length. */
+    TILLERCLOVER_RECORD_ROOM = TILLERCLOVER_RECORD_MAX + 1
+};
+
+/* A packed record. */
+typedef struct tillerclover_record {
+    size_t length;
+    uint8_t bytes[TILLERCLOVER_RECORD_ROOM];
+} tillerclover_record;
+
+/* A record with these fields, whether they make sense or not. `sender` is a credential number, or 0 for the
+ * unauthenticated. */
+static inline tillerclover_record tillerclover_record_of(unsigned verb, enum tillerclover_connection connection,
+                                                         unsigned resource, unsigned sender, const uint8_t *body,
+                                                         size_t length)
+{
+    tillerclover_record record;
+    memset(&record, 0, sizeof record);
+    if (length > TILLERCLOVER_RECORD_ROOM - TILLERCLOVER_HEADER_LENGTH) {
+        length = TILLERCLOVER_RECORD_ROOM - TILLERCLOVER_HEADER_LENGTH;
+    }
+    tillerclover_put_16(record.bytes + TILLERCLOVER_HEADER_WORD, (verb & 7) << TILLERCLOVER_VERB_SHIFT |
+                                                                     ((unsigned)connection & 1)
+                                                                         << TILLERCLOVER_CONNECTION_SHIFT |
+                                                                     (resource & 63) << TILLERCLOVER_RESOURCE_SHIFT);
+    tillerclover_put_16(record.bytes + TILLERCLOVER_SENDER_AT, sender);
+    if (length != 0) {
+        memcpy(record.bytes + TILLERCLOVER_HEADER_LENGTH, body, length);
+    }
+    record.length = TILLERCLOVER_HEADER_LENGTH + length;
+    return record;
+}
+
+/* Fields of a record, of which at least the header is there. */
+static inline unsigned tillerclover_record_verb(const uint8_t *record)
+{
+    return tillerclover_get_16(record + TILLERCLOVER_HEADER_WORD) >> TILLERCLOVER_VERB_SHIFT;
+}
+
+static inline enum tillerclover_connection tillerclover_record_connection(const uint8_t *record)
+{
+    return tillerclover_get_16(record + TILLERCLOVER_HEADER_WORD) >> TILLERCLOVER_CONNECTION_SHIFT & 1
+               ? TILLERCLOVER_AUTH_CRYPT
+               : TILLERCLOVER_ANON_CLEAR;
+}
+
+static inline unsigned tillerclover_record_resource(const uint8_t *record)
+{
+    return tillerclover_get_16(record + TILLERCLOVER_HEADER_WORD) >> TILLERCLOVER_RESOURCE_SHIFT & 63;
+}
+
+static inline unsigned tillerclover_record_sender(const uint8_t *record)
+{
+    return tillerclover_get_16(record + TILLERCLOVER_SENDER_AT);
+}
+
+/* ---- Records by what they ask for
+ *
+ * A sender with a credential number sends over AUTH_CRYPT, 0 over ANON_CLEAR. */
+
+/* A record with any body, with a text, and with none. */
+static inline tillerclover_record tillerclover_request(enum tillerclover_verb verb, enum tillerclover_resource resource,
+                                                       unsigned sender, const uint8_t *body, size_t length)
+{
+    return tillerclover_record_of(verb, sender != 0 ? TILLERCLOVER_AUTH_CRYPT : TILLERCLOVER_ANON_CLEAR, resource,
+                                  sender, body, length);
+}
+
+static inline tillerclover_record tillerclover_request_text(enum tillerclover_verb verb,
+                                                            enum tillerclover_resource resource, unsigned sender,
+                                                            const char *text)
+{
+    return tillerclover_request(verb, resource, sender, (const uint8_t *)text, strlen(text));
+}
+
+static inline tillerclover_record tillerclover_request_bare(enum tillerclover_verb verb,
+                                                            enum tillerclover_resource resource, unsigned sender)
+{
+    return tillerclover_request(verb, resource, sender, NULL, 0);
+}
+
+/* The device owner; the nil UUID for none. */
+static inline tillerclover_record tillerclover_set_owner(unsigned sender, const uint8_t *uuid)
+{
+    static const uint8_t nil[TILLERCLOVER_UUID_LENGTH] = {0};
+    uint8_t body[TILLERCLOVER_DOXM_LENGTH];
+    unsigned owned = memcmp(uuid, nil, sizeof nil) != 0;
+    body[0] = (uint8_t)(owned << TILLERCLOVER_DOXM_OWNED_SHIFT);
+    memcpy(body + TILLERCLOVER_DOXM_OWNER_AT, uuid, TILLERCLOVER_UUID_LENGTH);
+    return tillerclover_request(TILLERCLOVER_UPDATE, TILLERCLOVER_DOXM, sender, body, sizeof body);
+}
+
+/* The row owner of DOXM, PSTAT, CRED or ACL2; the nil UUID for none. */
+static inline tillerclover_record tillerclover_set_row_owner(enum tillerclover_resource resource, unsigned sender,
+                                                             const uint8_t *uuid)
+{
+    return tillerclover_request(TILLERCLOVER_UPDATE, resource, sender, uuid, TILLERCLOVER_UUID_LENGTH);
+}
+
+static inline tillerclover_record tillerclover_set_state(unsigned sender, enum tillerclover_state target)
+{
+    uint8_t body[TILLERCLOVER_PSTAT_LENGTH];
+    body[0] = (uint8_t)(((unsigned)target & 7) << TILLERCLOVER_PSTAT_TARGET_SHIFT);
+    return tillerclover_request(TILLERCLOVER_UPDATE, TILLERCLOVER_PSTAT, sender, body, sizeof body);
+}
+
+static inline tillerclover_record tillerclover_store_cred(unsigned sender, const tillerclover_cred *row)
+{
+    uint8_t body[TILLERCLOVER_CRED_LENGTH];
+    tillerclover_pack_cred(body, row);
+    return tillerclover_request(TILLERCLOVER_UPDATE, TILLERCLOVER_CRED, sender, body, sizeof body);
+}
+
+static inline tillerclover_record tillerclover_store_ace(unsigned sender, const tillerclover_ace *row)
+{
+    uint8_t body[TILLERCLOVER_ACE_LENGTH];
+    tillerclover_pack_ace(body, row);
+    return tillerclover_request(TILLERCLOVER_UPDATE, TILLERCLOVER_ACL2, sender, body, sizeof body);
+}
+
+static inline tillerclover_record tillerclover_assert_role(unsigned sender, const tillerclover_role *role)
+{
+    uint8_t body[TILLERCLOVER_ROLE_LENGTH];
+    tillerclover_pack_role(body, role);
+    return tillerclover_request(TILLERCLOVER_UPDATE, TILLERCLOVER_ROLES, sender, body, sizeof body);
+}
+
+/* The row of CRED or ACL2 with this number. A DELETE without a body takes all rows: tillerclover_request_bare. */
+static inline tillerclover_record tillerclover_delete_row(enum tillerclover_resource table, unsigned sender,
+                                                          unsigned number)
+{
+    uint8_t body[2];
+    tillerclover_put_16(body, number);
+    return tillerclover_request(TILLERCLOVER_DELETE, table, sender, body, sizeof body);
+}
+
+/* All credential rows of a subject. */
+static inline tillerclover_record tillerclover_delete_subject(unsigned sender, const uint8_t *uuid)
+{
+    return tillerclover_request(TILLERCLOVER_DELETE, TILLERCLOVER_CRED, sender, uuid, TILLERCLOVER_UUID_LENGTH);
+}
+
+#ifdef __cplusplus
+}
+#endif
+#endif
