@@ -2,16 +2,15 @@
  * a role and tries to write, and yard B's day is the same as without yard A. At last the owner stores a row that ends it.
  *
  *     rt staticlib terminal
- *     cc -std=c11 -Iinclude examples/two_yards.c examples/requests.c examples/terminal/record.c \
- *         target/staticlib/libterminal.a -o target/two_yards
+ *     cc -std=c11 -Iinclude examples/two_yards.c target/staticlib/libterminal.a -o target/two_yards
  *     target/two_yards
  *
- * requests.c packs the records. docs/YARDS.md says what is guaranteed, and what is not. */
+ * docs/YARDS.md says what is guaranteed, and what is not. */
 #include <stdio.h>
 #include <stdlib.h>
 #include <string.h>
 
-#include "requests.h"
+#include "tillerclover_records.h"
 
 enum {
     OWNER = 5,
@@ -25,37 +24,26 @@ enum {
 /* Yard A has the partners 7 and 9, yard B has 8 and 11: two bytes for each. */
 static const uint8_t YARD_A[] = {0, 7, 0, 9}, YARD_B[] = {0, 8, 0, 11};
 
-/* This build has no default rows: two lists of no bytes. */
-static const uint8_t NONE[1];
-
-/* What a terminal keeps. */
-struct terminal {
-    tillerclover_tables tables;
-    tillerclover_waiting waiting;
-};
+/* This build has none. */
+static const tillerclover_defaults *const NO_DEFAULTS = NULL;
 
 /* ---- one call each */
 
-static tillerclover_outcome judge(struct terminal *t, struct record r)
+static tillerclover_outcome judge(tillerclover_terminal *t, tillerclover_record r)
 {
     uint8_t reply[TILLERCLOVER_REPLY_MAX];
-    tillerclover_outcome o =
-        tillerclover_judge(t->tables, &t->waiting, NONE, 0, NONE, 0, 0, r.bytes, r.length, reply, sizeof reply);
-    t->tables = o.tables;
-    return o;
+    return tillerclover_judge(t, NO_DEFAULTS, 0, r.bytes, r.length, reply, sizeof reply);
 }
 
-static unsigned hand_in(struct terminal *t, struct record r)
+static unsigned hand_in(tillerclover_terminal *t, tillerclover_record r)
 {
-    return tillerclover_hand_in(t->tables, &t->waiting, r.bytes, r.length).answer;
+    return tillerclover_hand_in(t, r.bytes, r.length).answer;
 }
 
-static tillerclover_taken take(struct terminal *t)
+static tillerclover_taken take(tillerclover_terminal *t)
 {
     uint8_t reply[TILLERCLOVER_REPLY_MAX];
-    tillerclover_taken k = tillerclover_take(t->tables, &t->waiting, NONE, 0, NONE, 0, 0, reply, sizeof reply);
-    t->tables = k.outcome.tables;
-    return k;
+    return tillerclover_take(t, NO_DEFAULTS, 0, reply, sizeof reply);
 }
 
 /* ---- the yards */
@@ -70,7 +58,7 @@ static const uint8_t *subject(unsigned number)
     return uuid;
 }
 
-static void permitted(struct terminal *t, struct record r)
+static void permitted(tillerclover_terminal *t, tillerclover_record r)
 {
     if (judge(t, r).answer != TILLERCLOVER_PERMITTED) {
         printf("the set-up is refused\n");
@@ -79,45 +67,46 @@ static void permitted(struct terminal *t, struct record r)
 }
 
 /* Every partner may read the weight, 8 may write the tare, and a foreman may zero the plate. */
-static void set_up(struct terminal *t)
+static void set_up(tillerclover_terminal *t)
 {
-    const struct ace weight = {.number = 1,
-                               .kind = TILLERCLOVER_SUBJECT_CONNECTION,
-                               .connection = TILLERCLOVER_AUTH_CRYPT,
-                               .permission = TILLERCLOVER_MAY_RETRIEVE,
-                               .set = TILLERCLOVER_SET_BIT(TILLERCLOVER_WEIGHT),
-                               .last = UINT32_MAX};
-    const struct ace tare = {.number = 2,
-                             .kind = TILLERCLOVER_SUBJECT_UUID,
-                             .uuid = subject(8),
-                             .permission = TILLERCLOVER_MAY_UPDATE,
-                             .set = TILLERCLOVER_SET_BIT(TILLERCLOVER_TARE),
-                             .last = UINT32_MAX};
-    const struct ace zero = {.number = 3,
-                             .kind = TILLERCLOVER_SUBJECT_ROLE,
-                             .role = FOREMAN,
-                             .authority = WORKS,
-                             .permission = TILLERCLOVER_MAY_UPDATE,
-                             .set = TILLERCLOVER_SET_BIT(TILLERCLOVER_ZERO),
-                             .last = UINT32_MAX};
+    const tillerclover_ace weight = {.number = 1,
+                                     .kind = TILLERCLOVER_SUBJECT_CONNECTION,
+                                     .connection = TILLERCLOVER_AUTH_CRYPT,
+                                     .permission = TILLERCLOVER_MAY_RETRIEVE,
+                                     .set = TILLERCLOVER_SET_BIT(TILLERCLOVER_WEIGHT),
+                                     .last = UINT32_MAX};
+    const tillerclover_ace tare = {.number = 2,
+                                   .kind = TILLERCLOVER_SUBJECT_UUID,
+                                   .uuid = subject(8),
+                                   .permission = TILLERCLOVER_MAY_UPDATE,
+                                   .set = TILLERCLOVER_SET_BIT(TILLERCLOVER_TARE),
+                                   .last = UINT32_MAX};
+    const tillerclover_ace zero = {.number = 3,
+                                   .kind = TILLERCLOVER_SUBJECT_ROLE,
+                                   .role = FOREMAN,
+                                   .authority = WORKS,
+                                   .permission = TILLERCLOVER_MAY_UPDATE,
+                                   .set = TILLERCLOVER_SET_BIT(TILLERCLOVER_ZERO),
+                                   .last = UINT32_MAX};
     static const unsigned PARTNERS[] = {7, 9, 8, 11};
-    t->tables = tillerclover_fresh(&t->waiting, NONE, 0, NONE, 0);
-    permitted(t, store_cred(0, (struct cred){.number = OWNER, .subject = subject(OWNER)}));
-    permitted(t, set_owner(0, subject(OWNER)));
-    permitted(t, set_state(OWNER, TILLERCLOVER_RFPRO));
+    tillerclover_fresh(t, NO_DEFAULTS);
+    permitted(t, tillerclover_store_cred(0, &(tillerclover_cred){.number = OWNER, .subject = subject(OWNER)}));
+    permitted(t, tillerclover_set_owner(0, subject(OWNER)));
+    permitted(t, tillerclover_set_state(OWNER, TILLERCLOVER_RFPRO));
     for (size_t i = 0; i < sizeof PARTNERS / sizeof *PARTNERS; i++) {
-        permitted(t, store_cred(OWNER, (struct cred){.number = PARTNERS[i], .subject = subject(PARTNERS[i])}));
+        permitted(t, tillerclover_store_cred(
+                         OWNER, &(tillerclover_cred){.number = PARTNERS[i], .subject = subject(PARTNERS[i])}));
     }
-    permitted(t, store_ace(OWNER, weight));
-    permitted(t, store_ace(OWNER, tare));
-    permitted(t, store_ace(OWNER, zero));
-    permitted(t, set_state(OWNER, TILLERCLOVER_RFNOP));
+    permitted(t, tillerclover_store_ace(OWNER, &weight));
+    permitted(t, tillerclover_store_ace(OWNER, &tare));
+    permitted(t, tillerclover_store_ace(OWNER, &zero));
+    permitted(t, tillerclover_set_state(OWNER, TILLERCLOVER_RFNOP));
 }
 
 /* Asks the terminal of one yard, and prints what it says. */
-static void ask(const struct terminal *t, const char *name, const uint8_t *senders, size_t length)
+static void ask(const tillerclover_terminal *t, const char *name, const uint8_t *senders, size_t length)
 {
-    tillerclover_isolation i = tillerclover_isolated(&t->tables, senders, length);
+    tillerclover_isolation i = tillerclover_isolated(t, senders, length);
     printf("    yard %s: ", name);
     if (i.reason == TILLERCLOVER_ISOLATED) {
         printf("isolated\n");
@@ -129,7 +118,7 @@ static void ask(const struct terminal *t, const char *name, const uint8_t *sende
     }
 }
 
-static void ask_both(const struct terminal *t, const char *when)
+static void ask_both(const tillerclover_terminal *t, const char *when)
 {
     printf("%s:\n", when);
     ask(t, "A", YARD_A, sizeof YARD_A);
@@ -139,20 +128,20 @@ static void ask_both(const struct terminal *t, const char *when)
 /* ---- the day */
 
 /* What yard A does between two records of yard B. Returns how many of its records were permitted. */
-static unsigned disturb(struct terminal *t)
+static unsigned disturb(tillerclover_terminal *t)
 {
-    struct record weight = request_bare(TILLERCLOVER_RETRIEVE, TILLERCLOVER_WEIGHT, 7);
+    tillerclover_record weight = tillerclover_request_bare(TILLERCLOVER_RETRIEVE, TILLERCLOVER_WEIGHT, 7);
     unsigned count = 0;
     for (int i = 0; i < FLOOD; i++) {
         count += hand_in(t, weight) == TILLERCLOVER_PERMITTED;
     }
-    const struct record tries[] = {
-        assert_role(9, (struct asserted){.role = FOREMAN, .authority = WORKS, .last = UINT32_MAX}),
-        set_state(7, TILLERCLOVER_RESET),
-        set_owner(7, subject(7)),
-        store_cred(9, (struct cred){.number = 8, .subject = subject(9)}),
-        delete_row(TILLERCLOVER_ACL2, 7, 2),
-        request_text(TILLERCLOVER_UPDATE, TILLERCLOVER_TARE, 9, "0 kg"),
+    const tillerclover_record tries[] = {
+        tillerclover_assert_role(9, &(tillerclover_role){.role = FOREMAN, .authority = WORKS, .last = UINT32_MAX}),
+        tillerclover_set_state(7, TILLERCLOVER_RESET),
+        tillerclover_set_owner(7, subject(7)),
+        tillerclover_store_cred(9, &(tillerclover_cred){.number = 8, .subject = subject(9)}),
+        tillerclover_delete_row(TILLERCLOVER_ACL2, 7, 2),
+        tillerclover_request_text(TILLERCLOVER_UPDATE, TILLERCLOVER_TARE, 9, "0 kg"),
     };
     for (size_t i = 0; i < sizeof tries / sizeof *tries; i++) {
         count += judge(t, tries[i]).answer == TILLERCLOVER_PERMITTED;
@@ -167,13 +156,13 @@ struct told {
 };
 
 /* Hands the record in, and takes until it comes: within 25 takes. */
-static struct told serve(struct terminal *t, struct record r)
+static struct told serve(tillerclover_terminal *t, tillerclover_record r)
 {
     struct told told = {.answer = hand_in(t, r)};
     for (int i = 0; i < 25 && told.answer == TILLERCLOVER_PERMITTED; i++) {
         tillerclover_taken k = take(t);
-        if (record_sender(k.record) == record_sender(r.bytes)) {
-            return (struct told){k.outcome.answer, k.outcome.permission, k.outcome.length};
+        if (tillerclover_record_sender(k.record) == tillerclover_record_sender(r.bytes)) {
+            return (struct told){k.outcome.answer, k.outcome.permission, k.outcome.payload_length};
         }
     }
     return told;
@@ -183,13 +172,14 @@ static const char *const WHAT[RECORDS] = {"8 reads the weight", "8 writes the ta
                                           "11 writes the tare", "11 zeroes the plate"};
 
 /* Yard B's day, with yard A beside it or without. */
-static void day(struct terminal *t, int with_a, struct told told[RECORDS])
+static void day(tillerclover_terminal *t, int with_a, struct told told[RECORDS])
 {
-    const struct record records[RECORDS] = {request_bare(TILLERCLOVER_RETRIEVE, TILLERCLOVER_WEIGHT, 8),
-                                            request_text(TILLERCLOVER_UPDATE, TILLERCLOVER_TARE, 8, "7420 kg"),
-                                            request_bare(TILLERCLOVER_RETRIEVE, TILLERCLOVER_WEIGHT, 11),
-                                            request_text(TILLERCLOVER_UPDATE, TILLERCLOVER_TARE, 11, "3150 kg"),
-                                            request_bare(TILLERCLOVER_UPDATE, TILLERCLOVER_ZERO, 11)};
+    const tillerclover_record records[RECORDS] = {
+        tillerclover_request_bare(TILLERCLOVER_RETRIEVE, TILLERCLOVER_WEIGHT, 8),
+        tillerclover_request_text(TILLERCLOVER_UPDATE, TILLERCLOVER_TARE, 8, "7420 kg"),
+        tillerclover_request_bare(TILLERCLOVER_RETRIEVE, TILLERCLOVER_WEIGHT, 11),
+        tillerclover_request_text(TILLERCLOVER_UPDATE, TILLERCLOVER_TARE, 11, "3150 kg"),
+        tillerclover_request_bare(TILLERCLOVER_UPDATE, TILLERCLOVER_ZERO, 11)};
     unsigned permitted_of_a = 0;
     for (size_t i = 0; i < RECORDS; i++) {
         permitted_of_a += with_a ? disturb(t) : 0;
@@ -213,7 +203,7 @@ static tillerclover_tables without_roles(tillerclover_tables tables)
 }
 
 /* Yard B's day on two terminals, one of them without yard A. Returns whether it is the same. */
-static int compare(struct terminal *both, struct terminal *alone)
+static int compare(tillerclover_terminal *both, tillerclover_terminal *alone)
 {
     struct told with_a[RECORDS], without_a[RECORDS];
     day(both, 1, with_a);
@@ -234,25 +224,25 @@ static int compare(struct terminal *both, struct terminal *alone)
 }
 
 /* The owner stores a row that ends isolation, and deletes it again. */
-static void loosen(struct terminal *t)
+static void loosen(tillerclover_terminal *t)
 {
-    const struct ace moves = {.number = 4,
-                              .kind = TILLERCLOVER_SUBJECT_ROLE,
-                              .role = FOREMAN,
-                              .authority = WORKS,
-                              .permission = TILLERCLOVER_MAY_UPDATE,
-                              .set = TILLERCLOVER_SET_BIT(TILLERCLOVER_PSTAT),
-                              .last = UINT32_MAX};
-    permitted(t, set_state(OWNER, TILLERCLOVER_RFPRO));
-    permitted(t, store_ace(OWNER, moves));
+    const tillerclover_ace moves = {.number = 4,
+                                    .kind = TILLERCLOVER_SUBJECT_ROLE,
+                                    .role = FOREMAN,
+                                    .authority = WORKS,
+                                    .permission = TILLERCLOVER_MAY_UPDATE,
+                                    .set = TILLERCLOVER_SET_BIT(TILLERCLOVER_PSTAT),
+                                    .last = UINT32_MAX};
+    permitted(t, tillerclover_set_state(OWNER, TILLERCLOVER_RFPRO));
+    permitted(t, tillerclover_store_ace(OWNER, &moves));
     ask_both(t, "the owner lets a foreman move the device state, and the terminal is asked again");
-    permitted(t, delete_row(TILLERCLOVER_ACL2, OWNER, 4));
+    permitted(t, tillerclover_delete_row(TILLERCLOVER_ACL2, OWNER, 4));
     ask_both(t, "the owner deletes that row");
 }
 
 int main(void)
 {
-    static struct terminal both, alone;
+    static tillerclover_terminal both, alone;
     if (!tillerclover_identified()) {
         printf("the archive and tillerclover.h are not of one build\n");
         return 1;

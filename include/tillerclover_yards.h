@@ -69,8 +69,8 @@ void tillerclover_isolated_at(const uint8_t counts[4], const uint8_t devowner[16
                               const uint8_t creds[936], const uint8_t aces[1152], const uint8_t *senders,
                               uint64_t length, uint64_t said[3]);
 
-/* Whether the senders of a list are isolated in these tables: whatever they send from now on changes nothing for anybody
- * else. Any tables and any bytes are allowed. An entry may stand twice, and may name a partner without a credential row. An
+/* Whether the senders of a list are isolated in this terminal: whatever they send from now on changes nothing for anybody
+ * else. Any content and any bytes are allowed; what waits is not looked at. An entry may stand twice, and may name a partner without a credential row. An
  * empty list is isolated where the tables are sound.
  *
  * senders points to at least `length` bytes that nothing changes during the call: TILLERCLOVER_SENDER_LENGTH for each entry.
@@ -78,9 +78,10 @@ void tillerclover_isolated_at(const uint8_t counts[4], const uint8_t devowner[16
  * Ask again after each permitted UPDATE of DOXM, PSTAT, CRED or ACL2 by somebody who is on no list, after the clear button,
  * and when the tables come from storage. Nothing else ends isolation.
  */
-static inline tillerclover_isolation tillerclover_isolated(const tillerclover_tables *tables,
+static inline tillerclover_isolation tillerclover_isolated(const tillerclover_terminal *terminal,
                                                            const unsigned char *senders, size_t length)
 {
+    const tillerclover_tables *tables = &terminal->tables;
     uint64_t said[3];
     tillerclover_isolation isolation;
     tillerclover_isolated_at((const uint8_t *)tables, tables->devowner, tables->rowners, tables->creds, tables->aces,

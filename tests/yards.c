@@ -4,7 +4,7 @@
 #include <stdlib.h>
 #include <string.h>
 
-#include "../examples/requests.h"
+#include "tillerclover_records.h"
 
 enum {
     OWNER = 5,
@@ -14,10 +14,8 @@ enum {
 
 static const uint8_t OWNER_UUID[TILLERCLOVER_UUID_LENGTH] = {0x5b, [15] = 0x18};
 static const uint8_t HAULIER_UUID[TILLERCLOVER_UUID_LENGTH] = {0xc4, [15] = 0xad};
-static const uint8_t NONE[1];
 
-static tillerclover_tables tables;
-static tillerclover_waiting waiting;
+static tillerclover_terminal terminal;
 
 static void expect(int holds, const char *what)
 {
@@ -28,23 +26,21 @@ static void expect(int holds, const char *what)
 }
 
 /* A record of the set-up. */
-static void judge(struct record r)
+static void judge(tillerclover_record r)
 {
     uint8_t reply[TILLERCLOVER_REPLY_MAX];
-    tillerclover_outcome o =
-        tillerclover_judge(tables, &waiting, NONE, 0, NONE, 0, 0, r.bytes, r.length, reply, sizeof reply);
+    tillerclover_outcome o = tillerclover_judge(&terminal, NULL, 0, r.bytes, r.length, reply, sizeof reply);
     expect(o.answer == TILLERCLOVER_PERMITTED, "the set-up is refused");
-    tables = o.tables;
 }
 
-static struct ace row(unsigned number, enum tillerclover_resource resource)
+static tillerclover_ace row(unsigned number, enum tillerclover_resource resource)
 {
-    return (struct ace){.number = number,
-                        .kind = TILLERCLOVER_SUBJECT_UUID,
-                        .uuid = HAULIER_UUID,
-                        .permission = TILLERCLOVER_MAY_UPDATE,
-                        .set = TILLERCLOVER_SET_BIT(resource),
-                        .last = UINT32_MAX};
+    return (tillerclover_ace){.number = number,
+                              .kind = TILLERCLOVER_SUBJECT_UUID,
+                              .uuid = HAULIER_UUID,
+                              .permission = TILLERCLOVER_MAY_UPDATE,
+                              .set = TILLERCLOVER_SET_BIT(resource),
+                              .last = UINT32_MAX};
 }
 
 /* Asks of a list in memory of just its length, and compares. */
@@ -55,10 +51,10 @@ static void says(const uint8_t *list, size_t length, unsigned reason, size_t ent
     if (length != 0) {
         memcpy(senders, list, length);
     }
-    const tillerclover_tables before = tables;
-    tillerclover_isolation i = tillerclover_isolated(&tables, senders, length);
+    const tillerclover_terminal before = terminal;
+    tillerclover_isolation i = tillerclover_isolated(&terminal, senders, length);
     expect(i.reason == reason && i.entry == entry && i.row == place, what);
-    expect(memcmp(&before, &tables, sizeof tables) == 0, "the tables were changed");
+    expect(memcmp(&before, &terminal, sizeof terminal) == 0, "the terminal was changed");
     expect(length == 0 || memcmp(senders, list, length) == 0, "the list was changed");
     free(senders);
 }
@@ -68,8 +64,9 @@ static void words(void)
 {
     static const uint8_t list[] = {0, OWNER};
     uint64_t said[5] = {~0u, ~0u, ~0u, ~0u, ~0u};
-    tillerclover_isolated_at((const uint8_t *)&tables, tables.devowner, tables.rowners, tables.creds, tables.aces, list,
-                             sizeof list, said + 1);
+    const tillerclover_tables *t = &terminal.tables;
+    tillerclover_isolated_at((const uint8_t *)t, t->devowner, t->rowners, t->creds, t->aces, list, sizeof list,
+                             said + 1);
     expect(said[1] == TILLERCLOVER_ISOLATION_NAMES_OWNER && said[2] == 1 && said[3] == 0, "other words were said");
     expect(said[0] == ~0u && said[4] == ~0u, "a word beside the three was written");
 }
@@ -81,21 +78,21 @@ int main(void)
     expect(tillerclover_identified(), "the archive is another than the header's");
     expect(tillerclover_identity() == TILLERCLOVER_IDENTITY, "the identity is another");
 
-    tables = tillerclover_fresh(&waiting, NONE, 0, NONE, 0);
+    tillerclover_fresh(&terminal, NULL);
     says(hauliers, 2, TILLERCLOVER_ISOLATION_NO_OWNER, 0, 0, "a terminal without an owner");
     says(hauliers, 0, TILLERCLOVER_ISOLATED, 0, 0, "the empty list");
-    judge(store_cred(0, (struct cred){.number = OWNER, .subject = OWNER_UUID}));
-    judge(store_cred(0, (struct cred){.number = HAULIER, .subject = HAULIER_UUID}));
-    judge(set_owner(0, OWNER_UUID));
-    judge(set_state(OWNER, TILLERCLOVER_RFPRO));
-    judge(store_ace(OWNER, row(1, TILLERCLOVER_TARE)));
+    judge(tillerclover_store_cred(0, &(tillerclover_cred){.number = OWNER, .subject = OWNER_UUID}));
+    judge(tillerclover_store_cred(0, &(tillerclover_cred){.number = HAULIER, .subject = HAULIER_UUID}));
+    judge(tillerclover_set_owner(0, OWNER_UUID));
+    judge(tillerclover_set_state(OWNER, TILLERCLOVER_RFPRO));
+    judge(tillerclover_store_ace(OWNER, (const tillerclover_ace[]){row(1, TILLERCLOVER_TARE)}));
     says(hauliers, sizeof hauliers, TILLERCLOVER_ISOLATED, 0, 0, "hauliers who may tare");
     says(hauliers, sizeof hauliers - 1, TILLERCLOVER_ISOLATION_ODD_LENGTH, 0, 0, "an odd length");
     says(hauliers, 1, TILLERCLOVER_ISOLATION_ODD_LENGTH, 0, 0, "a lone byte");
     says(owner, sizeof owner, TILLERCLOVER_ISOLATION_NAMES_OWNER, 2, 0, "the owner in the list");
     words();
 
-    judge(store_ace(OWNER, row(2, TILLERCLOVER_ACL2)));
+    judge(tillerclover_store_ace(OWNER, (const tillerclover_ace[]){row(2, TILLERCLOVER_ACL2)}));
     says(hauliers + 2, 4, TILLERCLOVER_ISOLATION_MAY_ALTER, 2, 2, "a haulier who may write access rows");
     says(hauliers + 2, 2, TILLERCLOVER_ISOLATED, 0, 0, "the others beside it");
 
@@ -110,10 +107,11 @@ int main(void)
     says(all, sizeof all, TILLERCLOVER_ISOLATION_NAMES_OWNER, 65536, 0, "the last of 65,536 entries");
 
     /* a list of no bytes, by any pointer */
-    tillerclover_isolation i = tillerclover_isolated(&tables, NULL, 0), j = tillerclover_isolated(&tables, NONE + 1, 0);
+    tillerclover_isolation i = tillerclover_isolated(&terminal, NULL, 0),
+                           j = tillerclover_isolated(&terminal, all + sizeof all, 0);
     expect(i.reason == TILLERCLOVER_ISOLATED && j.reason == TILLERCLOVER_ISOLATED, "no bytes by another pointer");
 
-    memset(&tables, 0xFF, sizeof tables);
+    memset(&terminal.tables, 0xFF, sizeof terminal.tables);
     says(hauliers, sizeof hauliers, TILLERCLOVER_ISOLATION_NOT_SOUND, 0, 0, "tables of ones");
     says(hauliers, 3, TILLERCLOVER_ISOLATION_ODD_LENGTH, 0, 0, "an odd length comes first");
     return 0;
