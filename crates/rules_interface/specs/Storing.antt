@@ -1,12 +1,13 @@
--- A step as C gets it: an answer, a place and a byte. And where the current image is.
+-- What the two C functions of a store promise. A step as C gets it: an answer, a place and a byte; and where the current image is.
 use Prim.Native.Nat.{ℕ}
+use mathlib.Core.Path.{_≡_}
 use mathlib.Core.Bool.{cond}
 use mathlib.Core.List.{List, [], _∷_}
 use lib.Dec.{eqb}
 use lib.ListN.{length}
 use Rattle.rules_store.specs.declared.Step.{Step}
 use Rattle.rules_store.specs.declared.Step.the-variants.{Write, Done, Unfit}
-use Rattle.rules_store.specs.Store.{sizeFor, currentAt}
+use Rattle.rules_store.specs.Store.{sizeFor, currentAt, next}
 use Rattle.rules_store.specs.Run.{ifWrite}
 
 abbrev pub answerIn : Step → ℕ
@@ -27,3 +28,16 @@ currentAnswer n store = cond (eqb (length store) (sizeFor n)) 0 2
 
 unfoldable pub currentIn : ℕ → List ℕ → List ℕ → List ℕ
 currentIn n store lent = cond (eqb (length store) (sizeFor n)) (currentAt n store ∷ []) lent
+
+-- ---- promised
+
+-- the next step to store an image
+pub record StoresNext (store image : List ℕ) (from told : ℕ) (lentPlace lentByte place byte : List ℕ) : Type 0 where
+  pub answer : told ≡ answerIn (next store image from)
+  pub place-is : place ≡ placeIn (next store image from) lentPlace
+  pub byte-is : byte ≡ byteIn (next store image from) lentByte
+
+-- where the current image starts
+pub record StoresCurrent (store : List ℕ) (n told : ℕ) (lent place : List ℕ) : Type 0 where
+  pub answer : told ≡ currentAnswer n store
+  pub place-is : place ≡ currentIn n store lent

@@ -1,0 +1,2 @@
+-- Laws for the code of the C functions (Lent).
+pub mod Lent

@@ -1,3 +1,0 @@
--- What the contracts of the C interface speak of.
-pub mod Interface
-pub mod Storing
