@@ -1,16 +1,21 @@
 -- Laws for the code of the C functions: what a call gives beside a head and the bytes of the rows, it gives of the memory that C lends.
-use Rattle.rows.proofs.Prelude.{_≡_, refl, sym, ap, _∙_, subst, List, [], _∷_, ℕ, length}
+use Rattle.rows.proofs.Prelude.{_≡_, refl, ap, _∙_, subst, Bool, cond, List, [], _∷_, ℕ, length}
+use Rattle.rules.specs.declared.Tables.{Tables}
 use Rattle.rules.specs.declared.Head.{Head}
 use Rattle.rules.specs.declared.Judgement.{Judgement}
 use Rattle.rules.specs.Record.{Request}
-use Rattle.rules.specs.Tables.{tablesOf, headOf}
-use Rattle.rules.specs.Defaults.{Defaults}
+use Rattle.rules.specs.Tables.{tablesOf}
+use Rattle.rules.specs.Defaults.{Defaults, fresh}
+use Rattle.rules.specs.Reading.{filled}
+use Rattle.rules.specs.Checks.{numberOf}
 use Rattle.rules.specs.Outcome.{Said, saidOf}
 use Rattle.rules_waiting.specs.declared.Taken.{Taken}
-use Rattle.rules_waiting.specs.Terminal.{Terminal, terminal, Transition, said, HandedOut, handedOut, takenOf, judged, taken, handedIn}
+use Rattle.rules_waiting.specs.Slots.{emptyQueue}
+use Rattle.rules_waiting.specs.Terminal.{Terminal, terminal, soundTerminal, freshTerminal, HandedOut, takenOf, judged, taken}
 use Rattle.rules_waiting.specs.Calls.{HandsIn, Takes, Judges}
-use Rattle.rules_interface.specs.Memory.{Memory, headAt, terminalAt, countsOf, memoryOf}
-use Rattle.rules_interface.specs.Interface.{wordsIn, wordsOf, HandsInAt, JudgesAt, TakesAt}
+use Rattle.rules_office.specs.Office.{officeVerdict, officeReply}
+use Rattle.rules_interface.specs.Memory.{Memory, headAt, tablesAt, terminalAt, countsOf, memoryOf}
+use Rattle.rules_interface.specs.Interface.{wordsIn, FreshAt, IsSoundAt, HandsInAt, JudgesAt, TakesAt, ListsAt}
 
 -- memories are the same where their bytes are
 pub memory-same : (m n : Memory) → m .counts ≡ n .counts → m .devowner ≡ n .devowner → m .rowners ≡ n .rowners → m .creds ≡ n .creds
@@ -37,9 +42,22 @@ put-back h x after p t q =
     memory-same after (memoryOf (terminal (tablesOf h (after .creds) (after .aces)) (after .queue))) (p .counts) (p .devowner) (p .rowners) refl refl refl
     ∙ ap memoryOf all
 
+-- ---- a new terminal
+
+pub fresh-at : (d : Defaults) (after : Memory) (h : Head) → PutBack h after → tablesOf h (after .creds) (after .aces) ≡ fresh d → after .queue ≡ emptyQueue
+    → FreshAt d after
+unfolding freshTerminal
+fresh-at d after h p t q = put-back h (freshTerminal d) after p t q
+
+-- ---- beside the head that was read
+
 module _ (m : Memory) (h : Head) (reads : h ≡ headAt (m .counts) (m .devowner) (m .rowners)) where
   read : (P : Terminal → Type 0) → P (terminal (tablesOf h (m .creds) (m .aces)) (m .queue)) → P (terminalAt m)
   read P = subst (λ (k : Head). P (terminal (tablesOf k (m .creds) (m .aces)) (m .queue))) reads
+
+  pub sound-at : (b told : Bool) (n : ℕ) → b ≡ soundTerminal (terminal (tablesOf h (m .creds) (m .aces)) (m .queue)) → b ≡ told → n ≡ cond told 1 0
+      → IsSoundAt m n
+  sound-at b told n e f g = let is = read (λ (x : Terminal). b ≡ soundTerminal x) e in record { says = rw (← is, f, g) }
 
   pub judges-at : (d : Defaults) (q : Request) (j : Judgement) (words : List ℕ) (after : Memory) (lent buffer : List ℕ)
       → Judges d (terminal (tablesOf h (m .creds) (m .aces)) (m .queue)) q (saidOf j (after .creds) (after .aces)) lent (after .queue) buffer
@@ -72,3 +90,10 @@ module _ (m : Memory) (h : Head) (reads : h ≡ headAt (m .counts) (m .devowner)
         keeps = put-back (u .judgement .head) (taken d (terminalAt m) clock room .terminal) after p tables (is .leaves .keeps);
         fills = is .leaves .fills;
       }
+
+-- ---- beside the tables that were read
+
+pub lists-at : (m : Memory) (t : Tables) (answer n : ℕ) (lent buffer : List ℕ) → t ≡ tablesAt (m .counts) (m .devowner) (m .rowners) (m .creds) (m .aces)
+    → answer ≡ numberOf (officeVerdict (terminal t (m .queue)) (length lent)) → n ≡ length (officeReply (terminal t (m .queue)) (length lent))
+    → buffer ≡ filled lent (officeReply (terminal t (m .queue)) (length lent)) → ListsAt m (answer ∷ n ∷ []) lent buffer
+lists-at m t answer n lent buffer reads a l f = record { says = rw (a, l, reads); fills = rw (f, reads) }

@@ -52,8 +52,8 @@ abbrev pub ClearsAt : Defaults → Memory → Memory → Type 0
 ClearsAt d m after = after ≡ memoryOf (clearedTerminal d (terminalAt m))
 
 -- 1 where it is sound, else 0
-abbrev pub IsSoundAt : Memory → ℕ → Type 0
-IsSoundAt m told = told ≡ cond (soundTerminal (terminalAt m)) 1 0
+pub record IsSoundAt (m : Memory) (told : ℕ) : Type 0 where
+  pub says : told ≡ cond (soundTerminal (terminalAt m)) 1 0
 
 -- ---- records
 
