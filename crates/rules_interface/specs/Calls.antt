@@ -46,5 +46,8 @@ handInCall words after = record { words = words; memory = after; lent = []; buff
 abbrev pub judgeCall : List ℕ → Memory → List ℕ → List ℕ → CCall
 judgeCall words after lent buffer = record { words = words; memory = after; lent = lent; buffer = buffer; size = []; bytes = [] }
 
+abbrev pub takeCall : List ℕ → List ℕ → List ℕ → Memory → List ℕ → List ℕ → CCall
+takeCall words size bytes after lent buffer = record { words = words; memory = after; lent = lent; buffer = buffer; size = size; bytes = bytes }
+
 abbrev pub clearCall : Memory → CCall
 clearCall after = record { words = []; memory = after; lent = []; buffer = []; size = []; bytes = [] }

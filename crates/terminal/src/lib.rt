@@ -1,5 +1,6 @@
 // The C interface: one call each of the library, declared in include/tillerclover.h.
 // Pointers, 64-bit lengths and scalars alone: tables, what waits, buffers and what is said are lent, and changed in place.
+mod calls;
 mod lent;
 mod lists;
 mod storing;
