@@ -1,7 +1,6 @@
 // The C interface: one call each of the library, declared in include/tillerclover.h.
 // Pointers, 64-bit lengths and scalars alone: tables, what waits, buffers and what is said are lent, and changed in place.
 mod calls;
-mod lent;
 mod lists;
 mod storing;
 
@@ -85,9 +84,10 @@ pub extern "C" fn tillerclover_is_sound_at<'a>(
 {
     let h = head_at(counts, devowner, rowners);
     if terminal_sound(h, creds, aces, queue) {
-        return 1;
+        1
+    } else {
+        0
     }
-    0
 }
 
 // Judges a record at once.

@@ -13,10 +13,11 @@ module _ (n : ℕ) (store lent : List ℕ) (fit : Bool) (e : fit ≡ eqb (length
   unfolding currentAnswer currentIn
   unfit q = record { answer = rw (← e, q); place-is = rw (← e, q) }
 
+returns : tie.Need-returns
+returns c = let test = c .before .before in found _ _ _ _ (test .before .fits2 .ensures) _ (test .if1 .taken) (c .before .current-at .ensures)
+
+returns-2 : tie.Need-returns-2
+returns-2 c = unfit _ _ _ _ (c .before .fits2 .ensures) (c .if1 .left)
+
 pub tillerclover-store-current-spec : {M : Type 1} → Rattle.terminal.proofs.storing.tillerclover_store_current.Statement.statement M
-tillerclover-store-current-spec = tie.close (tie.spec
-    (λ c κs. search needs) (λ c κs. search needs)
-    (λ c.
-    let test = c .before .before in
-    found _ _ _ _ (test .before .fits2 .ensures) _ (test .if1 .taken) (c .before .current-at .ensures))
-    (λ c. unfit _ _ _ _ (c .before .fits2 .ensures) (c .if1 .left)))
+tillerclover-store-current-spec = tie.close (tie.spec (λ c κs. search needs) (λ c κs. search needs) returns returns-2)

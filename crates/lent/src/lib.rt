@@ -10,6 +10,7 @@ ghost use Rattle.rules_interface.specs.Memory.{headAt, countsOf};
 ghost use Rattle.rules_interface.specs.Interface.{offsetOf, wordsIn};
 
 // The head of the tables that is lent.
+// Rules out: the counts exchanged; an owner left out.
 pub fn head_at(counts: &[u8; 4], devowner: &[u8; 16], rowners: &[u8; 64]) -> Head
     ensures { λ r. ⌜ r ≡ headAt (was counts) (was devowner) (was rowners) ⌝ }
 {
@@ -26,6 +27,7 @@ pub fn head_at(counts: &[u8; 4], devowner: &[u8; 16], rowners: &[u8; 64]) -> Hea
 }
 
 // Puts a head back.
+// Rules out: a head that is not put back whole; the counts exchanged.
 pub fn put_head(h: Head, counts: &mut [u8; 4], devowner: &mut [u8; 16], rowners: &mut [u8; 64])
     ensures { λ _. ⌜ became counts ≡ countsOf h ⌝ }
     ensures { λ _. ⌜ became devowner ≡ h .devowner ⌝ }
@@ -46,6 +48,7 @@ fn offset_of(length: usize) -> usize
 }
 
 // What is said of a record.
+// Rules out: a permission that is not said; the payload of a record at another place.
 pub fn words_of(j: Judgement) -> [u64; 9]
     ensures { λ r. ⌜ r ≡ wordsIn (saidOf j [] []) ⌝ }
 {
