@@ -418,7 +418,7 @@ def check_header(drawn):
 
 def check_yards():
     """The identity and the numbers of the reasons are those of the definitions."""
-    header, definitions = read("include/tillerclover_yards.h"), read("crates/terminal/specs/Isolated.antt")
+    header, definitions = read("include/tillerclover_yards.h"), read("crates/rules_interface/specs/Isolated.antt")
     versions = [int(re.search(rf"^{name} = (\d+)$", definitions, re.M).group(1)) for name in ("formatVersion", "interfaceVersion")]
     said = re.search(r"#define TILLERCLOVER_IDENTITY UINT64_C\((\d+)\)", header)
     if not said or int(said.group(1)) != 1000000 * versions[0] + versions[1]:

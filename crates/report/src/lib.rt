@@ -3,9 +3,9 @@
 use fields::after;
 use fields::be16;
 use fields::be32;
+use judge::judge;
 use rules::Tables;
 use rules_waiting::QUEUE;
-use terminal::tillerclover_judge;
 use text::put;
 use text::put_byte;
 use text::put_decimal;
@@ -62,14 +62,37 @@ struct Judged {
 fn judge_one(t: Tables, clock: u32, record: &[u8]) -> Judged
     ensures { λ r. ⌜ r ≡ judgedAs t (lent clock (now («record» .entry))) ⌝ }
 {
+    let mut creds = t.creds;
+    let mut aces = t.aces;
     let mut queue = [0u8; QUEUE];
     let mut reply = [0u8; 1168];
-    let o = tillerclover_judge(t, &mut queue, b"", b"", clock, record, &mut reply);
-    let next = o.tables;
+    let j = judge(
+        t.head(),
+        &mut creds,
+        &mut aces,
+        &mut queue,
+        b"",
+        b"",
+        clock,
+        record,
+        &mut reply,
+    );
+    let h = j.head;
+    let devowner = h.devowner;
+    let rowners = h.rowners;
     Judged {
-        answer: o.answer,
-        permission: o.permission,
-        tables: next,
+        answer: j.answer,
+        permission: j.permission,
+        tables: Tables {
+            state: h.state,
+            owned: h.owned,
+            ncreds: h.ncreds,
+            naces: h.naces,
+            devowner: devowner,
+            rowners: rowners,
+            creds: creds,
+            aces: aces,
+        },
     }
 }
 

@@ -1,15 +1,16 @@
 // The C interface of two questions: are the senders of a list isolated, and which library is this. Declared in
 // include/tillerclover_yards.h: pointers, 64-bit lengths and scalars alone; the tables as five arrays, in the order of their bytes.
 use isolation::isolation_of;
+use lent::head_at;
 use rules::ACE_ROWS;
 use rules::CRED_ROWS;
-use rules::Head;
 use rules::Tables;
 ghost use mathlib.Core.Path.{_≡_};
 ghost use lib.Dec.{eqb};
 ghost use Rattle.rules.specs.Words.{was, became};
 ghost use Rattle.rules_isolation.specs.Question.{reportOf, isolationOf};
-ghost use Rattle.terminal.specs.Isolated.{tablesAt, wordsOf, identity};
+ghost use Rattle.rules_interface.specs.Memory.{tablesAt};
+ghost use Rattle.rules_interface.specs.Isolated.{reportWords, identity};
 
 // Whether the senders of a list are isolated from all others: the reason why not, 0 for none, the entry and the access row, in `said`.
 // Rules out: tables whose counts are exchanged; a reason in the place of an entry; a word of `said` left as it was.
@@ -25,18 +26,9 @@ pub extern "C" fn tillerclover_isolated_at<'a>(
 )
     ensures { λ _. ⌜
         became said
-        ≡ wordsOf (reportOf (isolationOf (tablesAt (was counts) (was devowner) (was rowners) (was creds) (was aces)) (was senders))) ⌝ }
+        ≡ reportWords (reportOf (isolationOf (tablesAt (was counts) (was devowner) (was rowners) (was creds) (was aces)) (was senders))) ⌝ }
 {
-    let owner = *devowner;
-    let owners = *rowners;
-    let h = Head {
-        state: counts[0],
-        owned: counts[1],
-        ncreds: counts[2],
-        naces: counts[3],
-        devowner: owner,
-        rowners: owners,
-    };
+    let h = head_at(counts, devowner, rowners);
     let report = isolation_of(h, creds, aces, senders).report();
     *said = [report.reason as u64, report.entry as u64, report.row as u64];
 }
@@ -55,7 +47,7 @@ pub extern "C" fn tillerclover_identity() -> u64
 // The same question of tables by value, with the three words as they are said.
 // Rules out: a contract above that leaves a word open.
 pub fn isolated(t: Tables, senders: &[u8]) -> [u64; 3]
-    ensures { λ r. ⌜ r ≡ wordsOf (reportOf (isolationOf t (was senders))) ⌝ }
+    ensures { λ r. ⌜ r ≡ reportWords (reportOf (isolationOf t (was senders))) ⌝ }
 {
     let counts = [t.state, t.owned, t.ncreds, t.naces];
     let devowner = t.devowner;

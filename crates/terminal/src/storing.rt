@@ -1,9 +1,8 @@
-// The C interface of a store, declared in include/tillerclover_store.h: pointers, lengths and scalars alone.
+// The C interface of a store, declared in include/tillerclover_store.h.
 // A store and an image are a pointer and a length each; the place and the byte of a write go out through pointers.
 use rules_store::Step;
-ghost use mathlib.Core.Path.{_≡_};
-ghost use Rattle.rules_store.specs.Store.{next};
-ghost use Rattle.terminal.specs.Storing.{answerIn, placeIn, byteIn, currentAnswer, currentIn};
+ghost use Rattle.rules.specs.Words.{was, became};
+ghost use Rattle.rules_interface.specs.Storing.{StoresNext, StoresCurrent};
 
 // What to do next to store an image: 0, nothing, it is the current one; 1, write the byte at the place; 2, nothing, since the store is not one
 // for images of this length. Place and byte are left alone but with 1.
@@ -13,17 +12,15 @@ pub extern "C" fn tillerclover_store_next(
     store: &[u8],
     image: &[u8],
     from: usize,
-    place: &mut [usize; 1],
+    place: &mut [u64; 1],
     byte: &mut [u8; 1],
-) -> u8
-    ensures answer { λ r. ⌜ r ≡ answerIn (next (now (store .entry)) (now (image .entry)) from) ⌝ }
-    ensures place { λ _. ⌜ now (place .exit) ≡ placeIn (next (now (store .entry)) (now (image .entry)) from) (now (place .entry)) ⌝ }
-    ensures byte { λ _. ⌜ now (byte .exit) ≡ byteIn (next (now (store .entry)) (now (image .entry)) from) (now (byte .entry)) ⌝ }
+) -> u64
+    ensures { λ r. ⌜ StoresNext (was store) (was image) from r (was place) (was byte) (became place) (became byte) ⌝ }
 {
     let step = store::next(store, image, from);
     match step {
         Step::Write { at, byte: value } => {
-            *place = [at];
+            *place = [at as u64];
             *byte = [value];
             1
         }
@@ -35,12 +32,11 @@ pub extern "C" fn tillerclover_store_next(
 // Where the current image starts, in a store for images of n bytes: 0, and 0 or n through `place`; or 2, and nothing, since the store is none.
 // Rules out: the spare image; a place in a store of another length.
 #[no_mangle]
-pub extern "C" fn tillerclover_store_current(store: &[u8], n: usize, place: &mut [usize; 1]) -> u8
-    ensures answer { λ r. ⌜ r ≡ currentAnswer n (now (store .entry)) ⌝ }
-    ensures place { λ _. ⌜ now (place .exit) ≡ currentIn n (now (store .entry)) (now (place .entry)) ⌝ }
+pub extern "C" fn tillerclover_store_current(store: &[u8], n: usize, place: &mut [u64; 1]) -> u64
+    ensures { λ r. ⌜ StoresCurrent (was store) n r (was place) (became place) ⌝ }
 {
     if store::fits(store.len(), n) {
-        *place = [store::current_at(store, n)];
+        *place = [store::current_at(store, n) as u64];
         return 0;
     }
     2

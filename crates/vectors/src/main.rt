@@ -6,15 +6,28 @@ use fields::be16;
 use fields::be32;
 use list_convert::Converted;
 use rows::part;
+use rules::ACE_ROWS;
+use rules::CRED_ROWS;
 use rules::Tables;
-use terminal::Outcome;
-use terminal::Turn;
-use terminal::tillerclover_hand_in;
-use terminal::tillerclover_judge;
-use terminal::tillerclover_take;
+use terminal::tillerclover_hand_in_at;
+use terminal::tillerclover_judge_at;
+use terminal::tillerclover_take_at;
 use vectors_reader::byte_at;
 use vectors_reader::more;
 use vectors_reader::tables_of;
+
+// What is said of a record, in words, and the tables afterwards.
+struct Told {
+    said: [u64; 9],
+    tables: Tables,
+}
+
+// With it the record that a take hands out.
+struct Turn {
+    told: Told,
+    size: u64,
+    bytes: [u8; 256],
+}
 
 // What is held from entry to entry.
 struct Progress {
@@ -269,7 +282,7 @@ fn converted(p: Progress, s: &[u8]) -> Progress {
     let found = convert_within(part(s, 2, length), &mut buffer, be16(behind) as usize);
     let mut next = p;
     next.converted = more(p.converted);
-    if (found.answer == byte_at(expected, 0)) & same_filled(found.length, &buffer, made) {
+    if (found.answer == byte_at(expected, 0)) & same_filled(found.length as u64, &buffer, made) {
         next
     } else {
         differing(next)
@@ -313,19 +326,18 @@ fn handed_in(p: Progress, s: &[u8]) -> Progress {
     let length = be16(s) as usize;
     let mut queue = p.queue;
     let t = p.tables;
-    let j = tillerclover_hand_in(t, &mut queue, part(s, 2, length));
-    let answer = j.answer;
+    let said = hand_in(t, &mut queue, part(s, 2, length));
     let expected = after(after(s, 2), length);
     let mut next = p;
     next.queue = queue;
     next.handed = more(p.handed);
-    if (answer == byte_at(expected, 0))
-        & (j.permission == 0)
-        & (j.length == 0)
-        & (j.reply == 0)
-        & same_places(j, b"")
-        & same_links(j, b"")
-        & same_tables(j.tables, p.tables)
+    if (said[0] == byte_at(expected, 0) as u64)
+        & (said[1] == 0)
+        & (said[2] == 0)
+        & (said[3] == 0)
+        & (said[4] == 0)
+        & same_places(&said, b"")
+        & same_links(&said, b"")
     {
         next
     } else {
@@ -348,16 +360,17 @@ fn taken_turn(p: Progress, s: &[u8], lists: &[u8]) -> Progress {
         &mut buffer,
         be16(after(s, 4)) as usize,
     );
-    let j = u.outcome;
+    let j = u.told;
     let t = j.tables;
+    let said = j.said;
     let mut next = p;
     next.tables = t;
     next.queue = queue;
     next.takes = more(p.takes);
-    if same_outcome(j, expected)
-        & same_reply(j.reply, &buffer, after(expected, 6))
-        & same_places(j, after(expected, 8))
-        & same_links(j, after(expected, 10))
+    if same_outcome(&said, expected)
+        & same_reply(said[4], &buffer, after(expected, 6))
+        & same_places(&said, after(expected, 8))
+        & same_links(&said, after(expected, 10))
         & same_record(
             u,
             after(after(expected, 19), be16(after(expected, 6)) as usize),
@@ -380,7 +393,49 @@ fn take_within(
     room: usize,
 ) -> Turn {
     let n = text::within(buffer, room);
-    tillerclover_take(t, queue, creds, aces, clock, &mut buffer[..n])
+    take(t, queue, creds, aces, clock, &mut buffer[..n])
+}
+
+// Takes on these tables.
+fn take(
+    t: Tables,
+    queue: &mut [u8; 6504],
+    creds: &[u8],
+    aces: &[u8],
+    clock: u32,
+    reply: &mut [u8],
+) -> Turn {
+    let mut counts = counts_of(t);
+    let mut devowner = t.devowner;
+    let mut rowners = t.rowners;
+    let mut cred_rows = t.creds;
+    let mut ace_rows = t.aces;
+    let mut said = [0u64; 9];
+    let mut size = [0u64; 1];
+    let mut bytes = [0u8; 256];
+    tillerclover_take_at(
+        &mut counts,
+        &mut devowner,
+        &mut rowners,
+        &mut cred_rows,
+        &mut ace_rows,
+        queue,
+        creds,
+        aces,
+        clock,
+        reply,
+        &mut said,
+        &mut size,
+        &mut bytes,
+    );
+    Turn {
+        told: Told {
+            said: said,
+            tables: tables_with(counts, devowner, rowners, cred_rows, ace_rows),
+        },
+        size: size[0],
+        bytes: bytes,
+    }
 }
 
 // Whether the record taken is the one behind its length, with zeros behind it.
@@ -388,7 +443,7 @@ fn same_record(u: Turn, expected: &[u8]) -> bool {
     let record = part(expected, 2, be16(expected) as usize);
     let mut filled = [0u8; 256];
     text::put(&mut filled, 0, record);
-    (u.size == record.len()) & rows::same_bytes(&u.bytes, &filled)
+    (u.size == record.len() as u64) & rows::same_bytes(&u.bytes, &filled)
 }
 
 // Judges the record behind its clock and its length with a buffer of the room behind it, and compares the outcome with the one that follows.
@@ -411,14 +466,15 @@ fn judged(p: Progress, s: &[u8], lists: &[u8]) -> Progress {
         be16(behind) as usize,
     );
     let t = j.tables;
+    let said = j.said;
     let mut next = p;
     next.tables = t;
     next.queue = queue;
     next.records = more(p.records);
-    if same_outcome(j, expected)
-        & same_reply(j.reply, &buffer, after(expected, 6))
-        & same_places(j, after(expected, 8))
-        & same_links(j, after(expected, 10))
+    if same_outcome(&said, expected)
+        & same_reply(said[4], &buffer, after(expected, 6))
+        & same_places(&said, after(expected, 8))
+        & same_links(&said, after(expected, 10))
     {
         next
     } else {
@@ -436,43 +492,121 @@ fn judge_within(
     record: &[u8],
     buffer: &mut [u8],
     room: usize,
-) -> Outcome {
+) -> Told {
     let n = text::within(buffer, room);
-    tillerclover_judge(t, queue, creds, aces, clock, record, &mut buffer[..n])
+    judge(t, queue, creds, aces, clock, record, &mut buffer[..n])
+}
+
+// Judges a record on these tables.
+fn judge(
+    t: Tables,
+    queue: &mut [u8; 6504],
+    creds: &[u8],
+    aces: &[u8],
+    clock: u32,
+    record: &[u8],
+    reply: &mut [u8],
+) -> Told {
+    let mut counts = counts_of(t);
+    let mut devowner = t.devowner;
+    let mut rowners = t.rowners;
+    let mut cred_rows = t.creds;
+    let mut ace_rows = t.aces;
+    let mut said = [0u64; 9];
+    tillerclover_judge_at(
+        &mut counts,
+        &mut devowner,
+        &mut rowners,
+        &mut cred_rows,
+        &mut ace_rows,
+        queue,
+        creds,
+        aces,
+        clock,
+        record,
+        reply,
+        &mut said,
+    );
+    Told {
+        said: said,
+        tables: tables_with(counts, devowner, rowners, cred_rows, ace_rows),
+    }
+}
+
+// Hands a record in beside these tables: what is said, in words.
+fn hand_in(t: Tables, queue: &mut [u8; 6504], record: &[u8]) -> [u64; 9] {
+    let counts = counts_of(t);
+    let devowner = t.devowner;
+    let rowners = t.rowners;
+    let mut said = [0u64; 9];
+    tillerclover_hand_in_at(
+        &counts,
+        &devowner,
+        &rowners,
+        &t.creds,
+        &t.aces,
+        queue,
+        record,
+        &mut said,
+    );
+    said
+}
+
+fn counts_of(t: Tables) -> [u8; 4] {
+    [t.state, t.owned, t.ncreds, t.naces]
+}
+
+fn tables_with(
+    counts: [u8; 4],
+    devowner: [u8; 16],
+    rowners: [u8; 64],
+    creds: [u8; CRED_ROWS],
+    aces: [u8; ACE_ROWS],
+) -> Tables {
+    Tables {
+        state: counts[0],
+        owned: counts[1],
+        ncreds: counts[2],
+        naces: counts[3],
+        devowner: devowner,
+        rowners: rowners,
+        creds: creds,
+        aces: aces,
+    }
 }
 
 // Whether the reply is the one behind its length, the places and the links, and the buffer is as before behind it.
-fn same_reply(length: usize, buffer: &[u8], expected: &[u8]) -> bool {
+fn same_reply(length: u64, buffer: &[u8], expected: &[u8]) -> bool {
     same_filled(length, buffer, part(expected, 13, be16(expected) as usize))
 }
 
 // Whether so many bytes are those of the result, and the buffer is as before behind them.
-fn same_filled(length: usize, buffer: &[u8], result: &[u8]) -> bool {
+fn same_filled(length: u64, buffer: &[u8], result: &[u8]) -> bool {
     let mut filled = [165u8; 1300];
     text::put(&mut filled, 0, result);
-    (length == result.len()) & rows::same_bytes(buffer, &filled)
+    (length == result.len() as u64) & rows::same_bytes(buffer, &filled)
 }
 
 // Whether the first place to store and how many are those of these bytes.
-fn same_places(o: Outcome, expected: &[u8]) -> bool {
-    (o.first == byte_at(expected, 0) as usize) & (o.many == byte_at(expected, 1) as usize)
+fn same_places(said: &[u64; 9], expected: &[u8]) -> bool {
+    (said[5] == byte_at(expected, 0) as u64) & (said[6] == byte_at(expected, 1) as u64)
 }
 
 // Whether the set of links and its size are those of these bytes.
-fn same_links(o: Outcome, expected: &[u8]) -> bool {
+fn same_links(said: &[u64; 9], expected: &[u8]) -> bool {
     let high = be32(expected) as u64;
     let low = be32(after(expected, 4)) as u64;
-    (o.set / 4294967296 == high)
-        & (o.set % 4294967296 == low)
-        & (o.size == byte_at(expected, 8) as usize)
+    (said[7] / 4294967296 == high)
+        & (said[7] % 4294967296 == low)
+        & (said[8] == byte_at(expected, 8) as u64)
 }
 
-// Whether an outcome is the one of these bytes: answer, permission, payload start and payload length.
-fn same_outcome(o: Outcome, expected: &[u8]) -> bool {
-    (o.answer == byte_at(expected, 0))
-        & (o.permission == byte_at(expected, 1))
-        & (o.start == be16(after(expected, 2)) as usize)
-        & (o.length == be16(after(expected, 4)) as usize)
+// Whether what is said is what these bytes say: answer, permission, the payload's offset and its length.
+fn same_outcome(said: &[u64; 9], expected: &[u8]) -> bool {
+    (said[0] == byte_at(expected, 0) as u64)
+        & (said[1] == byte_at(expected, 1) as u64)
+        & (said[2] == be16(after(expected, 2)) as u64)
+        & (said[3] == be16(after(expected, 4)) as u64)
 }
 
 fn same_tables(t: Tables, u: Tables) -> bool {

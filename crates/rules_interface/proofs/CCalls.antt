@@ -1,0 +1,121 @@
+-- Theorem, demand 3 of C calls: what the C functions promise (`Promised`, specs/Calls.antt), with the payload read at its offset and length,
+-- are calls as `built-isolation` takes them (rules_waiting/proofs/Built.antt), each on the bytes that the one before left.
+use Rattle.rows.proofs.Prelude.{_≡_, ap, _∙_, Bool, List, [], _∷_, ℕ, length, take, getD}
+use Rattle.rules.specs.declared.Tables.{Tables}
+use Rattle.rules.specs.declared.Sender.{Sender}
+use Rattle.rules.specs.Defaults.{Defaults}
+use Rattle.rules.specs.Checks.{verdict}
+use Rattle.rules.specs.Outcome.{Said, payloadPart}
+use Rattle.rules.specs.Run.{kept}
+use Rattle.rules.proofs.CheckLaws.{check-cases}
+use Rattle.rules_waiting.specs.Slots.{padded}
+use Rattle.rules_waiting.specs.Terminal.{Terminal, Transition, handInChecks, handedIn, taken, judged, said, handedOut}
+use Rattle.rules_waiting.specs.Inputs.{Input, handIn, takeAt, direct, othersTurn}
+use Rattle.rules_waiting.proofs.Isolated.{Premises, AsTheBook}
+use Rattle.rules_waiting.proofs.Built.{Call, Meets, Built, handedBack, callTurns, built-isolation}
+use Rattle.rules_interface.specs.Memory.{Memory, terminalAt, memoryOf}
+use Rattle.rules_interface.specs.Interface.{wordsOf}
+use Rattle.rules_interface.specs.Calls.{CCall, Promised, CBuilt}
+use Rattle.rules_interface.proofs.Payload.{payloadIn, part-found}
+
+-- ---- a C call as a call
+
+-- the words, read in their order
+abbrev pub saidIn : List ℕ → Tables → Said
+saidIn words t = record {
+  answer = getD words 0 0;
+  permission = getD words 1 0;
+  payload = getD words 3 0;
+  reply = getD words 4 0;
+  places = record { first = getD words 5 0; many = getD words 6 0 };
+  links = record { set = getD words 7 0; size = getD words 8 0 };
+  tables = t;
+}
+
+-- the record whose part the payload is; a hand-in has none
+abbrev pub recordIn : Input → CCall → List ℕ
+recordIn (handIn r) c = []
+recordIn (takeAt clock room) c = take (getD (c .size) 0 0) (c .bytes)
+recordIn (direct q) c = q .bytes
+
+abbrev pub callOf : Input → CCall → Call
+callOf i c = record {
+  judgement = saidIn (c .words) (terminalAt (c .memory) .tables);
+  queue = c .memory .queue;
+  lent = c .lent;
+  buffer = c .buffer;
+  payload = payloadIn (c .words) (recordIn i c);
+  size = getD (c .size) 0 0;
+  bytes = c .bytes;
+}
+
+abbrev pub callsOf : List Input → List CCall → List Call
+callsOf [] cs = []
+callsOf (i ∷ is) [] = []
+callsOf (i ∷ is) (c ∷ cs) = callOf i c ∷ callsOf is cs
+
+-- ---- each call meets what demand 3 asks for
+
+-- what is said, in words, with the tables that are left
+said-back : (a : Transition) (words : List ℕ) (t : Tables) → words ≡ wordsOf a → t ≡ a .terminal .tables → saidIn words t ≡ said a
+said-back a words t w e = rw (w, e)
+
+-- the bytes of a terminal, read, are the terminal
+tables-left : (x : Terminal) (m : Memory) → m ≡ memoryOf x → terminalAt m ≡ x
+tables-left x m e = ap terminalAt e
+
+-- of a take with the record
+handed-back : (a : Transition) (words size bytes : List ℕ) (t : Tables) → words ≡ wordsOf a → size ≡ length (a .bytes) ∷ [] → bytes ≡ padded (a .bytes)
+    → t ≡ a .terminal .tables → record { judgement = saidIn words t; size = getD size 0 0; bytes = bytes } ≡ handedOut a
+handed-back a words size bytes t w n b e = rw (w, n, b, e)
+
+-- a hand-in leaves the tables
+hand-in-tables : (x : Terminal) (r : List ℕ) → x .tables ≡ handedIn x r .terminal .tables
+unfolding handedIn
+hand-in-tables x r = check-cases (verdict (handInChecks x r)) (λ e. rw e) (λ n e. rw e)
+
+passes : (a : Transition) (words r : List ℕ) → words ≡ wordsOf a → payloadIn words r ≡ payloadPart (getD words 3 0) r
+passes a words r w = rw w (part-found (said a .payload) r)
+
+module _ (d : Defaults) (m : Memory) where
+  pub c-meets : (i : Input) (c : CCall) → Promised d m i c → Meets d (terminalAt m) i (callOf i c)
+  c-meets (handIn r) c p =
+      let x = terminalAt m in
+      record {
+        says = said-back (handedIn x r) (c .words) _ (p .0 .says) (ap (λ (n : Memory). terminalAt n .tables) (p .1) ∙ hand-in-tables x r);
+        keeps = p .0 .keeps;
+      }
+  c-meets (takeAt clock room) c p =
+      let a = taken d (terminalAt m) clock room in
+      let x = tables-left (a .terminal) (c .memory) (p .0 .keeps) in (
+        record {
+          hands = handed-back a (c .words) (c .size) (c .bytes) _ (p .0 .says) (p .0 .sized) (p .0 .hands) (ap (λ (y : Terminal). y .tables) x);
+          leaves = record { keeps = ap (λ (y : Terminal). y .queue) x; fills = p .0 .fills };
+        },
+        record { sized = p .1; passes = passes a (c .words) _ (p .0 .says) },
+      )
+  c-meets (direct q) c p =
+      let a = judged d (terminalAt m) q in
+      let x = tables-left (a .terminal) (c .memory) (p .0 .keeps) in (
+        record {
+          says = said-back a (c .words) _ (p .0 .says) (ap (λ (y : Terminal). y .tables) x);
+          leaves = record { keeps = ap (λ (y : Terminal). y .queue) x; fills = p .0 .fills };
+        },
+        record { sized = p .1; passes = passes a (c .words) _ (p .0 .says) },
+      )
+
+-- ---- the run
+
+pub c-built : (d : Defaults) (m : Memory) (is : List Input) (cs : List CCall) → CBuilt d m is cs → Built d (terminalAt m) is (callsOf is cs)
+c-built d m [] [] b = b
+c-built d m [] (c ∷ cs) b = absurd b
+c-built d m (i ∷ is) [] b = absurd b
+c-built d m (i ∷ is) (c ∷ cs) b = (c-meets d m i c (b .0), c-built d (c .memory) is cs (b .1))
+
+-- demand 3: what the others' records are told that the C calls show as judged, and the tables left last
+pub c-isolation :
+    (d : Defaults) (chosen : Sender → Bool) (m : Memory) (is : List Input) (cs : List CCall)
+    → CBuilt d m is cs
+    → Premises d chosen (terminalAt m) (kept (othersTurn chosen) (callTurns is (callsOf is cs)))
+    → AsTheBook d chosen (terminalAt m) (kept (othersTurn chosen) (callTurns is (callsOf is cs))) (handedBack (terminalAt m) (callsOf is cs) .tables)
+c-isolation d chosen m is cs b = built-isolation d chosen (terminalAt m) is (callsOf is cs) (c-built d m is cs b)

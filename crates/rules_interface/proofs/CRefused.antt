@@ -1,0 +1,73 @@
+-- Theorems of C calls: a refusal says its number and zeros, and writes nothing: the same bytes of the tables, of what waits and of the buffer.
+use Rattle.rows.proofs.Prelude.{_≡_, refl, sym, ap, _∙_, true, _||_, eqb, List, [], _∷_, ℕ, suc, arith, length, getD}
+use Rattle.rules.specs.Record.{Request}
+use Rattle.rules.specs.Defaults.{Defaults}
+use Rattle.rules.specs.Reading.{filled}
+use Rattle.rules.specs.Checks.{verdict}
+use Rattle.rules.proofs.CheckLaws.{check-cases}
+use Rattle.rules_waiting.specs.Terminal.{Terminal, Transition, numberTransition, handInChecks, handedIn, taken, judged}
+use Rattle.rules_waiting.specs.Inputs.{handIn, takeAt, direct}
+use Rattle.rules_waiting.proofs.Refused.{take-nothing, refused-direct}
+use Rattle.rules_interface.specs.Memory.{Memory, terminalAt, memoryOf, withQueue}
+use Rattle.rules_interface.specs.Interface.{offsetOf, wordsOf}
+use Rattle.rules_interface.specs.Calls.{CCall, Promised}
+
+-- four bytes, read and written
+four : (l : List ℕ) → length l ≡ 4 → getD l 0 0 ∷ getD l 1 0 ∷ getD l 2 0 ∷ getD l 3 0 ∷ [] ≡ l
+four [] e = absurd (omega (arith, e))
+four (a ∷ []) e = absurd (omega (arith, e))
+four (a ∷ b ∷ []) e = absurd (omega (arith, e))
+four (a ∷ b ∷ c ∷ []) e = absurd (omega (arith, e))
+four (a ∷ b ∷ c ∷ d ∷ []) e = refl
+four (a ∷ b ∷ c ∷ d ∷ f ∷ l) e = absurd (omega (arith, e))
+
+-- memory, read as a terminal and written, is the same bytes
+pub memory-back : (m : Memory) → length (m .counts) ≡ 4 → memoryOf (terminalAt m) ≡ m
+memory-back m e =
+    ap (λ (b : List ℕ). record { counts = b; devowner = m .devowner; rowners = m .rowners; creds = m .creds; aces = m .aces; queue = m .queue })
+    (four (m .counts) e)
+
+-- a number and nothing else
+abbrev pub numberWords : ℕ → List ℕ
+numberWords n = n ∷ 0 ∷ 0 ∷ 0 ∷ 0 ∷ 0 ∷ 0 ∷ 0 ∷ 0 ∷ []
+
+module _ (d : Defaults) (m : Memory) (sized : length (m .counts) ≡ 4) (c : CCall) (n : ℕ) where
+  -- a record judged at once that is refused
+  pub c-refused : (q : Request) → Promised d m (direct q) c → getD (c .words) 0 0 ≡ suc n
+      → (c .words ≡ numberWords (suc n)) × (c .memory ≡ m) × (c .buffer ≡ c .lent)
+  unfolding offsetOf filled
+  c-refused q p a =
+      let r = refused-direct d (terminalAt m) q n (sym (ap (λ (l : List ℕ). getD l 0 0) (p .0 .says)) ∙ a) in (
+        p .0 .says ∙ ap wordsOf r,
+        p .0 .keeps ∙ ap (λ (t : Transition). memoryOf (t .terminal)) r ∙ memory-back m sized,
+        p .0 .fills ∙ ap (λ (t : Transition). filled (c .lent) (t .response .contents)) r,
+      )
+
+  -- a take that answers 1 or 27: no record either
+  pub c-nothing : (clock room : ℕ) → Promised d m (takeAt clock room) c → getD (c .words) 0 0 ≡ n → (eqb n 1 || eqb n 27) ≡ true
+      → (c .words ≡ numberWords n) × (c .size ≡ 0 ∷ []) × (c .memory ≡ m) × (c .buffer ≡ c .lent)
+  unfolding offsetOf filled
+  c-nothing clock room p a e =
+      let r = take-nothing d (terminalAt m) clock room n e (sym (ap (λ (l : List ℕ). getD l 0 0) (p .0 .says)) ∙ a) in (
+        p .0 .says ∙ ap wordsOf r,
+        p .0 .sized ∙ ap (λ (t : Transition). length (t .bytes) ∷ []) r,
+        p .0 .keeps ∙ ap (λ (t : Transition). memoryOf (t .terminal)) r ∙ memory-back m sized,
+        p .0 .fills ∙ ap (λ (t : Transition). filled (c .lent) (t .response .contents)) r,
+      )
+
+-- a hand-in that is refused
+refused-hand-in : (x : Terminal) (r : List ℕ) (n : ℕ) → handedIn x r .response .answer ≡ suc n → handedIn x r ≡ numberTransition (suc n) x
+unfolding handedIn
+refused-hand-in x r n a =
+    check-cases (verdict (handInChecks x r))
+    (λ e. let b : 0 ≡ suc n = rw e at a in absurd (omega (arith, b)))
+    (λ k e. rw e (ap (λ (j : ℕ). numberTransition j x) (rw e at a)))
+
+pub c-not-kept : (d : Defaults) (m : Memory) (c : CCall) (r : List ℕ) (n : ℕ) → Promised d m (handIn r) c → getD (c .words) 0 0 ≡ suc n
+    → (c .words ≡ numberWords (suc n)) × (c .memory ≡ m)
+unfolding offsetOf
+c-not-kept d m c r n p a =
+    let t = refused-hand-in (terminalAt m) r n (sym (ap (λ (l : List ℕ). getD l 0 0) (p .0 .says)) ∙ a) in (
+      p .0 .says ∙ ap wordsOf t,
+      p .1 ∙ ap (withQueue m) (p .0 .keeps ∙ ap (λ (u : Transition). u .terminal .queue) t),
+    )

@@ -1,0 +1,42 @@
+-- Theorem: the offset and the length that C gets are those of the outcome's payload within the record.
+use Rattle.rows.proofs.Prelude.{_≡_, refl, _∙_, List, ℕ, zero, suc, arith, length, take, drop, getD, ne-eqb}
+use Rattle.rules.specs.Record.{Request, received}
+use Rattle.rules.specs.Defaults.{Defaults}
+use Rattle.rules.specs.Checks.{verdict}
+use Rattle.rules.specs.Outcome.{payloadPart}
+use Rattle.rules.proofs.CheckLaws.{check-cases}
+use Rattle.rules.proofs.Refusals.{payload-is}
+use Rattle.rules_waiting.specs.Terminal.{Terminal, takeChecks, due, taken, directChecks, judged}
+use Rattle.rules_interface.specs.Interface.{offsetOf, wordsOf}
+
+-- the part at this offset, of this length
+abbrev pub partAt : ℕ → ℕ → List ℕ → List ℕ
+partAt offset n r = take n (drop offset r)
+
+-- the part that the words name
+abbrev pub payloadIn : List ℕ → List ℕ → List ℕ
+payloadIn words r = partAt (getD words 2 0) (getD words 3 0) r
+
+-- a payload stands behind the header, and none has no place
+pub part-found : (n : ℕ) (r : List ℕ) → partAt (offsetOf n) n r ≡ payloadPart n r
+unfolding offsetOf
+part-found zero r = refl
+part-found (suc n) r = rw (ne-eqb (suc n) 0 (λ z. omega arith))
+
+-- ---- of a record judged at once, and of a record taken in the bytes that are handed out
+
+judged-payload : (d : Defaults) (x : Terminal) (q : Request) → payloadPart (length (judged d x q .response .payload)) (q .bytes) ≡ judged d x q .response .payload
+unfolding judged
+judged-payload d x q = check-cases (verdict (directChecks x)) (λ e. rw e (payload-is d (x .tables) q)) (λ n e. rw e)
+
+taken-payload : (d : Defaults) (x : Terminal) (clock room : ℕ) → let a = taken d x clock room in payloadPart (length (a .response .payload)) (a .bytes) ≡ a .response .payload
+unfolding taken
+taken-payload d x clock room = check-cases (verdict (takeChecks x)) (λ e. rw e (payload-is d (x .tables) (received clock (due x) room))) (λ n e. rw e)
+
+pub payload-found : (d : Defaults) (x : Terminal) (q : Request) → payloadIn (wordsOf (judged d x q)) (q .bytes) ≡ judged d x q .response .payload
+payload-found d x q = part-found (length (judged d x q .response .payload)) (q .bytes) ∙ judged-payload d x q
+
+pub payload-taken : (d : Defaults) (x : Terminal) (clock room : ℕ)
+    → payloadIn (wordsOf (taken d x clock room)) (taken d x clock room .bytes) ≡ taken d x clock room .response .payload
+payload-taken d x clock room =
+    let a = taken d x clock room in part-found (length (a .response .payload)) (a .bytes) ∙ taken-payload d x clock room

@@ -1,0 +1,90 @@
+-- What each C function promises of the memory m that is lent, with default rows d: what it says, in words, and the bytes that it leaves.
+-- A refusal leaves the terminal as it was, so by these equations the same bytes.
+use Prim.Native.Nat.{ℕ}
+use mathlib.Core.Path.{_≡_}
+use mathlib.Core.Bool.{cond}
+use mathlib.Core.List.{List, [], _∷_}
+use lib.Dec.{eqb}
+use lib.ListN.{length}
+use Rattle.rules.specs.Record.{Request}
+use Rattle.rules.specs.Defaults.{Defaults}
+use Rattle.rules.specs.Reading.{filled}
+use Rattle.rules.specs.Checks.{numberOf}
+use Rattle.rules.specs.Outcome.{Said}
+use Rattle.rules_waiting.specs.Slots.{padded}
+use Rattle.rules_waiting.specs.Terminal.{Transition, soundTerminal, handedIn, taken, judged, said, freshTerminal, clearedTerminal}
+use Rattle.rules_office.specs.Office.{officeVerdict, officeReply}
+use Rattle.rules_lists.specs.Lists.{listTested}
+use Rattle.rules_legacy.specs.Conversion.{conversionVerdict, conversionReply}
+use Rattle.rules_interface.specs.Memory.{Memory, terminalAt, memoryOf}
+
+-- ---- what is said
+
+-- where the payload stands in its record: behind the header's four bytes, and none has no place
+unfoldable pub offsetOf : ℕ → ℕ
+offsetOf n = cond (eqb n 0) 0 4
+
+-- answer, permission, the payload's offset and length, the reply's length, the rows to store, the links
+abbrev pub wordsIn : Said → List ℕ
+wordsIn s =
+    s .answer
+    ∷ s .permission
+    ∷ offsetOf (s .payload)
+    ∷ s .payload
+    ∷ s .reply
+    ∷ s .places .first
+    ∷ s .places .many
+    ∷ s .links .set
+    ∷ s .links .size
+    ∷ []
+
+abbrev pub wordsOf : Transition → List ℕ
+wordsOf a = wordsIn (said a)
+
+-- ---- a terminal
+
+-- new, of any bytes
+abbrev pub FreshAt : Defaults → Memory → Type 0
+FreshAt d after = after ≡ memoryOf (freshTerminal d)
+
+-- the clear button
+abbrev pub ClearsAt : Defaults → Memory → Memory → Type 0
+ClearsAt d m after = after ≡ memoryOf (clearedTerminal d (terminalAt m))
+
+-- 1 where it is sound, else 0
+pub record IsSoundAt (m : Memory) (told : ℕ) : Type 0 where
+  pub says : told ≡ cond (soundTerminal (terminalAt m)) 1 0
+
+-- ---- records
+
+-- a record is handed in; the tables are lent to be read
+pub record HandsInAt (m : Memory) (r words queue : List ℕ) : Type 0 where
+  pub says : words ≡ wordsOf (handedIn (terminalAt m) r)
+  pub keeps : queue ≡ handedIn (terminalAt m) r .terminal .queue
+
+-- a record is judged at once
+pub record JudgesAt (d : Defaults) (m : Memory) (q : Request) (words : List ℕ) (after : Memory) (lent buffer : List ℕ) : Type 0 where
+  pub says : words ≡ wordsOf (judged d (terminalAt m) q)
+  pub keeps : after ≡ memoryOf (judged d (terminalAt m) q .terminal)
+  pub fills : buffer ≡ filled lent (judged d (terminalAt m) q .response .contents)
+
+-- a take, at a clock, with a buffer of a length: also the record's length, and the record with zeros behind it
+pub record TakesAt (d : Defaults) (m : Memory) (clock room : ℕ) (words size bytes : List ℕ) (after : Memory) (lent buffer : List ℕ) : Type 0 where
+  pub says : words ≡ wordsOf (taken d (terminalAt m) clock room)
+  pub sized : size ≡ length (taken d (terminalAt m) clock room .bytes) ∷ []
+  pub hands : bytes ≡ padded (taken d (terminalAt m) clock room .bytes)
+  pub keeps : after ≡ memoryOf (taken d (terminalAt m) clock room .terminal)
+  pub fills : buffer ≡ filled lent (taken d (terminalAt m) clock room .response .contents)
+
+-- ---- lists: an answer, and a row or a length
+
+pub record ListsAt (m : Memory) (words lent buffer : List ℕ) : Type 0 where
+  pub says : words ≡ numberOf (officeVerdict (terminalAt m) (length lent)) ∷ length (officeReply (terminalAt m) (length lent)) ∷ []
+  pub fills : buffer ≡ filled lent (officeReply (terminalAt m) (length lent))
+
+abbrev pub TestsAt : List ℕ → List ℕ → Type 0
+TestsAt rows words = words ≡ listTested rows .answer ∷ listTested rows .row ∷ []
+
+pub record ConvertsAt (file words lent buffer : List ℕ) : Type 0 where
+  pub says : words ≡ numberOf (conversionVerdict file (length lent)) ∷ length (conversionReply file (length lent)) ∷ []
+  pub fills : buffer ≡ filled lent (conversionReply file (length lent))

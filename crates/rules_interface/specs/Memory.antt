@@ -1,0 +1,86 @@
+-- The memory that C lends: the bytes of the tables as five arrays, in their order, and those of what waits.
+-- Any bytes are read as a terminal; a terminal is written as bytes.
+use Prim.Native.Nat.{ℕ}
+use mathlib.Core.Path.{_≡_}
+use mathlib.Core.List.{List, [], _∷_}
+use lib.ListN.{length, getD}
+use Rattle.rules.specs.declared.Tables.{Tables}
+use Rattle.rules.specs.declared.Head.{Head}
+use Rattle.rules.specs.Tables.{tablesOf, headOf}
+use Rattle.rules.specs.Words.{Lent, was, became}
+use Rattle.rules_waiting.specs.Terminal.{Terminal, terminal}
+
+-- `counts` are the four bytes before the owners: the state, whether there is an owner, and the rows held
+pub record Memory : Type 0 where
+  pub counts : List ℕ
+  pub devowner : List ℕ
+  pub rowners : List ℕ
+  pub creds : List ℕ
+  pub aces : List ℕ
+  pub queue : List ℕ
+
+-- ---- read
+
+abbrev pub headAt : List ℕ → List ℕ → List ℕ → Head
+headAt counts devowner rowners = record {
+  state = getD counts 0 0;
+  owned = getD counts 1 0;
+  ncreds = getD counts 2 0;
+  naces = getD counts 3 0;
+  devowner = devowner;
+  rowners = rowners;
+}
+
+abbrev pub tablesAt : List ℕ → List ℕ → List ℕ → List ℕ → List ℕ → Tables
+tablesAt counts devowner rowners creds aces = tablesOf (headAt counts devowner rowners) creds aces
+
+abbrev pub terminalAt : Memory → Terminal
+terminalAt m = terminal (tablesAt (m .counts) (m .devowner) (m .rowners) (m .creds) (m .aces)) (m .queue)
+
+-- ---- written
+
+abbrev pub countsOf : Head → List ℕ
+countsOf h = h .state ∷ h .owned ∷ h .ncreds ∷ h .naces ∷ []
+
+abbrev pub memoryOf : Terminal → Memory
+memoryOf x = record {
+  counts = countsOf (headOf (x .tables));
+  devowner = x .tables .devowner;
+  rowners = x .tables .rowners;
+  creds = x .tables .creds;
+  aces = x .tables .aces;
+  queue = x .queue;
+}
+
+-- the same tables, beside what waits now
+abbrev pub withQueue : Memory → List ℕ → Memory
+withQueue m queue = record {
+  counts = m .counts;
+  devowner = m .devowner;
+  rowners = m .rowners;
+  creds = m .creds;
+  aces = m .aces;
+  queue = queue;
+}
+
+-- ---- for contracts: what is lent, before a call and after it
+
+abbrev pub memoryBefore : Lent → Lent → Lent → Lent → Lent → Lent → Memory
+memoryBefore counts devowner rowners creds aces queue = record {
+  counts = was counts;
+  devowner = was devowner;
+  rowners = was rowners;
+  creds = was creds;
+  aces = was aces;
+  queue = was queue;
+}
+
+abbrev pub memoryAfter : Lent → Lent → Lent → Lent → Lent → Lent → Memory
+memoryAfter counts devowner rowners creds aces queue = record {
+  counts = became counts;
+  devowner = became devowner;
+  rowners = became rowners;
+  creds = became creds;
+  aces = became aces;
+  queue = became queue;
+}

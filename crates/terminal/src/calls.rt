@@ -1,0 +1,220 @@
+// A call of each exported function, with the promise that the theorems over C calls suppose of it (crate `rules_interface`).
+// Its contract is all that a call here knows: an exported function that promises less is refused here.
+use crate::lists::tillerclover_access_list_at;
+use crate::lists::tillerclover_convert_list_at;
+use crate::lists::tillerclover_test_list_at;
+use crate::storing::tillerclover_store_current;
+use crate::storing::tillerclover_store_next;
+use crate::tillerclover_clear_at;
+use crate::tillerclover_fresh_at;
+use crate::tillerclover_hand_in_at;
+use crate::tillerclover_is_sound_at;
+use crate::tillerclover_judge_at;
+use crate::tillerclover_take_at;
+use rules::ACE_ROWS;
+use rules::CRED_ROWS;
+use rules_waiting::QUEUE;
+ghost use lib.ListN.{length};
+ghost use Rattle.rules.specs.Words.{was, became};
+ghost use Rattle.rules.specs.Record.{received};
+ghost use Rattle.rules.specs.Defaults.{noDefaults, defaults};
+ghost use Rattle.rules_waiting.specs.Inputs.{handIn, takeAt, direct};
+ghost use Rattle.rules_power.specs.Kept.{clear};
+ghost use Rattle.rules_interface.specs.Memory.{memoryBefore, memoryAfter, withQueue};
+ghost use Rattle.rules_interface.specs.Interface.{FreshAt, IsSoundAt, ListsAt, TestsAt, ConvertsAt};
+ghost use Rattle.rules_interface.specs.Storing.{StoresNext, StoresCurrent};
+ghost use Rattle.rules_interface.specs.Calls.{Promised, PromisedBy, clearCall, handInCall, judgeCall, takeCall};
+
+pub fn fresh(
+    counts: &mut [u8; 4],
+    devowner: &mut [u8; 16],
+    rowners: &mut [u8; 64],
+    creds: &mut [u8; CRED_ROWS],
+    aces: &mut [u8; ACE_ROWS],
+    queue: &mut [u8; QUEUE],
+    default_creds: &[u8],
+    default_aces: &[u8],
+)
+    ensures { λ _. ⌜ FreshAt (defaults (was «default_creds») (was «default_aces»)) (memoryAfter counts devowner rowners creds aces queue) ⌝ }
+{
+    tillerclover_fresh_at(
+        counts,
+        devowner,
+        rowners,
+        creds,
+        aces,
+        queue,
+        default_creds,
+        default_aces,
+    );
+}
+
+pub fn clear(
+    counts: &mut [u8; 4],
+    devowner: &mut [u8; 16],
+    rowners: &mut [u8; 64],
+    creds: &mut [u8; CRED_ROWS],
+    aces: &mut [u8; ACE_ROWS],
+    queue: &mut [u8; QUEUE],
+    default_creds: &[u8],
+    default_aces: &[u8],
+)
+    ensures { λ _. ⌜ PromisedBy (defaults (was «default_creds») (was «default_aces»)) (memoryBefore counts devowner rowners creds aces queue) clear (clearCall (memoryAfter counts devowner rowners creds aces queue)) ⌝ }
+{
+    tillerclover_clear_at(
+        counts,
+        devowner,
+        rowners,
+        creds,
+        aces,
+        queue,
+        default_creds,
+        default_aces,
+    );
+}
+
+pub fn is_sound<'a>(
+    counts: &[u8; 4],
+    devowner: &[u8; 16],
+    rowners: &[u8; 64],
+    creds: &'a [u8; CRED_ROWS],
+    aces: &'a [u8; ACE_ROWS],
+    queue: &[u8; QUEUE],
+) -> u64
+    ensures { λ r. ⌜ IsSoundAt (memoryBefore counts devowner rowners creds aces queue) r ⌝ }
+{
+    tillerclover_is_sound_at(counts, devowner, rowners, creds, aces, queue)
+}
+
+pub fn judge(
+    counts: &mut [u8; 4],
+    devowner: &mut [u8; 16],
+    rowners: &mut [u8; 64],
+    creds: &mut [u8; CRED_ROWS],
+    aces: &mut [u8; ACE_ROWS],
+    queue: &mut [u8; QUEUE],
+    default_creds: &[u8],
+    default_aces: &[u8],
+    clock: u32,
+    rec: &[u8],
+    reply: &mut [u8],
+    said: &mut [u64; 9],
+)
+    ensures { λ _. ⌜
+        Promised (defaults (was «default_creds») (was «default_aces»)) (memoryBefore counts devowner rowners creds aces queue)
+        (direct (received clock (was rec) (length (was reply))))
+        (judgeCall (became said) (memoryAfter counts devowner rowners creds aces queue) (was reply) (became reply)) ⌝ }
+{
+    tillerclover_judge_at(
+        counts,
+        devowner,
+        rowners,
+        creds,
+        aces,
+        queue,
+        default_creds,
+        default_aces,
+        clock,
+        rec,
+        reply,
+        said,
+    );
+}
+
+pub fn hand_in<'a>(
+    counts: &[u8; 4],
+    devowner: &[u8; 16],
+    rowners: &[u8; 64],
+    creds: &'a [u8; CRED_ROWS],
+    aces: &'a [u8; ACE_ROWS],
+    queue: &mut [u8; QUEUE],
+    rec: &[u8],
+    said: &mut [u64; 9],
+)
+    ensures { λ _. ⌜
+        Promised noDefaults (memoryBefore counts devowner rowners creds aces queue) (handIn (was rec))
+        (handInCall (became said) (withQueue (memoryBefore counts devowner rowners creds aces queue) (became queue))) ⌝ }
+{
+    tillerclover_hand_in_at(counts, devowner, rowners, creds, aces, queue, rec, said);
+}
+
+pub fn take(
+    counts: &mut [u8; 4],
+    devowner: &mut [u8; 16],
+    rowners: &mut [u8; 64],
+    creds: &mut [u8; CRED_ROWS],
+    aces: &mut [u8; ACE_ROWS],
+    queue: &mut [u8; QUEUE],
+    default_creds: &[u8],
+    default_aces: &[u8],
+    clock: u32,
+    reply: &mut [u8],
+    said: &mut [u64; 9],
+    size: &mut [u64; 1],
+    bytes: &mut [u8; 256],
+)
+    ensures { λ _. ⌜
+        Promised (defaults (was «default_creds») (was «default_aces»)) (memoryBefore counts devowner rowners creds aces queue) (takeAt clock (length (was reply)))
+        (takeCall (became said) (became size) (became bytes) (memoryAfter counts devowner rowners creds aces queue) (was reply) (became reply)) ⌝ }
+{
+    tillerclover_take_at(
+        counts,
+        devowner,
+        rowners,
+        creds,
+        aces,
+        queue,
+        default_creds,
+        default_aces,
+        clock,
+        reply,
+        said,
+        size,
+        bytes,
+    );
+}
+
+pub fn access_list<'a>(
+    counts: &[u8; 4],
+    devowner: &[u8; 16],
+    rowners: &[u8; 64],
+    creds: &'a [u8; CRED_ROWS],
+    aces: &'a [u8; ACE_ROWS],
+    queue: &[u8; QUEUE],
+    text: &mut [u8],
+    said: &mut [u64; 2],
+)
+    ensures { λ _. ⌜ ListsAt (memoryBefore counts devowner rowners creds aces queue) (became said) (was text) (became text) ⌝ }
+{
+    tillerclover_access_list_at(counts, devowner, rowners, creds, aces, queue, text, said);
+}
+
+pub fn test_list(rows: &[u8], said: &mut [u64; 2])
+    ensures { λ _. ⌜ TestsAt (was rows) (became said) ⌝ }
+{
+    tillerclover_test_list_at(rows, said);
+}
+
+pub fn convert_list(file: &[u8], rows: &mut [u8], said: &mut [u64; 2])
+    ensures { λ _. ⌜ ConvertsAt (was file) (became said) (was rows) (became rows) ⌝ }
+{
+    tillerclover_convert_list_at(file, rows, said);
+}
+
+pub fn store_next(
+    store: &[u8],
+    image: &[u8],
+    from: usize,
+    place: &mut [u64; 1],
+    byte: &mut [u8; 1],
+) -> u64
+    ensures { λ r. ⌜ StoresNext (was store) (was image) from r (was place) (was byte) (became place) (became byte) ⌝ }
+{
+    tillerclover_store_next(store, image, from, place, byte)
+}
+
+pub fn store_current(store: &[u8], n: usize, place: &mut [u64; 1]) -> u64
+    ensures { λ r. ⌜ StoresCurrent (was store) n r (was place) (became place) ⌝ }
+{
+    tillerclover_store_current(store, n, place)
+}

@@ -1,0 +1,76 @@
+// The C interface of lists: the access list as office text, the test of a list, and lists of the older terminals.
+// What is said is two words: the answer, and a row or a length.
+use rules::ACE_ROWS;
+use rules::CRED_ROWS;
+use rules::Tables;
+use rules_waiting::QUEUE;
+ghost use mathlib.Core.Path.{_≡_};
+ghost use Rattle.rules.specs.Words.{was, became};
+ghost use Rattle.rules_interface.specs.Memory.{tablesAt, memoryBefore};
+ghost use Rattle.rules_interface.specs.Interface.{ListsAt, TestsAt, ConvertsAt};
+
+// The tables that are lent.
+fn tables_at<'a>(
+    counts: &[u8; 4],
+    devowner: &[u8; 16],
+    rowners: &[u8; 64],
+    creds: &'a [u8; CRED_ROWS],
+    aces: &'a [u8; ACE_ROWS],
+) -> Tables
+    ensures { λ r. ⌜ r ≡ tablesAt (was counts) (was devowner) (was rowners) (was creds) (was aces) ⌝ }
+{
+    let owner = *devowner;
+    let owners = *rowners;
+    let cred_rows = *creds;
+    let ace_rows = *aces;
+    Tables {
+        state: counts[0],
+        owned: counts[1],
+        ncreds: counts[2],
+        naces: counts[3],
+        devowner: owner,
+        rowners: owners,
+        creds: cred_rows,
+        aces: ace_rows,
+    }
+}
+
+// The access list as office text.
+// Rules out: a byte written on 17 or 18; another list's text; a length that is not the text's.
+#[no_mangle]
+pub extern "C" fn tillerclover_access_list_at<'a>(
+    counts: &[u8; 4],
+    devowner: &[u8; 16],
+    rowners: &[u8; 64],
+    creds: &'a [u8; CRED_ROWS],
+    aces: &'a [u8; ACE_ROWS],
+    queue: &[u8; QUEUE],
+    text: &mut [u8],
+    said: &mut [u64; 2],
+)
+    ensures { λ _. ⌜ ListsAt (memoryBefore counts devowner rowners creds aces queue) (became said) (was text) (became text) ⌝ }
+{
+    let t = tables_at(counts, devowner, rowners, creds, aces);
+    let l = office_list::access_list(t, queue, text);
+    *said = [l.answer as u64, l.length as u64];
+}
+
+// Tests a list of access rows that the provisioning program writes.
+// Rules out: a list of 33 rows accepted; another row named than the first bad one.
+#[no_mangle]
+pub extern "C" fn tillerclover_test_list_at(rows: &[u8], said: &mut [u64; 2])
+    ensures { λ _. ⌜ TestsAt (was rows) (became said) ⌝ }
+{
+    let l = list_test::test_list(rows);
+    *said = [l.answer as u64, l.row as u64];
+}
+
+// An access list of an older terminal as access rows.
+// Rules out: a byte written on 23, 24 or 25; a byte changed behind the rows; a length that is not that of the rows.
+#[no_mangle]
+pub extern "C" fn tillerclover_convert_list_at(file: &[u8], rows: &mut [u8], said: &mut [u64; 2])
+    ensures { λ _. ⌜ ConvertsAt (was file) (became said) (was rows) (became rows) ⌝ }
+{
+    let l = list_convert::convert(file, rows);
+    *said = [l.answer as u64, l.length as u64];
+}
