@@ -30,7 +30,7 @@ import sys
 
 sys.dont_write_bytecode = True
 from answers import ANSWERS, answers, check_header_rules, order_picture, sequence_picture, states_picture, writes_table  # noqa: E402
-from sources import HEADER, Changed, asks, contracts, declares, exports, faults, fault, found, functions_of, number, read, right_side, rows_of  # noqa: E402
+from sources import HEADER, Changed, asks, contracts, exports, faults, fault, found, functions_of, number, read, right_side, rows_of  # noqa: E402
 
 PAGE, MODEL = "docs/PICTURES.md", "docs/SECURITY-MODEL.md"
 CITED = ["README.md", "SECURITY.md", "CHANGELOG.md", MODEL, "docs/ASSESSOR.md", "docs/ANSWERS.md", "docs/GLOSSARY.md", PAGE]
