@@ -188,7 +188,8 @@ module _ (d : Defaults) (chosen : Sender → Bool) (Such : Tables → Type 0) wh
       let us = judgedAt d x i in
       let turn : paired (requests rs (eventOf i (transition d x i))) (toldOf i (transition d x i)) ≡ us =
       ap₂ paired (ap (requests rs) (event-seen d x i) ∙ found-here x rs i f) (told-seen d x i) ∙ paired-turns us in
-      ((rw turn at (a .0)), again-found (next d x i) _ is (found-next x rs i f) (rw (event-seen d x i) at (a .1)))
+      let more = subst (λ (es : List Event). Again chosen Such (recordsAfter rs es) is (answersTo d (next d x i) is)) (event-seen d x i) (a .1) in
+      ((rw turn at (a .0)), again-found (next d x i) _ is (found-next x rs i f) more)
 
   pub again-handed : (x : Terminal) (is : List Input) → Again chosen Such (recordsIn x) is (answersTo d x is) → AgainAt d chosen Such x is
   again-handed x is = again-found x (recordsIn x) is (judged-handed d x)

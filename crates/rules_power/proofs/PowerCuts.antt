@@ -12,6 +12,8 @@ use Rattle.rules_waiting.proofs.Shown.{allShown}
 use Rattle.rules_handed.specs.Events.{gathered}
 use Rattle.rules_handed.specs.Isolation.{BookPremise, Isolated}
 use Rattle.rules_handed.specs.Waits.{recordTaken, QuietFor}
+use Rattle.rules_handed.proofs.Isolation.{answersTo}
+use Rattle.rules_handed.proofs.Served.{waiting-served}
 use Rattle.rules_handed.proofs.Calls.{handed-isolation, built-served}
 use Rattle.rules_store.specs.Store.{sizeFor}
 use Rattle.rules_power.specs.Image.{tablesSize, terminalSize}
@@ -180,3 +182,10 @@ module _ (d : Defaults) where
   day-served x z es c r h w q n =
       built-served d x (c .inputs) (c .calls) (c .built) h r w q
       (omega (arith, takes-inputs (c .inputs), takes-told (map input (c .inputs)) (c .calls) es (c .seen)))
+
+  -- the same by the rules
+  pub day-served-rules : (x : Terminal) (is : List Input) (rs : List Transition) (es : List (Event Act Transition)) → SeenOf (map input is) rs es → (r : List ℕ)
+      → soundTerminal x ≡ true → some (same r) (recordsIn x) ≡ true → QuietFor r x is (answersTo d x is) → 25 ≤ takesTold es
+      → some (same r) (gathered recordTaken is (answersTo d x is)) ≡ true
+  day-served-rules x is rs es seen r h w q n =
+      waiting-served d x is r h w q (omega (arith, takes-inputs is, takes-told (map input is) rs es seen))
