@@ -146,8 +146,8 @@ pub extern "C" fn tillerclover_hand_in_at<'a>(
     ensures { λ _. ⌜ HandsInAt (memoryBefore counts devowner rowners creds aces queue) (was rec) (became said) (became queue) ⌝ }
 {
     let h = head_at(counts, devowner, rowners);
-    let j = queue_intake::hand_in(h, creds, aces, queue, rec);
-    *said = words_of(j);
+    let kept = queue_intake::hand_in(h, creds, aces, queue, rec);
+    *said = words_of(kept);
 }
 
 // Takes the record whose turn it is, and judges it. With 1 and with 27 its length is 0.
@@ -184,10 +184,10 @@ pub extern "C" fn tillerclover_take_at(
         clock,
         reply,
     );
-    let j = u.judgement;
+    let told = u.judgement;
     let taken = u.bytes;
-    put_head(j.head, counts, devowner, rowners);
+    put_head(told.head, counts, devowner, rowners);
     *size = [u.size as u64];
     *bytes = taken;
-    *said = words_of(j);
+    *said = words_of(told);
 }

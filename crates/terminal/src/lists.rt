@@ -61,8 +61,8 @@ pub extern "C" fn tillerclover_access_list_at<'a>(
 pub extern "C" fn tillerclover_test_list_at(rows: &[u8], said: &mut [u64; 2])
     ensures { λ _. ⌜ TestsAt (was rows) (became said) ⌝ }
 {
-    let l = list_test::test_list(rows);
-    *said = [l.answer as u64, l.row as u64];
+    let found = list_test::test_list(rows);
+    *said = [found.answer as u64, found.row as u64];
 }
 
 // An access list of an older terminal as access rows.
@@ -71,6 +71,6 @@ pub extern "C" fn tillerclover_test_list_at(rows: &[u8], said: &mut [u64; 2])
 pub extern "C" fn tillerclover_convert_list_at(file: &[u8], rows: &mut [u8], said: &mut [u64; 2])
     ensures { λ _. ⌜ ConvertsAt (was file) (became said) (was rows) (became rows) ⌝ }
 {
-    let l = list_convert::convert(file, rows);
-    *said = [l.answer as u64, l.length as u64];
+    let made = list_convert::convert(file, rows);
+    *said = [made.answer as u64, made.length as u64];
 }
