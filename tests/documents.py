@@ -589,9 +589,8 @@ def check_glossary():
 def boundary_picture():
     """The trust boundary, with the functions that C can call."""
     functions = []
-    for header in ("include/tillerclover.h", "include/tillerclover_store.h"):
-        plain = re.sub(r"/\*.*?\*/|^ *#.*?(?<!\\)$", "", read(header), flags=re.S | re.M)
-        functions += [name for name in re.findall(r"^[^\n#]*?\btillerclover_(\w+)\([^;{]*?\);", plain, re.M | re.S) if name not in functions]
+    for header in ("include/tillerclover.h", "include/tillerclover_store.h", "include/tillerclover_yards.h"):
+        functions += re.findall(r"^(?:void|uint64_t) tillerclover_(\w+?)(?:_at)?\(", read(header), re.M)
     if "judge" not in functions or "store_next" not in functions:
         raise Changed("the headers declare their functions in another form")
     listed = ",<br/>".join(", ".join(functions[i : i + 3]) for i in range(0, len(functions), 3))
@@ -600,7 +599,7 @@ def boundary_picture():
         '    subgraph device["the device: the integrator\'s"]',
         '        stack["session layer<br/>CoAP, DTLS, keys<br/>believed: who sent a record"]',
         '        subgraph inside["inside the trust boundary"]',
-        '            program["the weighing program<br/>believed: acts on the answer,<br/>hands back the tables it got last"]',
+        '            program["the weighing program<br/>believed: acts on the answer,<br/>keeps the terminal as it was left"]',
         f'            library["THE LIBRARY: PROVED<br/>{listed}"]', '            clock["clock<br/>believed"]', "        end",
         '        memory["tables, waiting records<br/>any content: looked at, not believed"]',
         '        plate["plate, printer, lamp, calibration"]', "    end", "    net -->|datagrams| stack",
