@@ -11,7 +11,8 @@ use Rattle.rules_waiting.proofs.Shown.{allShown}
 use Rattle.rules_handed.specs.Events.{gathered}
 use Rattle.rules_handed.specs.Isolation.{requestsOf, allTold, AsRules, BookPremise, Isolated}
 use Rattle.rules_handed.specs.Waits.{recordKept, recordTaken, Quiet, QuietFor, FreshAfterReset, waitsAtEnd, roundIn, roundAtEnd, TakenInTurn}
-use Rattle.rules_handed.proofs.Calls.{handed-isolation, built-rules, built-came, built-resets, built-served, built-none-lost, built-waits, built-round, built-turns}
+use Rattle.rules_handed.proofs.Calls.{handed-isolation, built-rules, built-came, built-resets, built-served}
+use Rattle.rules_handed.proofs.Calls.{built-none-lost, built-waits, built-round, built-turns}
 use Rattle.rules_interface.specs.Memory.{Memory, terminalAt}
 use Rattle.rules_interface.specs.Calls.{CCall, CBuilt}
 use Rattle.rules_interface.proofs.CCalls.{callsOf, c-built}

@@ -26,7 +26,8 @@ module _ (d : Defaults) (m : Memory) (is : List Input) (cs : List CCall) (built 
 
   -- the records judged are those of the list, with the bytes of the hand-ins
   pub c-loaded : (b : List ℕ) → listTested b .answer ≡ 0 → Ready (x .tables) → Stores (x .tables) (requestsOf x is (allShown is (callsOf is cs))) (listed b)
-      → (map (λ (p : Response). p .answer) (allTold is (allShown is (callsOf is cs))) ≡ map (λ (q : Request). 0) (requestsOf x is (allShown is (callsOf is cs))))
+      → (map (λ (p : Response). p .answer) (allTold is (allShown is (callsOf is cs)))
+      ≡ map (λ (q : Request). 0) (requestsOf x is (allShown is (callsOf is cs))))
       × (rows Aces (handedBack x (callsOf is cs) .tables) ≡ listed b)
       × (withRows Aces (handedBack x (callsOf is cs) .tables) [] ≡ withRows Aces (x .tables) [])
   c-loaded b = built-loaded d x b is (callsOf is cs) (c-built d m is cs built)

@@ -1,6 +1,6 @@
 -- Laws for the code of the C functions (Lent), the payload's place (Payload).
--- Theorems of C calls: a refusal (CRefused); lists of them as calls, and demand 3 (CCalls), what was handed in (CHanded), yards (CYards), lists of rows (CLoaded),
--- power cuts (CPower).
+-- Theorems of C calls: a refusal (CRefused); lists of them as calls, and demand 3 (CCalls), what was handed in (CHanded), yards (CYards),
+-- lists of rows (CLoaded), power cuts (CPower).
 pub mod Lent
 pub mod Payload
 pub mod CRefused

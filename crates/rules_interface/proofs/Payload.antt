@@ -25,11 +25,13 @@ part-found (suc n) r = rw (ne-eqb (suc n) 0 (λ z. omega arith))
 
 -- ---- of a record judged at once, and of a record taken in the bytes that are handed out
 
-judged-payload : (d : Defaults) (x : Terminal) (q : Request) → payloadPart (length (judged d x q .response .payload)) (q .bytes) ≡ judged d x q .response .payload
+judged-payload : (d : Defaults) (x : Terminal) (q : Request)
+    → payloadPart (length (judged d x q .response .payload)) (q .bytes) ≡ judged d x q .response .payload
 unfolding judged
 judged-payload d x q = check-cases (verdict (directChecks x)) (λ e. rw e (payload-is d (x .tables) q)) (λ n e. rw e)
 
-taken-payload : (d : Defaults) (x : Terminal) (clock room : ℕ) → let a = taken d x clock room in payloadPart (length (a .response .payload)) (a .bytes) ≡ a .response .payload
+taken-payload : (d : Defaults) (x : Terminal) (clock room : ℕ)
+    → let a = taken d x clock room in payloadPart (length (a .response .payload)) (a .bytes) ≡ a .response .payload
 unfolding taken
 taken-payload d x clock room = check-cases (verdict (takeChecks x)) (λ e. rw e (payload-is d (x .tables) (received clock (due x) room))) (λ n e. rw e)
 

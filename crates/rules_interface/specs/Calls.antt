@@ -48,6 +48,3 @@ judgeCall words after lent buffer = record { words = words; memory = after; lent
 
 abbrev pub takeCall : List ℕ → List ℕ → List ℕ → Memory → List ℕ → List ℕ → CCall
 takeCall words size bytes after lent buffer = record { words = words; memory = after; lent = lent; buffer = buffer; size = size; bytes = bytes }
-
-abbrev pub clearCall : Memory → CCall
-clearCall after = record { words = []; memory = after; lent = []; buffer = []; size = []; bytes = [] }

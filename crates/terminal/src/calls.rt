@@ -19,11 +19,10 @@ ghost use Rattle.rules.specs.Words.{was, became};
 ghost use Rattle.rules.specs.Record.{received};
 ghost use Rattle.rules.specs.Defaults.{noDefaults, defaults};
 ghost use Rattle.rules_waiting.specs.Inputs.{handIn, takeAt, direct};
-ghost use Rattle.rules_power.specs.Kept.{clear};
 ghost use Rattle.rules_interface.specs.Memory.{memoryBefore, memoryAfter, withQueue};
-ghost use Rattle.rules_interface.specs.Interface.{FreshAt, IsSoundAt, ListsAt, TestsAt, ConvertsAt};
+ghost use Rattle.rules_interface.specs.Interface.{FreshAt, ClearsAt, IsSoundAt, ListsAt, TestsAt, ConvertsAt};
 ghost use Rattle.rules_interface.specs.Storing.{StoresNext, StoresCurrent};
-ghost use Rattle.rules_interface.specs.Calls.{Promised, PromisedBy, clearCall, handInCall, judgeCall, takeCall};
+ghost use Rattle.rules_interface.specs.Calls.{Promised, handInCall, judgeCall, takeCall};
 
 pub fn fresh(
     counts: &mut [u8; 4],
@@ -59,7 +58,9 @@ pub fn clear(
     default_creds: &[u8],
     default_aces: &[u8],
 )
-    ensures { λ _. ⌜ PromisedBy (defaults (was «default_creds») (was «default_aces»)) (memoryBefore counts devowner rowners creds aces queue) clear (clearCall (memoryAfter counts devowner rowners creds aces queue)) ⌝ }
+    ensures { λ _. ⌜
+        ClearsAt (defaults (was «default_creds») (was «default_aces»))
+        (memoryBefore counts devowner rowners creds aces queue) (memoryAfter counts devowner rowners creds aces queue) ⌝ }
 {
     tillerclover_clear_at(
         counts,
@@ -154,7 +155,8 @@ pub fn take(
     bytes: &mut [u8; 256],
 )
     ensures { λ _. ⌜
-        Promised (defaults (was «default_creds») (was «default_aces»)) (memoryBefore counts devowner rowners creds aces queue) (takeAt clock (length (was reply)))
+        Promised (defaults (was «default_creds») (was «default_aces»)) (memoryBefore counts devowner rowners creds aces queue)
+        (takeAt clock (length (was reply)))
         (takeCall (became said) (became size) (became bytes) (memoryAfter counts devowner rowners creds aces queue) (was reply) (became reply)) ⌝ }
 {
     tillerclover_take_at(
