@@ -133,9 +133,20 @@ done
 module
 "$clang" --target="$OWN" --no-default-config -Xclang -disable-llvm-passes -S -emit-llvm -x ir "$lib/module.bc" -o "$lib/module.ll"
 called_alike "$lib/module.ll"
-# the toolchain's own is always built, and first: where it is not the same, the others are worth nothing
+# The toolchain's own is always built, and first: where it is not the same, the others are worth nothing. Then as many at a
+# time as there are processors.
 for row in "${TARGETS[@]}"; do
     read -ra words <<<"$row"
-    [[ " $OWN $* " != *" ${words[0]} "* ]] || build "${words[@]}"
+    if [ "${words[0]}" = "$OWN" ]; then
+        build "${words[@]}"
+    elif [[ " $* " == *" ${words[0]} "* ]]; then
+        while [ "$(jobs -rp | wc -l)" -ge "$(nproc)" ]; do
+            wait -n || stop "not built"
+        done
+        build "${words[@]}" &
+    fi
+done
+for job in $(jobs -p); do
+    wait "$job" || stop "not built"
 done
 rm -f "$lib/module.ll"
