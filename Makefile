@@ -27,7 +27,7 @@ DIST := target/dist/$(NAME)
 DEB := target/deb/libtillerclover-dev_$(MAJOR).$(MINOR)_amd64.deb
 DEBROOT := target/deb/root
 
-.PHONY: sample test lib install uninstall dist deb help
+.PHONY: sample test lib targets install uninstall dist deb help
 
 sample: ## proves the decision, builds the run program and tries it on a sample of five records (the default)
 	@command -v rt >/dev/null || { echo "The toolchain's command rt is not on the path."; exit 1; }
@@ -46,6 +46,9 @@ test: ## the gate: proves everything from nothing, tries every must-fail edit, r
 
 lib: ## proves the library and writes its archive, target/staticlib/libterminal.a
 	rt staticlib terminal
+
+targets: target/staticlib/libterminal.a ## compiles the library for all processors of docs/TARGETS.md, into target/lib
+	targets/build.sh
 
 # only where it is missing or older than a source
 target/staticlib/libterminal.a: $(SOURCES)
