@@ -6,7 +6,7 @@
 
 README.md       the layers with crates.txt; what must be believed with what the contracts cite
 PROOFS.md       each theorem and function that its tables name stands in the file named, or in the crate
-README.md, SECURITY.md, CHANGELOG.md, SECURITY-MODEL.md, ASSESSOR.md, ANSWERS.md, PICTURES.md
+README.md, SECURITY.md, CHANGELOG.md, SECURITY-MODEL.md, ASSESSOR.md, ANSWERS.md, TARGETS.md, PICTURES.md
                 each theorem that is named before its file, as `name` (crate/proofs/File.antt), stands there, and each
                 `crate::function` is one
 CHANGELOG.md    its first heading is the interface's version, and it names the format's; the lengths of tables, rows and waiting records are today's
@@ -28,7 +28,7 @@ from answers import ANSWERS, answers, check_header_rules, order_picture, sequenc
 from sources import HEADER, Changed, declares, faults, fault, found, functions_of, number, read, right_side, rows_of  # noqa: E402
 
 PAGE = "docs/PICTURES.md"
-CITED = ["README.md", "SECURITY.md", "CHANGELOG.md", "docs/SECURITY-MODEL.md", "docs/ASSESSOR.md", "docs/ANSWERS.md", PAGE]
+CITED = ["README.md", "SECURITY.md", "CHANGELOG.md", "docs/SECURITY-MODEL.md", "docs/ASSESSOR.md", "docs/ANSWERS.md", "docs/TARGETS.md", PAGE]
 
 
 # ---- layouts
