@@ -72,12 +72,13 @@ log() {
 }
 
 # The archive and the program are built from today's sources; rt proves the archive's crate each time, so once is enough.
-library_built=
+# LIBRARY_BUILT says that the caller has built both.
+library_built=${LIBRARY_BUILT-}
 library() {
     [ -n "$library_built" ] || log rt staticlib terminal || return 1
     library_built=yes
 }
-run_program() { log rt check run; }
+run_program() { [ -n "${LIBRARY_BUILT-}" ] || log rt check run; }
 
 in_model() { (cd model && "$@"); }
 in_binding() { (cd bindings/rust && "$@"); }

@@ -48,6 +48,13 @@ written-start [] (x ∷ s) h = absurd (omega arith)
 written-start (b ∷ o) [] h = refl
 written-start (b ∷ o) (x ∷ s) h = ap (λ (l : List ℕ). x ∷ l) (written-start o s (omega arith))
 
+-- past the end nothing is written
+written-past : (o : List ℕ) (at : ℕ) (s : List ℕ) → length o ≤ at → written o at s ≡ o
+unfolding written
+written-past [] at s h = refl
+written-past (b ∷ o) zero s h = absurd (omega arith)
+written-past (b ∷ o) (suc at) s h = ap (λ (l : List ℕ). b ∷ l) (written-past o at s (omega arith))
+
 -- ---- what the writers ensure
 
 pub puts-none : (o : List ℕ) {at : ℕ} → at ≤ largest → Puts o at [] o at
@@ -56,8 +63,11 @@ puts-none o {at} h = record { next = omega arith; buffer = sym (written-none o a
 pub puts-one : (o : List ℕ) (at b : ℕ) → at < largest → Puts o at (b ∷ []) (set o at b) (at + 1)
 puts-one o at b h = record { next = omega arith; buffer = sym (written-one o at b) }
 
+pub puts-beyond : (o : List ℕ) (at : ℕ) (s : List ℕ) {r : ℕ} → length o ≤ at → r ≡ min (at + length s) largest → Puts o at s o r
+puts-beyond o at s h e = record { next = e; buffer = sym (written-past o at s h) }
+
 pub puts-past : (o : List ℕ) (at b : ℕ) {r : ℕ} → length o ≤ at → r ≡ min (at + 1) largest → Puts o at (b ∷ []) o r
-puts-past o at b h e = record { next = e; buffer = sym (written-one o at b ∙ set-out o at b h) }
+puts-past o at b h e = puts-beyond o at (b ∷ []) h e
 
 pub puts-then : {o s t o₁ o₂ : List ℕ} {at r₁ r₂ : ℕ} → length o ≤ largest → Puts o at s o₁ r₁ → Puts o₁ r₁ t o₂ r₂
     → Puts o at (s ++ t) o₂ r₂

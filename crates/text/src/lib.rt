@@ -2,10 +2,10 @@
 // No function has a `requires`: a byte past the buffer's end is not written, and the position goes on, so an empty buffer measures.
 ghost use mathlib.Core.Path.{_≡_};
 ghost use mathlib.Core.List.{[], _∷_};
-ghost use Prim.Native.Nat.{min};
+ghost use Prim.Native.Nat.{min, _+_, _≤_};
 ghost use lib.ListN.{length};
 ghost use Rattle.text.specs.Text.{decimal};
-ghost use Rattle.text.specs.Buffer.{Puts, Counts};
+ghost use Rattle.text.specs.Buffer.{largest, Puts, Counts};
 
 // One byte. The largest position stays where it is.
 // Rules out: a byte written past the end; a position that stops at the end.
@@ -19,9 +19,34 @@ pub fn put_byte(out: &mut [u8], at: usize, b: u8) -> usize
     if at < usize::MAX { at + 1 } else { at }
 }
 
-// A text, byte by byte.
-// Rules out: a text cut one byte early; bytes before the position touched.
-pub fn put(out: &mut [u8], at: usize, text: &[u8]) -> usize
+// A text that fits, in one copy.
+fn copy(out: &mut [u8], at: usize, text: &[u8]) -> usize
+    requires { ⌜ at + length (now text) ≤ length (now out) ⌝ }
+    ensures { λ r. ⌜ Puts (now (out .entry)) at (now (text .entry)) (now (out .exit)) r ⌝ }
+{
+    let mut p = at;
+    let mut i = 0;
+    while i < text.len() {
+        out[p] = text[i];
+        p += 1;
+        i += 1;
+    }
+    p
+}
+
+// The position so many bytes further. The largest position stays where it is.
+fn advance(at: usize, count: usize) -> usize
+    ensures { λ r. ⌜ r ≡ min (at + count) largest ⌝ }
+{
+    if count <= usize::MAX - at {
+        at + count
+    } else {
+        usize::MAX
+    }
+}
+
+// A text over the buffer's end, byte by byte.
+fn put_bytes(out: &mut [u8], at: usize, text: &[u8]) -> usize
     ensures { λ r. ⌜ Puts (now (out .entry)) at (now (text .entry)) (now (out .exit)) r ⌝ }
 {
     let mut p = at;
@@ -31,6 +56,21 @@ pub fn put(out: &mut [u8], at: usize, text: &[u8]) -> usize
         i += 1;
     }
     p
+}
+
+// A text. Past the buffer's end nothing is written; a text that fits is copied.
+// Rules out: a text cut one byte early; bytes before the position touched.
+pub fn put(out: &mut [u8], at: usize, text: &[u8]) -> usize
+    ensures { λ r. ⌜ Puts (now (out .entry)) at (now (text .entry)) (now (out .exit)) r ⌝ }
+{
+    let size = out.len();
+    if size <= at {
+        return advance(at, text.len());
+    }
+    if text.len() <= size - at {
+        return copy(out, at, text);
+    }
+    put_bytes(out, at, text)
 }
 
 // A number in decimal: the digits of its tenth, and then its last digit.
