@@ -33,7 +33,7 @@ DEBS := target/deb
 LIBRARY_DEB := $(DEBS)/libtillerclover-dev
 TOOL_DEB := $(DEBS)/tillerclover
 
-.PHONY: sample test lib sums install install-tool uninstall dist deb help
+.PHONY: sample test lib targets sums install install-tool uninstall dist deb help
 
 sample: ## proves the decision, builds the run program and tries it on a sample of five records (the default)
 	@command -v rt >/dev/null || { echo "The toolchain's command rt is not on the path."; exit 1; }
@@ -55,6 +55,9 @@ lib: ## proves the library and writes its archive, target/staticlib/libterminal.
 
 sums: lib ## writes the kit's identity and the archive's sum to packaging/KIT
 	packaging/kit.sh --write
+
+targets: target/staticlib/libterminal.a ## compiles the library for all processors of docs/TARGETS.md, into target/lib
+	targets/build.sh
 
 # only where it is missing or older than a source
 target/staticlib/libterminal.a: $(SOURCES)

@@ -44,48 +44,57 @@ install() {
     done
 }
 
-# compile NAME FILE FLAG..: a program over the library; the target's words are in $compiler, the archive in $archive
-compile() {
-    local words
-    read -ra words <<<"$compiler"
-    [[ $compiler != arm-none* ]] || words+=("${BARE[@]}")
-    "${words[@]}" -std=c11 -O1 -Wall -Wextra -Wpedantic -Wconversion -Werror -ffunction-sections -fdata-sections -Wl,--gc-sections -Iinclude \
-        "${@:3}" "$2" "$archive" -o "$work/$1"
-}
-
-# Code and data of the board; its memory is twice as large.
+# Code and data of the board that an emulator stands for; its memory is twice as large.
 board() {
     local code=0x00000000 data=0x20000000
     [[ $1 != *an505* ]] || code=0x10000000 data=0x38000000
-    BARE=(-nostartfiles --specs=rdimon.specs -T targets/cortex-m.ld "-Wl,--no-warn-execstack,--no-warn-rwx-segments,--defsym=CODE_START=$code,--defsym=DATA_START=$data"
-        targets/cortex-m.c)
+    BARE=(-nostartfiles --specs=rdimon.specs -T targets/cortex-m.ld
+        "-Wl,--no-warn-execstack,--no-warn-rwx-segments,--defsym=CODE_START=$code,--defsym=DATA_START=$data")
 }
 
-# run NAME WORD..: the program on the target, by the words of $emulator
+# compile FILE..: objects in $own, for the target's compiler
+compile() {
+    local file
+    for file in "$@"; do
+        "${compiler[@]}" -std=c11 -O1 -Wall -Wextra -Wpedantic -Wconversion -Werror -ffunction-sections -fdata-sections -Iinclude "${DIRECT[@]}" \
+            -c "$file" -o "$own/$(basename "$file" .c).o" || return
+    done
+}
+
+# run NAME WORD..: the program of the object and the archive, on the target
 run() {
-    local words
-    read -ra words <<<"$emulator"
-    if [[ $emulator == qemu-system* ]]; then
-        timeout 300 "${words[@]}" -display none -monitor none -serial none -semihosting-config enable=on,target=native -kernel "$work/$1" </dev/null
+    local start=()
+    [ ${#BARE[@]} -eq 0 ] || start=("$own/cortex-m.o")
+    "${compiler[@]}" "${BARE[@]}" -Wl,--gc-sections "$own/$1.o" "${start[@]}" "$archive" -o "$own/$1" || return
+    if [ ${#BARE[@]} -eq 0 ]; then
+        timeout 300 "${emulator[@]}" "$own/$1" "${@:2}"
     else
-        timeout 300 "${words[@]}" "$work/$1" "${@:2}"
+        timeout 300 "${emulator[@]}" -display none -monitor none -serial none -semihosting-config enable=on,target=native -kernel "$own/$1" </dev/null
     fi
 }
 
 # target TRIPLE: its two archives
 target() {
-    local compiler emulator level archive triple BARE=()
-    IFS='|' read -r triple compiler emulator < <(printf '%s\n' "${TARGETS[@]}" | grep "^$1|")
-    board "$emulator"
+    local own=$work/$1 compiler emulator level archive row BARE=() DIRECT=()
+    row=$(printf '%s\n' "${TARGETS[@]}" | grep "^$1|")
+    IFS='|' read -r _ compiler emulator <<<"$row"
+    read -ra compiler <<<"$compiler"
+    read -ra emulator <<<"$emulator"
+    mkdir "$own"
+    if [[ $1 == thumb* ]]; then
+        # a board has no command line
+        board "${emulator[*]}"
+        DIRECT=("-DVECTORS=\"$VECTORS\"" "-DCALLS=$CALLS")
+        compile targets/cortex-m.c || return
+    fi
+    compile tests/interface.c examples/yard.c targets/calls.c || return
     for level in O3 O2; do
-        : >"$work/text"
-        archive=target/lib/$triple/$level/libterminal.a
-        compile interface tests/interface.c && run interface || { echo "$triple -$level: tests/interface.c" && return 1; }
-        compile yard examples/yard.c && run yard >"$work/text" && diff examples/yard.expected "$work/text" ||
-            { echo "$triple -$level: examples/yard.c" && return 1; }
-        compile calls targets/calls.c "${DIRECT[@]}" && run calls "$VECTORS" "$CALLS" >"$work/text" && grep '^random' "$work/text" >>"$work/digests" ||
-            { cat "$work/text" && echo "$triple -$level: targets/calls.c" && return 1; }
-        printf '%-30s -%s  %s, %s bytes of code\n' "$triple" "$level" "$(paste -sd ';' "$work/text" | sed 's/;/; /')" "$(size_of "$archive")"
+        archive=target/lib/$1/$level/libterminal.a
+        run interface || { echo "$1 -$level: tests/interface.c" && return 1; }
+        run yard >"$own/text" && diff examples/yard.expected "$own/text" || { echo "$1 -$level: examples/yard.c" && return 1; }
+        run calls "$VECTORS" "$CALLS" >"$own/text" && grep '^random' "$own/text" >>"$own/digests" ||
+            { cat "$own/text" && echo "$1 -$level: targets/calls.c" && return 1; }
+        printf '%-30s -%s  %s, %s bytes of code\n' "$1" "$level" "$(paste -sd ';' "$own/text" | sed 's/;/; /')" "$(size_of "$archive")"
     done
 }
 
@@ -95,20 +104,26 @@ if [ $# -eq 0 ]; then
     set -- "${TARGETS[@]%%|*}"
 fi
 install && targets/build.sh "$@" || exit 1
+# as many at a time as there are processors
+for triple in "$@"; do
+    while [ "$(jobs -rp | wc -l)" -ge "$(nproc)" ]; do
+        wait -n || true
+    done
+    { target "$triple" && : >"$work/$triple.passed"; } >"$work/$triple.log" 2>&1 &
+done
+wait
 passed=0
 failed=0
-: >"$work/digests"
 for triple in "$@"; do
-    # a board has no command line
-    DIRECT=()
-    [[ $triple != thumb* ]] || DIRECT=("-DVECTORS=\"$VECTORS\"" "-DCALLS=$CALLS")
-    if target "$triple"; then
+    cat "$work/$triple.log"
+    if [ -e "$work/$triple.passed" ]; then
         passed=$((passed + 1))
     else
+        echo "$triple: failed"
         failed=$((failed + 1))
     fi
 done
-if [ "$(sort -u "$work/digests" | wc -l)" -ne 1 ]; then
+if [ "$(cat "$work"/*/digests | sort -u | wc -l)" -ne 1 ]; then
     echo "the digests differ"
     failed=$((failed + 1))
 fi
