@@ -4,6 +4,7 @@
 #
 #     targets/test.sh              all targets
 #     targets/test.sh TRIPLE..     some of them
+#     targets/test.sh --install    installs what is missing, and no more
 #
 # Linux targets run under qemu-user with Debian's cross compilers, the Cortex-M under qemu-system-arm with newlib. What is
 # missing is installed by apt-get. The last line counts the targets; a failure makes the script exit with 1.
@@ -38,7 +39,7 @@ install() {
     for command in "${COMMANDS[@]}"; do
         command -v "$command" >/dev/null && continue
         echo "missing: installing ${PACKAGES[*]}"
-        { apt-get update && apt-get install -y --no-install-recommends "${PACKAGES[@]}"; } >"$work/apt" 2>&1 && return
+        (flock 9 && apt-get update && apt-get install -y --no-install-recommends "${PACKAGES[@]}") >"$work/apt" 2>&1 9>/tmp/tillerclover.apt && return
         tail -n 5 "$work/apt"
         return 1
     done
@@ -100,6 +101,10 @@ target() {
 
 size_of() { size -t "$1" | awk 'END { print $1 }'; }
 
+if [ "${1-}" = --install ]; then
+    install
+    exit
+fi
 if [ $# -eq 0 ]; then
     set -- "${TARGETS[@]%%|*}"
 fi

@@ -8,7 +8,7 @@
 set -uo pipefail
 cd "$(dirname "$0")/.." || exit 2
 
-ALL=(layout model crates clippy binding tool compare runs example interface store same install refuse documents vectors inputs targets terminal)
+ALL=(packages layout model crates clippy binding tool compare runs example interface store same install refuse documents vectors inputs targets terminal)
 root=$PWD
 work=$(mktemp -d) || exit 2
 trap 'rm -rf "$work"' EXIT
@@ -18,10 +18,10 @@ trap 'rm -rf "$work"' EXIT
 # have WHAT: a command, or a file
 have() { command -v "$1" >/dev/null || [ -e "$1" ]; }
 
-# get PACKAGE..: installs them
+# get PACKAGE..: installs them, one call after the other where tests run side by side
 get() {
     echo "missing: installing $*"
-    { apt-get update && apt-get install -y --no-install-recommends "$@"; } >"$work/apt" 2>&1 && return
+    (flock 9 && apt-get update && apt-get install -y --no-install-recommends "$@") >"$work/apt" 2>&1 9>/tmp/tillerclover.apt && return
     tail -n 5 "$work/apt"
     echo "apt-get could not install $*"
     return 1
@@ -121,6 +121,12 @@ test_clippy() {
     log in_binding cargo clippy --quiet --locked --all-targets --features measure -- -D warnings || failed=1
     log tool_cargo clippy --all-targets -- -D warnings || failed=1
     return "$failed"
+}
+
+# What the tests of C need is there: the gate installs it while the proofs run.
+test_packages() {
+    need cc gcc && need c++ g++ && need make make && need pkg-config pkg-config && need cmake cmake && need_coap &&
+        need coap-client-openssl libcoap3-bin && need openssl openssl && log targets/test.sh --install
 }
 
 # The model's own tests, and its programs are built.
