@@ -1,18 +1,26 @@
--- Theorems of C calls: isolation in service, and yards. The C calls are calls (`c-built`), so each theorem is the one over calls
--- (rules_isolation/proofs/BuiltYards.antt).
-use Rattle.rows.proofs.Prelude.{_≡_, true, false, Bool, List, [], _∷_, ℕ}
+-- Theorems of C calls: isolation in service, and yards. The book is fed the records as they were handed in or waited at the start.
+-- The C calls are calls (`c-built`), so each theorem is the one over calls (rules_isolation/proofs/BuiltYards.antt).
+use Rattle.rows.proofs.Prelude.{_≡_, false, Bool, List, [], _∷_, ℕ}
 use Rattle.rules.specs.declared.Sender.{Sender}
 use Rattle.rules.specs.Defaults.{Defaults}
-use Rattle.rules.specs.Run.{kept}
-use Rattle.rules_waiting.specs.Terminal.{Terminal}
-use Rattle.rules_waiting.specs.Inputs.{Input, othersTurn}
-use Rattle.rules_waiting.proofs.Isolated.{AsTheBook}
-use Rattle.rules_waiting.proofs.Built.{callTurns, handedBack}
+use Rattle.rules_waiting.specs.Terminal.{Terminal, Transition}
+use Rattle.rules_waiting.specs.Inputs.{Input, recordsIn}
+use Rattle.rules_waiting.proofs.Built.{handedBack}
+use Rattle.rules_waiting.proofs.Shown.{allShown}
+use Rattle.rules_handed.specs.Isolation as handed
 use Rattle.rules_isolation.specs.declared.Isolation.the-variants.{Isolated}
 use Rattle.rules_isolation.specs.Question.{chosenBy, isolationOf}
-use Rattle.rules_isolation.specs.Yards.{ofYards, ofOtherYards, Disjoint, AllIsolated, Alone}
+use Rattle.rules_isolation.specs.Service.{othersEndanger, turnsHanded, Again}
+use Rattle.rules_isolation.specs.Yards.{ofYards, Disjoint, AllIsolated, YardAlone, BothAlone}
 use Rattle.rules_isolation.proofs.InService.{Within}
-use Rattle.rules_isolation.proofs.BuiltYards.{CalledAgain, built-in-service, built-each-yard, built-two-yards}
+use Rattle.rules_isolation.proofs.BuiltYards.{
+  built-in-service,
+  built-in-quiet-service,
+  built-each-yard,
+  built-each-yard-quiet,
+  built-two-yards,
+  built-two-yards-quiet,
+}
 use Rattle.rules_interface.specs.Memory.{Memory, terminalAt}
 use Rattle.rules_interface.specs.Calls.{CCall, CBuilt}
 use Rattle.rules_interface.proofs.CCalls.{callsOf, c-built}
@@ -21,21 +29,36 @@ module _ (d : Defaults) (m : Memory) (is : List Input) (cs : List CCall) (b : CB
   abbrev x : Terminal
   x = terminalAt m
 
+  -- what the C calls show, and the terminal that they leave
+  abbrev shown : List Transition
+  shown = allShown is (callsOf is cs)
+
+  abbrev left : Terminal
+  left = handedBack x (callsOf is cs)
+
   -- a list that is isolated, and is so again after each call by which somebody else endangers it: any part of it has its run as the book has it
-  pub c-in-service : (list : List ℕ) → isolationOf (x .tables) list ≡ Isolated → (part : Sender → Bool) → Within part (chosenBy list)
-      → CalledAgain (chosenBy list) (λ t. isolationOf t list ≡ Isolated) is (callsOf is cs)
-      → AsTheBook d part x (kept (othersTurn part) (callTurns is (callsOf is cs))) (handedBack x (callsOf is cs) .tables)
-  c-in-service = built-in-service d x is (callsOf is cs) (c-built d m is cs b)
+  module _ (list : List ℕ) (asked : isolationOf (x .tables) list ≡ Isolated) (part : Sender → Bool) (within : Within part (chosenBy list)) where
+    pub c-in-service : Again (chosenBy list) (λ t. isolationOf t list ≡ Isolated) (recordsIn x) is shown
+        → handed.Isolated d part x is shown left
+    c-in-service = built-in-service d x is (callsOf is cs) (c-built d m is cs b) list asked part within
+
+    -- nobody else endangers it
+    pub c-in-quiet-service : othersEndanger (chosenBy list) (turnsHanded x is shown) ≡ false → handed.Isolated d part x is shown left
+    c-in-quiet-service = built-in-quiet-service d x is (callsOf is cs) (c-built d m is cs b) list asked part within
 
   -- any number of yards: each has its run without the others
-  pub c-each-yard : (yards : List (List ℕ)) → AllIsolated yards (x .tables) → (yard : List ℕ)
-      → CalledAgain (ofYards yards) (AllIsolated yards) is (callsOf is cs)
-      → Alone d (chosenBy yard) (ofOtherYards yards yard) (x .tables) (callTurns is (callsOf is cs)) (handedBack x (callsOf is cs) .tables)
-  c-each-yard = built-each-yard d x is (callsOf is cs) (c-built d m is cs b)
+  module _ (yards : List (List ℕ)) (asked : AllIsolated yards (x .tables)) (yard : List ℕ) where
+    pub c-each-yard : Again (ofYards yards) (AllIsolated yards) (recordsIn x) is shown → YardAlone d yards yard x is shown left
+    c-each-yard = built-each-yard d x is (callsOf is cs) (c-built d m is cs b) yards asked yard
+
+    pub c-each-yard-quiet : othersEndanger (ofYards yards) (turnsHanded x is shown) ≡ false → YardAlone d yards yard x is shown left
+    c-each-yard-quiet = built-each-yard-quiet d x is (callsOf is cs) (c-built d m is cs b) yards asked yard
 
   -- two yards with nobody in both
-  pub c-two-yards : (one two : List ℕ) → Disjoint one two → AllIsolated (one ∷ two ∷ []) (x .tables)
-      → CalledAgain (ofYards (one ∷ two ∷ [])) (AllIsolated (one ∷ two ∷ [])) is (callsOf is cs)
-      → Alone d (chosenBy one) (chosenBy two) (x .tables) (callTurns is (callsOf is cs)) (handedBack x (callsOf is cs) .tables)
-      × Alone d (chosenBy two) (chosenBy one) (x .tables) (callTurns is (callsOf is cs)) (handedBack x (callsOf is cs) .tables)
-  c-two-yards = built-two-yards d x is (callsOf is cs) (c-built d m is cs b)
+  module _ (one two : List ℕ) (disjoint : Disjoint one two) (asked : AllIsolated (one ∷ two ∷ []) (x .tables)) where
+    pub c-two-yards : Again (ofYards (one ∷ two ∷ [])) (AllIsolated (one ∷ two ∷ [])) (recordsIn x) is shown
+        → BothAlone d one two x is shown left
+    c-two-yards = built-two-yards d x is (callsOf is cs) (c-built d m is cs b) one two disjoint asked
+
+    pub c-two-yards-quiet : othersEndanger (ofYards (one ∷ two ∷ [])) (turnsHanded x is shown) ≡ false → BothAlone d one two x is shown left
+    c-two-yards-quiet = built-two-yards-quiet d x is (callsOf is cs) (c-built d m is cs b) one two disjoint asked
