@@ -21,7 +21,7 @@ use Rattle.rules.proofs.Answers.{passed, long-enough}
 use Rattle.rules.proofs.LinkLaws.{own}
 use Rattle.decision.proofs.Laws.{check-granted}
 use Rattle.decision_links.specs.Linked.{linkHeader, linked, linkGranted, grantedSet, grantedLinks}
-use Rattle.decision_links.proofs.Halves.{link-known}
+use Rattle.decision_links.proofs.Halves.{link-known, set-same}
 use Rattle.rules.specs.Tables.{rows}
 use Rattle.rules.specs.declared.Table.the-variants.{Creds}
 
@@ -32,21 +32,6 @@ none = refl
 short : (r : List ℕ) (n : ℕ) → badLength (length (ownRecord r n)) ≡ false
 unfolding badLength ownRecord be16
 short r n = refl
-
--- tests that agree at each link
-set-same : (p o : ℕ → Bool) → ((n : ℕ) → 8 ≤ n → n < 15 → p n ≡ o n) → setOf p links ≡ setOf o links
-unfolding setOf
-set-same p o e =
-    let at : (n : ℕ) → 8 ≤ n → n < 15 → p n ≡ o n = e in
-    rw (
-      at 8 (omega arith) (omega arith),
-      at 9 (omega arith) (omega arith),
-      at 10 (omega arith) (omega arith),
-      at 11 (omega arith) (omega arith),
-      at 12 (omega arith) (omega arith),
-      at 13 (omega arith) (omega arith),
-      at 14 (omega arith) (omega arith),
-    )
 
 module _ (t : Tables) (r : List ℕ) (p : verdict (formChecks t r) ≡ Pass) where
   own-passes : (n : ℕ) → n < 64 → known n ≡ true → verdict (formChecks t (ownRecord r n)) ≡ Pass
