@@ -1,6 +1,6 @@
 -- A link's own record passes the checks 1 to 7 where the record that asks does: it has the same sender and verb, and a known number.
 -- So it is permitted exactly where its caller passes the checks after them, and the links by a caller are those of the record.
-use Rattle.rows.proofs.Prelude.{_≡_, refl, sym, ap, ap₂, _∙_, Bool, true, false, not, _&&_, _||_, cond, List, [], ℕ, _≤_, _<_, arith, length, eqb, ltb, eqb-true, not-false}
+use Rattle.rows.proofs.Prelude.{_≡_, refl, sym, ap, ap₂, _∙_, true, false, not, _&&_, _||_, cond, List, [], ℕ, _<_, arith, length, eqb, ltb, eqb-true, not-false}
 use lib.Count.{ones}
 use Rattle.rules.specs.declared.Tables.{Tables}
 use Rattle.rules.specs.declared.Header.{Header}
@@ -9,7 +9,7 @@ use Rattle.rules.specs.Bits.{be16}
 use Rattle.rules.specs.Directory.{known, resourceOf, links}
 use Rattle.rules.specs.Record.{headerOf, sender, body}
 use Rattle.rules.specs.Permission.{senderRow}
-use Rattle.rules.specs.Links.{asksLinks, ownRecord, permits, setOf, linkSet, linksOf}
+use Rattle.rules.specs.Links.{asksLinks, ownRecord, permits, linkSet, linksOf}
 use Rattle.rules.specs.Checks.{verdict, isPass, badLength, noVerb, zeroBitSet, mismatch, unknownResource, noRow, noCredential}
 use Rattle.rules.specs.Groups.{formChecks}
 use Rattle.rows.specs.Rows.{Row}

@@ -41,4 +41,5 @@ module _ (clock : ℕ) (t : Tables) (k : Caller) where
       → setOf (λ n. linkPasses (headOf t) (k .header) (ofLink ps n) n) links ≡ setOf (linkGranted clock t k) links
   unfolding byLink setOf permissionOf
   set-is w connection ps ew ec ep =
-      rw (ep, ew, ec) (set-same (λ n. linkPasses (headOf t) (k .header) (allowed n) n) (linkGranted clock t k) (λ n low high. passes-granted n (link-plain n low high)))
+      rw (ep, ew, ec)
+      (set-same (λ n. linkPasses (headOf t) (k .header) (allowed n) n) (linkGranted clock t k) (λ n low high. passes-granted n (link-plain n low high)))

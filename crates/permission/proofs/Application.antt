@@ -1,6 +1,6 @@
 -- On an application resource the owners' parts of the effective permission are 0, and so is what partners have on roles.
 -- On a link the access rows alone count.
-use Rattle.rows.proofs.Prelude.{_≡_, refl, sym, ap, _∙_, false, List, ℕ, eqb, bitOr, or-zero-r}
+use Rattle.rows.proofs.Prelude.{_≡_, refl, sym, _∙_, false, List, ℕ, eqb, bitOr, or-zero-r}
 use Rattle.rows.specs.Rows.{Row, unionOf}
 use Rattle.rules.specs.declared.Resource.{Resource}
 use Rattle.rules.specs.declared.Head.{Head}
@@ -14,7 +14,8 @@ module _ (clock : ℕ) (h : Head) (rs : List Row) (w : Row) (connection : ℕ) w
   unfolding effectiveOf byOwner byNoOwner
   no-owners e plain = rw (plain, or-zero-r, or-zero-r)
 
-  rows-alone : (e : Resource) → e .configuration ≡ false → eqb (e .number) roles ≡ false → unionOf (grants clock w connection e) rs ≡ effectiveOf clock h rs w connection e
+  rows-alone : (e : Resource) → e .configuration ≡ false → eqb (e .number) roles ≡ false
+      → unionOf (grants clock w connection e) rs ≡ effectiveOf clock h rs w connection e
   unfolding byRoles
   rows-alone e plain other = sym (or-zero-r _) ∙ rw (← no-owners e plain, other)
 

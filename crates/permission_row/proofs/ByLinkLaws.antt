@@ -33,7 +33,8 @@ module _ (clock : ℕ) (w : Row) (connection : ℕ) (a : Row) (e : Resource) whe
   unfolding grants rowFits
   of-another h = rw (h)
 
-  pub by-resource : subjectFits clock w connection a ≡ true → inForce clock a ≡ true → grants clock w connection e a ≡ cond (resourceFits e a) (acePermission a) 0
+  pub by-resource : subjectFits clock w connection a ≡ true → inForce clock a ≡ true
+      → grants clock w connection e a ≡ cond (resourceFits e a) (acePermission a) 0
   unfolding grants rowFits
   by-resource s f = rw (s, f, and-true)
 

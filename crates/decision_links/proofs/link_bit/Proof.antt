@@ -1,9 +1,8 @@
 -- `link_bit`: by the two groups of checks, of the link's own header.
-use Rattle.rows.proofs.Prelude.{_≡_, sym, ap, _∙_, Bool, true, false, List, _++_, ℕ, arith, needs}
+use Rattle.rows.proofs.Prelude.{_≡_, ap, _∙_, Bool, List, _++_, ℕ, arith, needs}
 use Rattle.rules.specs.declared.Header.{Header}
-use Rattle.rules.specs.declared.Check.{Check}
 use Rattle.rules.specs.declared.Action.the-variants.{Serve}
-use Rattle.rules.specs.Checks.{verdict, isPass}
+use Rattle.rules.specs.Checks.{verdict}
 use Rattle.rules.specs.Groups.{requestChecks, stateChecks}
 use Rattle.rules.proofs.CheckLaws.{stop-all, skip-all}
 use Rattle.decision_links.specs.Linked.{linkHeader, linkPasses}

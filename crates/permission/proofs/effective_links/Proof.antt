@@ -1,5 +1,5 @@
 -- `effective_links`: the access rows alone count, and of them those that there is room for.
-use Rattle.rows.proofs.Prelude.{_∙_, needs}
+use borrow.Author.Needs.{needs}
 use Rattle.rules.specs.Tables.{rowsIn}
 use Rattle.permission.proofs.Application.{links-alone}
 use Rattle.permission.proofs.effective_links.Tie as tie

@@ -6,8 +6,11 @@ use Rattle.rules.specs.Permission.{resourceFits}
 use Rattle.permission_row.proofs.ByLinkLaws.{kept}
 use Rattle.permission_row.proofs.with_row.Tie as tie
 
-tested : (c : tie.After-resource-fits) → let s = c .before .before .before in resourceFits (resourceOf (s .args .n)) (now (s .args .ace)) ≡ c .resource-fits .result
-tested c = sym (c .resource-fits .ensures ∙ ap (λ (e : Resource). resourceFits e (now (c .before .before .before .args .ace))) (c .before .resource-row .ensures))
+tested : (c : tie.After-resource-fits) → let s = c .before .before .before in
+    resourceFits (resourceOf (s .args .n)) (now (s .args .ace)) ≡ c .resource-fits .result
+tested c =
+    let s = c .before .before .before in
+    sym (c .resource-fits .ensures ∙ ap (λ (e : Resource). resourceFits e (now (s .args .ace))) (c .before .resource-row .ensures))
 
 pub with-row-spec : {M : Type 1} → Rattle.permission_row.proofs.with_row.Statement.statement M
 with-row-spec = tie.close (tie.spec
