@@ -1,6 +1,6 @@
 -- A link's own record passes the checks 1 to 7 where the record that asks does: it has the same sender and verb, and a known number.
 -- So it is permitted exactly where its caller passes the checks after them, and the links by a caller are those of the record.
-use Rattle.rows.proofs.Prelude.{_≡_, refl, sym, ap, ap₂, _∙_, Bool, true, false, not, _&&_, _||_, cond, List, [], ℕ, _≤_, _<_, arith, length, eqb, ltb, eqb-true, not-false}
+use Rattle.rows.proofs.Prelude.{_≡_, refl, sym, ap, ap₂, _∙_, true, false, not, _&&_, _||_, cond, List, [], ℕ, _<_, arith, length, eqb, ltb, eqb-true, not-false}
 use lib.Count.{ones}
 use Rattle.rules.specs.declared.Tables.{Tables}
 use Rattle.rules.specs.declared.Header.{Header}
@@ -9,7 +9,7 @@ use Rattle.rules.specs.Bits.{be16}
 use Rattle.rules.specs.Directory.{known, resourceOf, links}
 use Rattle.rules.specs.Record.{headerOf, sender, body}
 use Rattle.rules.specs.Permission.{senderRow}
-use Rattle.rules.specs.Links.{asksLinks, ownRecord, permits, setOf, linkSet, linksOf}
+use Rattle.rules.specs.Links.{asksLinks, ownRecord, permits, linkSet, linksOf}
 use Rattle.rules.specs.Checks.{verdict, isPass, badLength, noVerb, zeroBitSet, mismatch, unknownResource, noRow, noCredential}
 use Rattle.rules.specs.Groups.{formChecks}
 use Rattle.rows.specs.Rows.{Row}
@@ -21,7 +21,7 @@ use Rattle.rules.proofs.Answers.{passed, long-enough}
 use Rattle.rules.proofs.LinkLaws.{own}
 use Rattle.decision.proofs.Laws.{check-granted}
 use Rattle.decision_links.specs.Linked.{linkHeader, linked, linkGranted, grantedSet, grantedLinks}
-use Rattle.decision_links.proofs.Halves.{link-known}
+use Rattle.decision_links.proofs.Halves.{link-known, set-same}
 use Rattle.rules.specs.Tables.{rows}
 use Rattle.rules.specs.declared.Table.the-variants.{Creds}
 
@@ -32,21 +32,6 @@ none = refl
 short : (r : List ℕ) (n : ℕ) → badLength (length (ownRecord r n)) ≡ false
 unfolding badLength ownRecord be16
 short r n = refl
-
--- tests that agree at each link
-set-same : (p o : ℕ → Bool) → ((n : ℕ) → 8 ≤ n → n < 15 → p n ≡ o n) → setOf p links ≡ setOf o links
-unfolding setOf
-set-same p o e =
-    let at : (n : ℕ) → 8 ≤ n → n < 15 → p n ≡ o n = e in
-    rw (
-      at 8 (omega arith) (omega arith),
-      at 9 (omega arith) (omega arith),
-      at 10 (omega arith) (omega arith),
-      at 11 (omega arith) (omega arith),
-      at 12 (omega arith) (omega arith),
-      at 13 (omega arith) (omega arith),
-      at 14 (omega arith) (omega arith),
-    )
 
 module _ (t : Tables) (r : List ℕ) (p : verdict (formChecks t r) ≡ Pass) where
   own-passes : (n : ℕ) → n < 64 → known n ≡ true → verdict (formChecks t (ownRecord r n)) ≡ Pass

@@ -2,14 +2,17 @@
 -- Of a record's caller they are the record's: proofs/OwnForm.antt.
 use Prim.Native.Nat.{ℕ}
 use mathlib.Core.Bool.{Bool, cond}
-use mathlib.Core.List.{[]}
+use mathlib.Core.List.{[], _++_}
 use lib.Count.{ones}
 use Rattle.rules.specs.declared.Tables.{Tables}
+use Rattle.rules.specs.declared.Head.{Head}
 use Rattle.rules.specs.declared.Header.{Header}
+use Rattle.rules.specs.declared.Action.the-variants.{Serve}
 use Rattle.rules.specs.declared.Caller.{Caller}
 use Rattle.rules.specs.declared.Links.{Links}
 use Rattle.rules.specs.Directory.{resourceOf, links}
-use Rattle.rules.specs.Checks.{isPass}
+use Rattle.rules.specs.Checks.{verdict, isPass}
+use Rattle.rules.specs.Groups.{requestChecks, stateChecks}
 use Rattle.rules.specs.Decision.{granted}
 use Rattle.rules.specs.Links.{setOf, asksLinks}
 
@@ -27,6 +30,10 @@ linkHeader h n = record {
 -- the same caller, for the resource n
 abbrev pub linked : Caller → ℕ → Caller
 linked k n = record { header = linkHeader (k .header) n; row = k .row }
+
+-- the link n passes with this permission: it asks to be served
+unfoldable pub linkPasses : Head → Header → ℕ → ℕ → Bool
+linkPasses h header p n = isPass (verdict (requestChecks p (linkHeader header n) Serve ++ stateChecks h Serve))
 
 -- the link n is permitted
 unfoldable pub linkGranted : ℕ → Tables → Caller → ℕ → Bool

@@ -1,8 +1,14 @@
 // The links of /yard whose own record would be permitted, as a set and its size.
 // Each link goes through the checks as if its own record had come; it passes 1 to 7 because the record that asks did.
-use decision::grant;
+use caller::connection_of;
+use caller::row_of;
+use check_request::check_request;
+use check_state::check_states;
 use directory::resource_row;
+use permission::effective_links;
+use permission_row::LINKS;
 use rules::ACE_ROWS;
+use rules::Action;
 use rules::CRED_ROWS;
 use rules::Caller;
 use rules::Check;
@@ -17,7 +23,8 @@ ghost use Prim.Native.Nat.{_≤_};
 ghost use Rattle.rules.specs.Directory.{links};
 ghost use Rattle.rules.specs.Links.{setOf, asksLinks};
 ghost use Rattle.rules.specs.Words.{before};
-ghost use Rattle.decision_links.specs.Linked.{linkHeader, linked, linkGranted, grantedLinks};
+ghost use Rattle.permission_row.specs.ByLink.{ofLink};
+ghost use Rattle.decision_links.specs.Linked.{linkHeader, linkPasses, linkGranted, grantedLinks};
 
 // The header with another resource.
 fn link_header(header: Header, n: u16) -> Header
@@ -34,32 +41,16 @@ fn link_header(header: Header, n: u16) -> Header
     }
 }
 
-// The same caller, for another resource.
-fn link_caller(caller: Caller, n: u16) -> Caller
-    ensures { λ r. ⌜ r ≡ linked caller n ⌝ }
+// The bit of link n in the set, where its own record passes with this permission.
+// It asks to be served, with no body and no reply, so no check after 12 applies.
+fn link_bit(h: Head, header: Header, permission: u8, n: u8, bit: u64) -> u64
+    ensures { λ r. ⌜ (r ≡ cond (linkPasses h header permission n) bit 0) × (r ≤ bit) ⌝ }
 {
-    let header = caller.header;
-    let place = caller.row;
-    Caller {
-        header: link_header(header, n),
-        row: place,
-    }
-}
-
-// The bit of link n in the set, where its own record is permitted; it has no body and no reply, so no buffer is needed.
-fn link_bit<'a>(
-    clock: u32,
-    h: Head,
-    creds: &'a [u8; CRED_ROWS],
-    aces: &'a [u8; ACE_ROWS],
-    caller: Caller,
-    n: u8,
-    bit: u64,
-) -> u64
-    ensures { λ r. ⌜ (r ≡ cond (linkGranted clock (before h creds aces) caller n) bit 0) × (r ≤ bit) ⌝ }
-{
-    let d = grant(clock, h, creds, aces, link_caller(caller, n as u16), b"", 0);
-    let c = d.check;
+    let c = check_request(permission, link_header(header, n as u16), Action::Serve);
+    let Check::Pass = c else {
+        return 0;
+    };
+    let c = check_states(h, Action::Serve);
     let Check::Pass = c else {
         return 0;
     };
@@ -69,7 +60,23 @@ fn link_bit<'a>(
 // The bit of link 8 in a set whose top bit is resource 0.
 const FIRST: u64 = 0x0080_0000_0000_0000;
 
-// The sum of the links' bits: from link to link the bit halves.
+// The sum of the links' bits, with the permission on each link: from link to link the bit halves.
+fn bits_sum(h: Head, header: Header, permissions: [u8; LINKS]) -> u64
+    ensures { λ r. ⌜ r ≡ setOf (λ n. linkPasses h header (ofLink permissions n) n) links ⌝ }
+{
+    let mut set: u64 = 0;
+    let mut bit: u64 = FIRST;
+    let mut n: u8 = 8;
+    while n < 15 {
+        let at = (n - 8) as usize;
+        set += link_bit(h, header, permissions[at], n, bit);
+        bit /= 2;
+        n += 1;
+    }
+    set
+}
+
+// The links' permissions are found in one walk over the access rows.
 fn link_set<'a>(
     clock: u32,
     h: Head,
@@ -79,15 +86,12 @@ fn link_set<'a>(
 ) -> u64
     ensures { λ r. ⌜ r ≡ setOf (linkGranted clock (before h creds aces) caller) links ⌝ }
 {
-    let mut set: u64 = 0;
-    let mut bit: u64 = FIRST;
-    let mut n: u8 = 8;
-    while n < 15 {
-        set += link_bit(clock, h, creds, aces, caller, n, bit);
-        bit /= 2;
-        n += 1;
-    }
-    set
+    let header = caller.header;
+    let place = caller.row;
+    let who = header.sender;
+    let cred = row_of(h.ncreds, creds, place);
+    let permissions = effective_links(clock, h, aces, cred, connection_of(who));
+    bits_sum(h, header, permissions)
 }
 
 // RETRIEVE or UPDATE of /yard.

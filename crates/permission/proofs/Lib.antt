@@ -1,0 +1,2 @@
+-- Laws of a permission on an application resource.
+pub mod Application

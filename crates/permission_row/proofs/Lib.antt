@@ -1,0 +1,2 @@
+-- Laws of what access rows give on the links.
+pub mod ByLinkLaws

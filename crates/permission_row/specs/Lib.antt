@@ -1,0 +1,2 @@
+-- Words of the contracts on several links at once.
+pub mod ByLink
