@@ -17,7 +17,10 @@
  *
  * What must be there. A pointer with a length points to that many bytes, also where the library refuses the length: it may
  * read them before it answers. It reads and writes nothing past them, and keeps no pointer. tillerclover_fresh and
- * tillerclover_clear take a terminal that was never written; all others read it. Alignment does not matter: all is bytes.
+ * tillerclover_clear take a terminal that was never written; all others read it. The alignment of bytes does not matter.
+ *
+ * A call may write a byte of the terminal with the value that it has. So keep the terminal in RAM, and store it as
+ * tillerclover_store.h says, or in a file: memory that wears would wear with every record.
  *
  * A null pointer with length 0 stands for no bytes, as any pointer does with that length, and is neither read nor written
  * through; of the null one that is tried (tests/interface.c) and not proved. Elsewhere a null pointer is an error of the
@@ -327,7 +330,8 @@ enum tillerclover_answer {
  * - where its credential row names the device owner: all rights on the security resources;
  * - where its credential row names the row owner of a security resource: all rights on that one;
  * - over AUTH_CRYPT: RETRIEVE and UPDATE of ROLES.
- * So the first who speaks to a new terminal may become its owner, and an owner without a credential row has no rights.
+ * So the first who speaks to a new terminal may become its owner, and an owner without a credential row has no rights as an
+ * owner.
  *
  * Which application resource has which endpoint. AUTH_CRYPT needs one that is secure, ANON_CLEAR one that is unsecure, or
  * the answer is NO_ENDPOINT. The security resources are exempt: they take both connections.
@@ -463,8 +467,7 @@ typedef struct tillerclover_outcome {
  */
 typedef struct tillerclover_taken {
     tillerclover_outcome outcome;
-    /* how many bytes the record has; 0 with TILLERCLOVER_NOT_SOUND before it was judged and with
-     * TILLERCLOVER_NOTHING_WAITING */
+    /* how many bytes the record has; 0 with TILLERCLOVER_NOT_SOUND and with TILLERCLOVER_NOTHING_WAITING */
     size_t record_length;
     /* zeros behind the record */
     uint8_t record[TILLERCLOVER_RECORD_MAX];
@@ -659,7 +662,8 @@ static inline tillerclover_outcome tillerclover_outcome_of(const uint64_t *said,
 /* The default rows: none for a null pointer. */
 static inline tillerclover_defaults tillerclover_defaults_of(const tillerclover_defaults *defaults)
 {
-    tillerclover_defaults none = {NULL, 0, NULL, 0};
+    static const uint8_t nothing[1] = {0};
+    tillerclover_defaults none = {nothing, 0, nothing, 0};
     return defaults == NULL ? none : *defaults;
 }
 
@@ -782,9 +786,9 @@ TILLERCLOVER_ASSERT(sizeof(size_t) <= sizeof(uint64_t), "the library's lengths h
 }
 #endif
 
+#include "tillerclover_yards.h"
+
 #undef TILLERCLOVER_ASSERT
 #undef TILLERCLOVER_RESULT
-
-#include "tillerclover_yards.h"
 
 #endif

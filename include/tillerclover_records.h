@@ -216,8 +216,9 @@ static inline tillerclover_record tillerclover_record_of(unsigned verb, enum til
 {
     tillerclover_record record;
     memset(&record, 0, sizeof record);
-    if (length > TILLERCLOVER_RECORD_ROOM - TILLERCLOVER_HEADER_LENGTH) {
-        length = TILLERCLOVER_RECORD_ROOM - TILLERCLOVER_HEADER_LENGTH;
+    const size_t most = (size_t)TILLERCLOVER_RECORD_ROOM - (size_t)TILLERCLOVER_HEADER_LENGTH;
+    if (length > most) {
+        length = most;
     }
     tillerclover_put_16(record.bytes + TILLERCLOVER_HEADER_WORD, (verb & 7) << TILLERCLOVER_VERB_SHIFT |
                                                                      ((unsigned)connection & 1)

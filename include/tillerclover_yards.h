@@ -16,11 +16,14 @@ extern "C" {
  * functions, 1 for each minor one. A program asks once, when it starts:
  *
  *     if (!tillerclover_identified())
- *         stop("the archive and tillerclover.h are not of one build");
+ *         stop("the archive and tillerclover.h do not belong together");
  *
  * An archive without the function does not link.
  */
 #define TILLERCLOVER_IDENTITY UINT64_C(1002000)
+#if 1002000 != 1000000 * TILLERCLOVER_FORMAT + TILLERCLOVER_INTERFACE
+#error "the identity is not that of TILLERCLOVER_FORMAT and TILLERCLOVER_INTERFACE"
+#endif
 
 /* The archive's number. */
 uint64_t tillerclover_identity(void);
@@ -69,15 +72,19 @@ void tillerclover_isolated_at(const uint8_t counts[4], const uint8_t devowner[16
                               const uint8_t creds[936], const uint8_t aces[1152], const uint8_t *senders,
                               uint64_t length, uint64_t said[3]);
 
-/* Whether the senders of a list are isolated in this terminal: whatever they send from now on changes nothing for anybody
- * else. Any content and any bytes are allowed; what waits is not looked at. An entry may stand twice, and may name a partner without a credential row. An
- * empty list is isolated where the tables are sound.
+/* Whether the senders of a list are isolated in this terminal. If they are, then whatever they send from now on changes no
+ * outcome of a record of anybody else that is judged, and of the tables nothing but their own asserted roles. When a record is
+ * taken may differ, and so whether a hand-in gets TILLERCLOVER_OCCUPIED.
+ *
+ * Any content and any bytes are allowed; what waits is not looked at. An entry may stand twice, and may name a partner without
+ * a credential row. An empty list is isolated where the tables are sound.
  *
  * senders points to at least `length` bytes that nothing changes during the call: TILLERCLOVER_SENDER_LENGTH for each entry.
  *
- * Ask again after each permitted UPDATE of DOXM, PSTAT, CRED or ACL2 by somebody who is on no list, after the clear button,
- * and when the tables come from storage. Nothing else ends isolation.
+ * Ask again after each permitted UPDATE of DOXM, PSTAT, CRED or ACL2 by somebody who is on no list that was found isolated, after the
+ * clear button, and when the tables come from storage. Nothing else ends isolation.
  */
+TILLERCLOVER_RESULT
 static inline tillerclover_isolation tillerclover_isolated(const tillerclover_terminal *terminal,
                                                            const unsigned char *senders, size_t length)
 {

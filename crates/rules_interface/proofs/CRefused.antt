@@ -1,13 +1,12 @@
--- Theorems of C calls: a refusal says its number and zeros, and writes nothing: the same bytes of the tables, of what waits and of the buffer.
-use Rattle.rows.proofs.Prelude.{_≡_, refl, sym, ap, _∙_, true, _||_, eqb, List, [], _∷_, ℕ, suc, arith, length, getD}
+-- Theorems of C calls: a refusal says its number and zeros, and changes no byte of the tables, of what waits and of the buffer.
+use Rattle.rows.proofs.Prelude.{_≡_, refl, sym, ap, _∙_, true, false, _||_, eqb, List, [], _∷_, ℕ, suc, arith, length, getD}
 use Rattle.rules.specs.Record.{Request}
 use Rattle.rules.specs.Defaults.{Defaults}
 use Rattle.rules.specs.Reading.{filled}
-use Rattle.rules.specs.Checks.{verdict}
-use Rattle.rules.proofs.CheckLaws.{check-cases}
-use Rattle.rules_waiting.specs.Terminal.{Terminal, Transition, numberTransition, handInChecks, handedIn, taken, judged}
+use Rattle.rules_waiting.specs.Terminal.{Transition, terminal, soundTerminal}
+use Rattle.rules_waiting.specs.Slots.{waiting}
 use Rattle.rules_waiting.specs.Inputs.{handIn, takeAt, direct}
-use Rattle.rules_waiting.proofs.Refused.{take-nothing, refused-direct}
+use Rattle.rules_waiting.proofs.Refused.{take-nothing, refused-take, refused-direct, refused-hand-in}
 use Rattle.rules_interface.specs.Memory.{Memory, terminalAt, memoryOf, withQueue}
 use Rattle.rules_interface.specs.Interface.{offsetOf, wordsOf}
 use Rattle.rules_interface.specs.Calls.{CCall, Promised}
@@ -25,6 +24,12 @@ four (a ∷ b ∷ c ∷ d ∷ f ∷ l) e = absurd (omega (arith, e))
 pub memory-back : (m : Memory) → length (m .counts) ≡ 4 → memoryOf (terminalAt m) ≡ m
 memory-back m e =
     ap (λ (b : List ℕ). record { counts = b; devowner = m .devowner; rowners = m .rowners; creds = m .creds; aces = m .aces; queue = m .queue })
+    (four (m .counts) e)
+
+-- the same with another queue
+queue-back : (m : Memory) (queue : List ℕ) → length (m .counts) ≡ 4 → memoryOf (terminal (terminalAt m .tables) queue) ≡ withQueue m queue
+queue-back m queue e =
+    ap (λ (b : List ℕ). record { counts = b; devowner = m .devowner; rowners = m .rowners; creds = m .creds; aces = m .aces; queue = queue })
     (four (m .counts) e)
 
 -- a number and nothing else
@@ -55,14 +60,20 @@ module _ (d : Defaults) (m : Memory) (sized : length (m .counts) ≡ 4) (c : CCa
         p .0 .fills ∙ ap (λ (t : Transition). filled (c .lent) (t .response .contents)) r,
       )
 
--- a hand-in that is refused
-refused-hand-in : (x : Terminal) (r : List ℕ) (n : ℕ) → handedIn x r .response .answer ≡ suc n → handedIn x r ≡ numberTransition (suc n) x
-unfolding handedIn
-refused-hand-in x r n a =
-    check-cases (verdict (handInChecks x r))
-    (λ e. let b : 0 ≡ suc n = rw e at a in absurd (omega (arith, b)))
-    (λ k e. rw e (ap (λ (j : ℕ). numberTransition j x) (rw e at a)))
+  -- a take whose record is refused: the record has left its place, and nothing of the tables changes
+  pub c-refused-take : (clock room : ℕ) → Promised d m (takeAt clock room) c → soundTerminal (terminalAt m) ≡ true
+      → eqb (length (waiting (m .queue))) 0 ≡ false → getD (c .words) 0 0 ≡ suc n
+      → (c .words ≡ numberWords (suc n)) × (c .memory ≡ withQueue m (c .memory .queue)) × (c .buffer ≡ c .lent)
+  unfolding offsetOf filled
+  c-refused-take clock room p h w a =
+      let r = refused-take d (terminalAt m) clock room n h w (sym (ap (λ (l : List ℕ). getD l 0 0) (p .0 .says)) ∙ a) in
+      let k = p .0 .keeps ∙ ap (λ (t : Transition). memoryOf (t .terminal)) r ∙ queue-back m _ sized in (
+        p .0 .says ∙ ap wordsOf r,
+        k ∙ ap (withQueue m) (sym (ap (λ (b : Memory). b .queue) k)),
+        p .0 .fills ∙ ap (λ (t : Transition). filled (c .lent) (t .response .contents)) r,
+      )
 
+-- a hand-in that is refused
 pub c-not-kept : (d : Defaults) (m : Memory) (c : CCall) (r : List ℕ) (n : ℕ) → Promised d m (handIn r) c → getD (c .words) 0 0 ≡ suc n
     → (c .words ≡ numberWords (suc n)) × (c .memory ≡ m)
 unfolding offsetOf

@@ -36,7 +36,8 @@ module _ (d : Defaults) (m : Memory) (is : List Input) (cs : List CCall) (b : CB
   abbrev left : Terminal
   left = handedBack x (callsOf is cs)
 
-  -- a list that is isolated, and is so again after each call by which somebody else endangers it: any part of it has its run as the book has it
+  -- a list that is isolated, and is so again after each call by which somebody else endangers it: whatever any part of it sends, all others
+  -- have the run that the book has without that part
   module _ (list : List ℕ) (asked : isolationOf (x .tables) list ≡ Isolated) (part : Sender → Bool) (within : Within part (chosenBy list)) where
     pub c-in-service : Again (chosenBy list) (λ t. isolationOf t list ≡ Isolated) (recordsIn x) is shown
         → handed.Isolated d part x is shown left

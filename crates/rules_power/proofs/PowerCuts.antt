@@ -151,6 +151,11 @@ module _ (d : Defaults) where
       let b = run-built m gives x z (inputsOf (r .inputs)) (r .replies) (rw e (r .run)) in
       record { inputs = inputsOf (r .inputs); calls = r .replies; built = b .0; ends = b .1; seen = rw e (r .seen) }
 
+  -- a day with what waits stored, from any store of the right length
+  pub whole-as-calls : (s end : List ℕ) (es : List (Event Act Call)) (z : Terminal) → length s ≡ sizeFor terminalSize
+      → Day byCalls (found byCalls s) s es z end → noClear es ≡ true → AsCalls (found byCalls s) es z
+  whole-as-calls s end es z f days h = as-calls byCalls (λ x y act c g. g) (found byCalls s) z es (whole-calls s end es z f days .0) h
+
   -- so demand 3 holds across power cuts: the book is fed the records as they were handed in or waited at the start
   pub day-isolation : (chosen : Sender → Bool) (x z : Terminal) (es : List (Event Act Call)) → (c : AsCalls x es z)
       → BookPremise d chosen x (c .inputs) (allShown (c .inputs) (c .calls)) → Isolated d chosen x (c .inputs) (allShown (c .inputs) (c .calls)) z
