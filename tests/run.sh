@@ -203,7 +203,7 @@ compiles() {
 test_interface() {
     need cc gcc && need c++ g++ && library || return 1
     local language name failed=0
-    for language in c11 c17 c++11 c++17; do
+    for language in c11 c17 c++11 c++17 c++20; do
         compiles $language 'int interface(void) { return TILLERCLOVER_INTERFACE + TILLERCLOVER_FORMAT; }' &&
             compiles $language $'#ifdef __GLIBC__\n#include "tillerclover_records.h"\n#endif' ||
             { cat "$work/log" && echo "interface: $language does not take the headers" && failed=1; }
