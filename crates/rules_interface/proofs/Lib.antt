@@ -1,6 +1,6 @@
 -- Laws for the code of the C functions (Lent), the payload's place (Payload).
 -- Theorems of C calls: a refusal (CRefused); lists of them as calls, and demand 3 (CCalls), what was handed in (CHanded), yards (CYards),
--- lists of rows (CLoaded), power cuts (CPower); what the numbers say that C is told (CNumbers).
+-- lists of rows (CLoaded), power cuts (CPower); what the numbers say that C is told (CNumbers); that there are such calls (CExists).
 pub mod Lent
 pub mod Payload
 pub mod CRefused
@@ -10,3 +10,4 @@ pub mod CYards
 pub mod CLoaded
 pub mod CPower
 pub mod CNumbers
+pub mod CExists
