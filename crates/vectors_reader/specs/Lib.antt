@@ -1,0 +1,2 @@
+-- The tables of a file of test vectors.
+pub mod Reader

@@ -1,0 +1,31 @@
+-- Tables as a file of test vectors has them: the fields of the head one after the other, then the rows of either kind.
+-- Rows stand after their length (16 bits), without the zeros after them. Any bytes are tables.
+use Prim.Native.Nat.{ℕ}
+use mathlib.Core.List.{List}
+use lib.ListN.{take, drop, getD, replicate}
+use Rattle.text.specs.Buffer.{written}
+use Rattle.rules.specs.declared.Tables.{Tables}
+use Rattle.rules.specs.Bits.{bits}
+
+-- n bytes, of which the first are these
+abbrev pub padded : ℕ → List ℕ → List ℕ
+padded n bytes = written (replicate n 0) 0 bytes
+
+-- the length before the bytes, and so many of them
+abbrev pub counted : List ℕ → List ℕ
+counted bytes = take (bits bytes 0 16) (drop 2 bytes)
+
+abbrev pub afterCounted : List ℕ → List ℕ
+afterCounted bytes = drop (bits bytes 0 16) (drop 2 bytes)
+
+abbrev pub tablesIn : List ℕ → Tables
+tablesIn bytes = record {
+  state = getD bytes 0 0;
+  owned = getD bytes 1 0;
+  ncreds = getD bytes 2 0;
+  naces = getD bytes 3 0;
+  devowner = padded 16 (drop 4 bytes);
+  rowners = padded 64 (drop 20 bytes);
+  creds = padded 936 (counted (drop 84 bytes));
+  aces = padded 1152 (counted (afterCounted (drop 84 bytes)));
+}
