@@ -7,7 +7,8 @@ LOG is what the prover said to an edit, target/must-fail/CRATE/EDIT/.log. Exit s
 
     an error is of the edit's form: a name, a field, a constructor, a clause, a plain type or a number of arguments that does
     not fit, or a text that cannot be read;
-    the first error is that a callee's `requires` is not met: what the function itself promises is not looked at there.
+    the first error is that a callee's `requires` is not met: what the function itself promises is not looked at there;
+    a function is proved that the edit names as refused, in a line 'refused: CRATE::FUNCTION..' of its comment.
 """
 import os
 import re
@@ -52,6 +53,16 @@ def answers_a_callee(error):
     return any(still_open)
 
 
+def named(path):
+    """The functions that an edit names as refused."""
+    place = re.search(r"target/must-fail/(\w+)/(\w+)/\.log$", path)
+    edit = f"crates/{place.group(1)}/must-fail/{place.group(2)}.edit" if place else ""
+    if not os.path.exists(edit):
+        return []
+    with open(edit, encoding="utf-8") as file:
+        return [name for words in re.findall(r"^refused: (.*)$", file.read(), re.M) for name in words.split()]
+
+
 def fault(path):
     """What is wrong with a refusal, or None."""
     with open(path, encoding="utf-8", errors="replace") as file:
@@ -59,6 +70,9 @@ def fault(path):
     for line in lines:
         if FORM.search(line):
             return "is refused for its form", line
+    for function in named(path):
+        if not any(re.match(rf"fn {function}: not proved$", line) for line in lines):
+            return f"leaves {function} proved, or not proved for another", ""
     first = first_of(lines)
     if NAMED.search(first) or NOTE.search(first) or answers_a_callee(first):
         return "is refused first for what a callee asks for", first
