@@ -501,10 +501,6 @@ def check_asked_for(named):
         fault(f"PROOFS.md: {crate}::{name} asks for nothing, and a row says what")
 
 
-# crates whose entry points do not have two edits each
-FEWER = {"terminal"}
-
-
 def check_entry_points(named):
     """An entry point has no `requires`, and two edits of its crate whose rows name it. Each function for C is one."""
     public = {(crate, name): contract for crate, name, contract in contracts()}
@@ -515,7 +511,7 @@ def check_entry_points(named):
         if asks(public.get((crate, name), "requires")):
             fault(f"PROOFS.md: the entry point {crate}::{name} is not public, or has a requires")
         many = sum(cells[0] == crate and f"`{name}`" in cells[2] for cells in rows)
-        if many < 2 and crate not in FEWER:
+        if many < 2:
             fault(f"MUST-FAIL.md: {many} edits of the entry point {crate}::{name}, and two are asked for")
 
 
