@@ -7,7 +7,8 @@ use tillerclover::{interface, Ace, Cred, Defaults, Permission, Resource, Set, St
 
 fn yard() -> Tables {
     let row = |number: u8| Cred { number: number.into(), subject: Uuid([number; 16]), ..Cred::default() };
-    let mut tables = interface::fresh(&mut Waiting::FRESH.clone(), Defaults::default());
+    let mut tables = Tables::default();
+    interface::fresh(&mut tables, &mut Waiting::FRESH.clone(), Defaults::default());
     tables.set_creds(&[row(5), row(7), row(8)]);
     tables.set_owner(Uuid([5; 16]));
     tables.state = State::RFNOP.0;
