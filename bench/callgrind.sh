@@ -4,6 +4,7 @@
 #
 #     bench/callgrind.sh                          all cases, a line for each
 #     bench/callgrind.sh CASE TABLES [SIDE]       one case by function, of the library or by hand; as serve full, take25 full hand
+#     bench/callgrind.sh --again CASE ..          the same of what was counted last
 set -euo pipefail
 cd "$(dirname "$0")/.."
 
@@ -16,7 +17,7 @@ count() {
     rm -rf "$out" && mkdir -p "$out"
     valgrind --tool=callgrind --callgrind-out-file="$out/part" --dump-after=measured_mark \
         --toggle-collect='tillerclover_*_at' --toggle-collect='yardstick_*_at' \
-        model/target/release/bench --count >"$out/names" 2>"$out/log" || { cat "$out/log" >&2 && exit 2; }
+        "${CARGO_TARGET_DIR:-model/target}/release/bench" --count >"$out/names" 2>"$out/log" || { cat "$out/log" >&2 && exit 2; }
 }
 
 # part LINE: the file of that line of the names
@@ -48,13 +49,18 @@ one() {
         awk -v total="$(instructions "$line")" '{ n = $1; gsub(",", "", n) } n + 0 < total { printf "%7d  %s\n", n, $2 }'
 }
 
+again=
+if [ "${1-}" = --again ]; then
+    again=yes
+    shift
+fi
 case $# in 0 | 2 | 3) ;; *)
-    echo "usage: bench/callgrind.sh [CASE TABLES [SIDE]]" >&2
+    echo "usage: bench/callgrind.sh [--again] [CASE TABLES [SIDE]]" >&2
     exit 2
     ;;
 esac
 command -v valgrind >/dev/null || { echo "callgrind.sh: valgrind is not installed" >&2 && exit 2; }
-count
+[ -n "$again" ] || count
 if [ $# -eq 0 ]; then
     all
 else

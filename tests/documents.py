@@ -7,7 +7,7 @@
 README.md       the layers with crates.txt; what must be believed with what the contracts cite
 PROOFS.md       each theorem that its tables name is exported with a statement by a file named; each function stands in the file or crate;
                 each public function with a `requires` is in the table of what is asked for; each function for C is an entry point
-README.md, SECURITY.md, CHANGELOG.md, SECURITY-MODEL.md, ASSESSOR.md, ANSWERS.md, TARGETS.md, PICTURES.md
+README.md, SECURITY.md, CHANGELOG.md, SECURITY-MODEL.md, ASSESSOR.md, ANSWERS.md, TARGETS.md, BENCHMARKS.md, PICTURES.md
                 each theorem that is named before its file, as `name` (crate/proofs/File.antt), stands there, and each
                 `crate::function` is one
 CHANGELOG.md    its first heading is the interface's version, and it names the format's; the lengths of tables, rows and waiting records are today's
@@ -33,7 +33,7 @@ from answers import ANSWERS, answers, check_header_rules, order_picture, sequenc
 from sources import HEADER, Changed, asks, contracts, exports, faults, fault, found, functions_of, number, read, right_side, rows_of  # noqa: E402
 
 PAGE, MODEL = "docs/PICTURES.md", "docs/SECURITY-MODEL.md"
-CITED = ["README.md", "SECURITY.md", "CHANGELOG.md", MODEL, "docs/ASSESSOR.md", "docs/ANSWERS.md", "docs/GLOSSARY.md", "docs/TARGETS.md", PAGE]
+CITED = ["README.md", "SECURITY.md", "CHANGELOG.md", MODEL, "docs/ASSESSOR.md", "docs/ANSWERS.md", "docs/GLOSSARY.md", "docs/TARGETS.md", "docs/BENCHMARKS.md", PAGE]
 
 
 # ---- layouts

@@ -69,16 +69,12 @@ static inline void put_old(uint8_t *row, unsigned number, enum tillerclover_subj
     memset(row + TILLERCLOVER_ACE_LAST_AT, 255, 4);
 }
 
-/* Two rows, for AUTH_CRYPT and then for ANON_CLEAR. */
-static inline void put_anybody(uint8_t *row, unsigned number, const uint8_t *old)
+static inline void put_connection(uint8_t *row, unsigned number, enum tillerclover_connection connection,
+                                  const uint8_t *old)
 {
-    uint8_t *second = row + TILLERCLOVER_ACE_LENGTH;
     put_old(row, number, TILLERCLOVER_SUBJECT_CONNECTION, old);
     memset(row + TILLERCLOVER_ACE_SUBJECT_AT, 0, TILLERCLOVER_UUID_LENGTH);
-    row[TILLERCLOVER_ACE_CONNECTION_AT] = TILLERCLOVER_AUTH_CRYPT;
-    memcpy(second, row, TILLERCLOVER_ACE_LENGTH);
-    put16(second + TILLERCLOVER_ACE_NUMBER_AT, number + 1);
-    second[TILLERCLOVER_ACE_CONNECTION_AT] = TILLERCLOVER_ANON_CLEAR;
+    row[TILLERCLOVER_ACE_CONNECTION_AT] = (uint8_t)connection;
 }
 
 static inline void put_rows(uint8_t *row, const uint8_t *file, uint64_t length)
@@ -86,9 +82,10 @@ static inline void put_rows(uint8_t *row, const uint8_t *file, uint64_t length)
     unsigned number = 1;
     for (const uint8_t *old = file, *end = file + length; old < end; old += TILLERCLOVER_OLD_ROW_LENGTH) {
         if (for_anybody(old)) {
-            put_anybody(row, number, old);
-            row += 2 * TILLERCLOVER_ACE_LENGTH;
-            number += 2;
+            put_connection(row, number++, TILLERCLOVER_AUTH_CRYPT, old);
+            row += TILLERCLOVER_ACE_LENGTH;
+            put_connection(row, number++, TILLERCLOVER_ANON_CLEAR, old);
+            row += TILLERCLOVER_ACE_LENGTH;
             continue;
         }
         put_old(row, number++, TILLERCLOVER_SUBJECT_UUID, old);

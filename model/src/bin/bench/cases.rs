@@ -335,8 +335,8 @@ fn lists() -> Vec<Case> {
     };
     vec![
         Case::list("test", "32-rows", list(1)),
-        Case::list("test", "32-low-byte", list(0x0100)),
-        Case::list("convert", "32-UUIDs", older(Some(uuid(1)), Access::CAPACITY)),
-        Case::list("convert", "16-anybody", older(None, Access::CAPACITY / 2)),
+        Case::list("test", "low-byte", list(0x0100)),
+        Case::list("convert", "UUIDs", older(Some(uuid(1)), Access::CAPACITY)),
+        Case::list("convert", "anybody", older(None, Access::CAPACITY / 2)),
     ]
 }
