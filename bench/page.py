@@ -166,6 +166,17 @@ def engine(text, timed):
     return table([f"32 access rows, {versions}", "ns", "casbin takes so many times as long: strings", "whole rows"], rows)
 
 
+def compared(text):
+    records, texts, lists, older = (
+        int(number) for number in re.search(r"^library and by hand: (\d+) .*\n(\d+) texts, (\d+) lists to load, (\d+) older", text, re.M).groups()
+    )
+    differences = re.search(r"^agree: (\d+) differences", text, re.M).group(1)
+    return (
+        f"Compared: {records:,} records, hand-ins and takes, {texts:,} office texts, {lists:,} lists to load and {older:,} older lists. "
+        f"Differences: {differences}."
+    )
+
+
 # ---- the page
 
 def blocks(files):
@@ -180,7 +191,7 @@ def blocks(files):
     if counted and same and sizes:
         made["aims"] = aims(counted, same, sizes)
     if timed:
-        made["times"] = by_fill(timed, ", ns")
+        made.update(times=by_fill(timed, ", ns"), compared=compared(files["times"]))
         made["mixed"] = "\n".join(
             f"{int(tables.split('-')[0]):,} records drawn at random, all different, so that no branch always goes the same way: "
             f"library {library} ns, by hand {by_hand} ns, ratio {library / by_hand:.2f}."
