@@ -50,6 +50,7 @@ def header_field(name):
 def span(spec, name, end):
     """First bit and number of bits of a field, by its definition; `end` is where its layout ends."""
     text = header_field(name) if spec == "Record" else right_side(spec, name)
+    text = re.sub(r"\w+Size\b", lambda size: str(number("Sizes", size.group())), text)
     for pattern, bits_of in (
         (r"(?:eqb \()?bits \w+ (\d+) (\d+)(?:\) 1)?", lambda a, b: (a, b)),
         (r"eqb \(bit \w+ \((\d+) \+ n\)\) 1", lambda a: (a, 64)),
@@ -270,7 +271,7 @@ def waiting_offsets():
 
 def waiting_table():
     rounds, slots, length, record = waiting_offsets()
-    long, most, whole = (number("Slots", name) for name in ("slotLong", "slotsMost", "queueSize"))
+    long, most, whole = (number("Slots", name) for name in ("slotSize", "queueCapacity", "queueSize"))
     if slots + most * long != whole:
         raise Changed("the memory of waiting records is not its head and its slots")
     return "\n".join(
@@ -381,7 +382,7 @@ def check_header(drawn):
         "WAITING_COUNT_AT": 0,
         "WAITING_ROUND_AT": rounds,
         "WAITING_SLOTS_AT": slots,
-        "SLOT_LENGTH": number("Slots", "slotLong"),
+        "SLOT_LENGTH": number("Slots", "slotSize"),
         "SLOT_SENDER_AT": 0,
         "SLOT_LENGTH_AT": length,
         "SLOT_RECORD_AT": record,
