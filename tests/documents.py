@@ -64,12 +64,23 @@ def span(spec, name, end):
     raise Changed(f"{spec}.antt: {name} is '{text}', which is no field")
 
 
-class Layout:
-    """Fields of a record, a body or a row. What lies between them must be tested to be zero by one of the `zeros`."""
+def places(spec, name):
+    """First bit and number of bits of each row of a table within a row, by its definition."""
+    text = right_side(spec, name)
+    match = re.fullmatch(r"rowsOf (\w+) (\w+) \(drop (\w+) \w+\)", text)
+    if not match:
+        raise Changed(f"{spec}.antt: {name} is '{text}', which is no table")
+    stride, count, start = (number("Sizes", size) for size in match.groups())
+    return [(8 * (start + i * stride), 8 * stride) for i in range(count)]
 
-    def __init__(self, size, fields, zeros=(), start=0):
+
+class Layout:
+    """Fields of a record, a body or a row. What lies between them must be tested to be zero by one of the `zeros`.
+    `more` are fields whose places are known."""
+
+    def __init__(self, size, fields, zeros=(), start=0, more=()):
         self.start, self.end = start, 8 * size
-        self.fields = []
+        self.fields = list(more)
         for label, spec, name in fields:
             first, width = span(spec, name, self.end)
             self.fields.append((first, width, label))
@@ -180,9 +191,9 @@ def layouts():
     cred = Layout(
         number("Tables", "stride Creds"),
         [("number", "Bodies", "rowNumber"), ("subject UUID", "Bodies", "credSubject"), ("role", "Bodies", "credRole"),
-         ("authority", "Bodies", "credAuthority"), ("type", "Bodies", "credType"), ("first asserted role", "Roles", "firstRole"),
-         ("second asserted role", "Roles", "secondRole")],
+         ("authority", "Bodies", "credAuthority"), ("type", "Bodies", "credType")],
         [("Bodies", "credStorable")],
+        more=[(*place, f"{nth} asserted role") for place, nth in zip(places("Roles", "rolesOf"), ("first", "second"))],
     )
     asserted = Layout(
         found("Action", "updateRoles", r"\((\d+), ifAllowed \(not \(noRole"),
@@ -372,7 +383,7 @@ def check_header(drawn):
         "CRED_LENGTH": number("Tables", "longest Creds"),
         "CRED_ROW_LENGTH": number("Tables", "stride Creds"),
         "CRED_CAPACITY": number("Tables", "capacity Creds"),
-        "CRED_ROLES_AT": span("Roles", "firstRole", 0)[0] // 8,
+        "CRED_ROLES_AT": places("Roles", "rolesOf")[0][0] // 8,
         "ROLE_LENGTH": drawn["asserted"].end // 8,
         "ACE_LENGTH": number("Tables", "stride Aces"),
         "ACE_CAPACITY": number("Tables", "capacity Aces"),

@@ -4,10 +4,11 @@ use Rattle.rows.proofs.Prelude.{_≡_, ap, _∙_, true, false, not, _&&_, List,
 use Rattle.rows.proofs.Prelude.{length-append, not-false, not-true, and-left, and-right, and-false-right, bool-cases}
 use Rattle.text.specs.Buffer.{Puts}
 use Rattle.text.proofs.Buffers.{written-start, puts-then}
-use Rattle.rows.specs.Rows.{Row, joined, packed, without}
+use Rattle.rows.specs.Rows.{Row, rowsOf, joined, packed, without}
 use Rattle.rows.proofs.Laws.{drop-replicate}
-use Rattle.rules.specs.Roles.{noRole, free, sameRole, bodyOf, firstRole, secondRole, rolesInForce, credHeld, withRole, bothTaken, asserted}
+use Rattle.rules.specs.Roles.{noRole, free, sameRole, bodyOf, rolesInForce, credHeld, withRole, bothTaken, asserted}
 use Rattle.rules.proofs.RoleLaws.{held-parts, body-long, asserted-short}
+use Rattle.rules.proofs.RolePlaces.{place}
 use Rattle.rules.specs.Sizes.{credBodySize, credRowSize}
 
 module _ (clock : ℕ) (p : Row) where
@@ -38,9 +39,9 @@ module _ (clock : ℕ) (p : Row) where
 
 -- ---- both places of a row, p and q
 
-module _ (clock : ℕ) (w p q : Row) (first : p ≡ firstRole w) (second : q ≡ secondRole w) where
+module _ (clock : ℕ) (w p q : Row) (first : p ≡ place w 0) (second : q ≡ place w 1) where
   both : rolesInForce clock w ≡ without (free clock) (p ∷ q ∷ [])
-  unfolding rolesInForce
+  unfolding rolesInForce rowsOf
   both = rw (first, second)
 
   pub joined-both : joined (rolesInForce clock w) ≡ joined (without (free clock) (p ∷ [])) ++ joined (without (free clock) (q ∷ []))

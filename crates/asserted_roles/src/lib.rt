@@ -34,7 +34,8 @@ fn holds_other(clock: u32, new: &[u8], place: &[u8]) -> bool
 pub fn both_taken(clock: u32, new: &[u8], row: &[u8]) -> bool
     ensures { λ r. ⌜ r ≡ bothTaken (now (new .entry)) (rolesInForce clock (now (row .entry))) ⌝ }
 {
-    holds_other(clock, new, cred::first_role(row)) & holds_other(clock, new, cred::second_role(row))
+    holds_other(clock, new, cred::role_place(row, 0))
+        & holds_other(clock, new, cred::role_place(row, 1))
 }
 
 // Writes the place's role where it is in force.
@@ -52,8 +53,8 @@ fn put_place(out: &mut [u8], at: usize, clock: u32, place: &[u8]) -> usize
 pub fn put_roles(out: &mut [u8], at: usize, clock: u32, row: &[u8]) -> usize
     ensures { λ r. ⌜ Puts (now (out .entry)) at (joined (rolesInForce clock (now (row .entry)))) (now (out .exit)) r ⌝ }
 {
-    let p = put_place(out, at, clock, cred::first_role(row));
-    put_place(out, p, clock, cred::second_role(row))
+    let p = put_place(out, at, clock, cred::role_place(row, 0));
+    put_place(out, p, clock, cred::role_place(row, 1))
 }
 
 // Writes the role of the last place, where it is in force and another one, and the new role.
@@ -71,8 +72,8 @@ fn put_last(out: &mut [u8], at: usize, clock: u32, new: &[u8], place: &[u8]) -> 
 fn put_with(out: &mut [u8], at: usize, clock: u32, new: &[u8], row: &[u8]) -> usize
     ensures { λ r. ⌜ Puts (now (out .entry)) at (joined (withRole (now (new .entry)) (rolesInForce clock (now (row .entry))))) (now (out .exit)) r ⌝ }
 {
-    let first = cred::first_role(row);
-    let second = cred::second_role(row);
+    let first = cred::role_place(row, 0);
+    let second = cred::role_place(row, 1);
     if !in_force(clock, first) {
         return put_last(out, at, clock, new, second);
     }

@@ -1,14 +1,18 @@
 // The fields of a credential row.
-// Number, subject UUID, role, its authority, type, and behind these, its body, two places for
+// Number, subject UUID, role, its authority, type, and behind these, its body, a table of two places for
 // asserted roles. Each contract rules out the bit beside the field and one bit fewer.
 use crate::bits::field;
 use rows::part;
 use rules::CRED_BODY;
 use rules::CRED_PLACE;
 ghost use mathlib.Core.Path.{_≡_};
+ghost use mathlib.Core.List.{[]};
+ghost use Prim.Native.Nat.{_<_};
+ghost use lib.ListN.{getD};
 ghost use Rattle.rules.specs.Bodies.{credSubject, credRole, credAuthority, credType};
-ghost use Rattle.rules.specs.Roles.{bodyOf, firstRole, secondRole};
+ghost use Rattle.rules.specs.Roles.{bodyOf, rolesOf};
 ghost use Rattle.rules.specs.Bits.{bits};
+ghost use Rattle.rules.specs.Sizes.{rolePlaces};
 
 pub fn subject(row: &[u8]) -> &[u8]
     ensures { λ r. ⌜ now r ≡ credSubject (now (row .entry)) ⌝ }
@@ -49,15 +53,10 @@ pub fn body(row: &[u8]) -> &[u8]
     part(row, 0, CRED_BODY)
 }
 
-// The place of the asserted role that came first.
-pub fn first_role(row: &[u8]) -> &[u8]
-    ensures { λ r. ⌜ now r ≡ firstRole (now (row .entry)) ⌝ }
+// A place for an asserted role. The role that came first stands in place 0.
+pub fn role_place(row: &[u8], i: usize) -> &[u8]
+    requires { ⌜ i < rolePlaces ⌝ }
+    ensures { λ r. ⌜ now r ≡ getD (rolesOf (now (row .entry))) i [] ⌝ }
 {
-    part(row, CRED_BODY, CRED_PLACE)
-}
-
-pub fn second_role(row: &[u8]) -> &[u8]
-    ensures { λ r. ⌜ now r ≡ secondRole (now (row .entry)) ⌝ }
-{
-    part(row, CRED_BODY + CRED_PLACE, CRED_PLACE)
+    part(row, CRED_BODY + i * CRED_PLACE, CRED_PLACE)
 }

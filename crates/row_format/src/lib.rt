@@ -19,8 +19,10 @@ use rules::Subject;
 use rules::Table;
 use rules::UUID_SIZE;
 ghost use mathlib.Core.Path.{_≡_};
+ghost use lib.ListN.{length};
 ghost use Rattle.rules.specs.Bodies.{isNil, ownerBody, stateBody, credStorable, subjectStorable, aceStorable};
 ghost use Rattle.rules.specs.Roles.{rolesSound, credHeld};
+ghost use Rattle.rules.specs.Sizes.{credRowSize};
 ghost use Rattle.rules.specs.Tables.{stride, capacity, storable};
 
 // Bytes of a row.
@@ -88,15 +90,16 @@ pub fn cred_storable(row: &[u8]) -> bool
     numbered & named & role & typed & (cred::zeros(row) == 0)
 }
 
-// The first place is used before the second, a place that is not used is zero, and the roles are different ones.
+// The places hold the roles that are there, different ones, and behind them zeros.
 fn roles_sound(row: &[u8]) -> bool
+    requires { ⌜ length (now row) ≡ credRowSize ⌝ }
     ensures { λ r. ⌜ r ≡ rolesSound (now (row .entry)) ⌝ }
 {
-    let first = cred::first_role(row);
+    let first = cred::role_place(row, 0);
     if no_role(first) {
         return rows::all_zero(row, CRED_BODY);
     }
-    let second = cred::second_role(row);
+    let second = cred::role_place(row, 1);
     if no_role(second) {
         return rows::all_zero(row, CRED_BODY + CRED_PLACE);
     }

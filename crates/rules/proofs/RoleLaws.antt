@@ -1,15 +1,16 @@
 -- Laws of asserted roles: asserting one leaves a row that the table may hold, with the same body.
 -- A credential row has at most two roles in force, and they are different ones.
-use Rattle.rows.proofs.Prelude.{_≡_, refl, sym, ap, _∙_, Bool, true, false, not, cond, and-true, List, [], _∷_, _++_, map, append-nil, ℕ, _≤_, arith, length}
-use Rattle.rows.proofs.Prelude.{take, drop, replicate, length-append, length-drop, length-take, drop-at, drop-drop, length-take-le, take-all, take-at, eq-eqb}
+use Rattle.rows.proofs.Prelude.{_≡_, refl, sym, ap, _∙_, Bool, true, false, _&&_, and-true, List, [], _∷_, _++_, map, append-nil, ℕ, _≤_, arith, length}
+use Rattle.rows.proofs.Prelude.{take, drop, replicate, length-append, length-drop, length-take, drop-at, length-take-le, take-all, take-at, eq-eqb}
 use Rattle.rows.proofs.Prelude.{eqb-true, not-true, bool-cases, contradiction, and-left, and-right, and-both, or-left}
-use Rattle.rows.specs.Rows.{Row, joined, packed, allZero, same, some, without}
-use Rattle.rows.proofs.Kept.{AllLong, length-joined, length-packed, same-true, same-sym}
+use Rattle.rows.specs.Rows.{Row, rowsOf, joined, packed, same, some, without}
+use Rattle.rows.proofs.Laws.{joined-rowsOf}
+use Rattle.rows.proofs.Kept.{AllLong, length-joined, length-packed, same-true, same-refl, same-sym}
 use Rattle.rules.specs.Bits.{bit, bits}
 use Rattle.rules.specs.Bodies.{credStorable}
-use Rattle.rules.specs.Roles.{noRole, free, sameRole, unasserted, bodyOf, firstRole, secondRole, rolesInForce}
+use Rattle.rules.specs.Roles.{noRole, free, sameRole, distinctRoles, unasserted, bodyOf, rolesOf, rolesInForce}
 use Rattle.rules.specs.Roles.{rolesSound, credHeld, withoutRoles, withRole, bothTaken, asserted}
-use Rattle.rules.specs.Sizes.{credBodySize, credRowSize}
+use Rattle.rules.specs.Sizes.{credBodySize, rolePlaceSize, rolePlaces, rolesSize, credRowSize}
 
 -- the parts of a credential row
 pub record Held (w : Row) : Type 0 where
@@ -31,7 +32,7 @@ body-long w l = length-take-le credBodySize w (omega arith)
 -- ---- roles that stand in the places of one row
 
 abbrev Role : Row → Type 0
-Role p = (length p ≡ 8) × (noRole p ≡ false)
+Role p = (length p ≡ rolePlaceSize) × (noRole p ≡ false)
 
 -- at most two, and different ones
 abbrev pub Few : List Row → Type 0
@@ -40,38 +41,46 @@ Few (p ∷ []) = Role p
 Few (p ∷ q ∷ []) = Role p × Role q × (sameRole p q ≡ false)
 Few (p ∷ q ∷ r ∷ ps) = ⊥
 
--- a place that is not free
-place-role : (clock n : ℕ) (w : Row) → length w ≡ credRowSize → n ≤ 31 → free clock (take 8 (drop n w)) ≡ false → Role (take 8 (drop n w))
+-- the place that begins the bytes, where it is not free
+place-role : (clock : ℕ) (x : List ℕ) → rolePlaceSize ≤ length x → free clock (take rolePlaceSize x) ≡ false → Role (take rolePlaceSize x)
 unfolding free
-place-role clock n w l h e = (length-take-le 8 (drop n w) (rw length-drop (omega arith)), or-left (noRole (take 8 (drop n w))) _ e)
+place-role clock x l e = (length-take-le rolePlaceSize x l, or-left (noRole (take rolePlaceSize x)) _ e)
+
+two-distinct : (p q : Row) → distinctRoles (p ∷ q ∷ []) ≡ true → sameRole p q ≡ false
+unfolding distinctRoles some
+two-distinct p q h = or-left (sameRole p q) false (not-true _ (and-left _ _ h))
 
 pub few-in-force : (clock : ℕ) (w : Row) → Held w → Few (rolesInForce clock w)
-unfolding rolesInForce rolesSound without
-few-in-force clock w p =
-    let first = place-role clock credBodySize w (p .long) (omega arith) in
-    let second = place-role clock 31 w (p .long) (omega arith) in
-    bool-cases (free clock (firstRole w))
-    (λ e. bool-cases (free clock (secondRole w)) (λ f. rw (e, f) tt) (λ f. rw (e, f) (second f)))
-    (λ e. bool-cases (free clock (secondRole w)) (λ f. rw (e, f) (first e))
-    (λ f. rw (e, f) (first e, second f, not-true _ (rw (first e .1, second f .1) at (p .roles)))))
+unfolding rolesInForce rolesSound rowsOf without
+few-in-force clock w h =
+    let x = drop credBodySize w in
+    let p = take rolePlaceSize x in
+    let q = take rolePlaceSize (drop rolePlaceSize x) in
+    let l : length x ≡ rolesSize = rw (length-drop, h .long) in
+    let first = place-role clock x (omega (arith, l)) in
+    let second = place-role clock (drop rolePlaceSize x) (rw (length-drop, l) (omega arith)) in
+    bool-cases (free clock p)
+    (λ e. bool-cases (free clock q) (λ f. rw (e, f) tt) (λ f. rw (e, f) (second f)))
+    (λ e. bool-cases (free clock q) (λ f. rw (e, f) (first e))
+    (λ f. let sound = rw (first e .1, second f .1) at (h .roles) in
+    rw (e, f) (first e, second f, two-distinct p q (and-right (same x (packed rolesSize (p ∷ q ∷ []))) _ sound))))
 
-one-short : (p : Row) → length p ≤ 8 → length (joined (p ∷ [])) ≤ 16
-unfolding joined
-one-short p h = rw length-append (omega arith)
-
-two-short : (p q : Row) → length p ≤ 8 → length q ≤ 8 → length (joined (p ∷ q ∷ [])) ≤ 16
-unfolding joined
-two-short p q h k = rw (length-append, length-append) (omega arith)
+-- fewer rows have fewer bytes
+without-short : (f : Row → Bool) (ps : List Row) → length (joined (without f ps)) ≤ length (joined ps)
+unfolding without joined
+without-short f [] = omega arith
+without-short f (p ∷ ps) =
+    bool-cases (f p)
+    (λ e. rw (e, length-append) (omega (arith, without-short f ps)))
+    (λ e. rw (e, length-append, length-append) (omega (arith, without-short f ps)))
 
 -- their bytes are 16 at most
-pub in-force-short : (clock : ℕ) (w : Row) → length (joined (rolesInForce clock w)) ≤ 16
-unfolding rolesInForce without joined
+pub in-force-short : (clock : ℕ) (w : Row) → length (joined (rolesInForce clock w)) ≤ rolesSize
+unfolding rolesInForce
 in-force-short clock w =
-    let few : (x : List ℕ) → length (take 8 x) ≤ 8 = λ x. rw length-take (omega arith) in
-    bool-cases (free clock (firstRole w))
-    (λ e. bool-cases (free clock (secondRole w)) (λ f. rw (e, f) (omega arith)) (λ f. rw (e, f) (one-short (secondRole w) (few (drop 31 w)))))
-    (λ e. bool-cases (free clock (secondRole w)) (λ f. rw (e, f) (one-short (firstRole w) (few (drop credBodySize w))))
-    (λ f. rw (e, f) (two-short (firstRole w) (secondRole w) (few (drop credBodySize w)) (few (drop 31 w)))))
+    let x = drop credBodySize w in
+    let all : length (joined (rolesOf w)) ≤ rolesSize = rw (joined-rowsOf rolePlaceSize rolePlaces x, length-take) (omega arith) in
+    omega (arith, all, without-short (free clock) (rolesOf w))
 
 same-swap : (p q : Row) → sameRole p q ≡ sameRole q p
 unfolding sameRole
@@ -83,7 +92,7 @@ unfolding sameRole
 same-as p q new e f = ap (λ (k : List ℕ). same (take 4 q) k) (sym (same-true (take 4 p) (take 4 new) e)) ∙ f
 
 -- a role more, where there is a place
-pub few-with-role : (new : Row) → length new ≡ 8 → noRole new ≡ false → (ps : List Row) → Few ps → bothTaken new ps ≡ false → Few (withRole new ps)
+pub few-with-role : (new : Row) → length new ≡ rolePlaceSize → noRole new ≡ false → (ps : List Row) → Few ps → bothTaken new ps ≡ false → Few (withRole new ps)
 unfolding withRole bothTaken some
 few-with-role new l v [] f n = (l, v)
 few-with-role new l v (p ∷ []) f n = bool-cases (sameRole new p) (λ e. rw e (l, v)) (λ e. rw e (f, (l, v), same-swap p new ∙ e))
@@ -94,26 +103,54 @@ few-with-role new l v (p ∷ q ∷ r ∷ ps) f n = absurd f
 
 -- ---- the bytes of such roles
 
-few-long : (ps : List Row) → Few ps → AllLong 8 ps × (length ps ≤ 2)
+few-long : (ps : List Row) → Few ps → AllLong rolePlaceSize ps × (length ps ≤ rolePlaces)
 few-long [] f = (tt, omega arith)
 few-long (p ∷ []) f = ((f .0, tt), omega arith)
 few-long (p ∷ q ∷ []) f = ((f .0 .0, (f .1 .0, tt)), omega arith)
 few-long (p ∷ q ∷ r ∷ ps) f = absurd f
 
--- the test of the places, on their own bytes
-unfoldable soundBehind : List ℕ → Bool
-soundBehind x =
-    cond (noRole (take 8 x)) (allZero x)
-    (cond (noRole (take 8 (drop 8 x))) (allZero (drop 8 x))
-    (not (sameRole (take 8 x) (take 8 (drop 8 x)))))
+-- the places, by their own bytes
+abbrev pub placesIn : List ℕ → List Row
+placesIn x = rowsOf rolePlaceSize rolePlaces x
 
-sound-few : (ps : List Row) → Few ps → soundBehind (packed 16 ps) ≡ true
-unfolding packed joined soundBehind noRole bits bit allZero
-sound-few [] f = refl
-sound-few (p ∷ []) f = rw (append-nil, f .0, take-at p (replicate 8 0) 8 (f .0), drop-at p (replicate 8 0) 8 (f .0), f .1)
-sound-few (p ∷ q ∷ []) (f, g, d) =
-    rw (append-nil q, length-append, f .0, g .0, append-nil, take-at p q 8 (f .0), drop-at p q 8 (f .0), take-all 8 q (omega (arith, g .0)), f .1, g .1, d)
-sound-few (p ∷ q ∷ r ∷ ps) f = absurd f
+-- in places that hold such roles, zeros stand behind them alone
+pub few-places : (f : Row → Bool) → f (replicate rolePlaceSize 0) ≡ true → (ps : List Row) → Few ps → without f (placesIn (packed rolesSize ps)) ≡ without f ps
+unfolding packed joined rowsOf without
+few-places f z [] g = rw z
+few-places f z (p ∷ []) g =
+    rw (append-nil, g .0, take-at p (replicate rolePlaceSize 0) rolePlaceSize (g .0), drop-at p (replicate rolePlaceSize 0) rolePlaceSize (g .0), z)
+few-places f z (p ∷ q ∷ []) (g, h, d) =
+    let last = take-all rolePlaceSize q (omega (arith, h .0)) in
+    rw (append-nil q, length-append, g .0, h .0, append-nil, take-at p q rolePlaceSize (g .0), drop-at p q rolePlaceSize (g .0), last)
+few-places f z (p ∷ q ∷ r ∷ ps) g = absurd g
+
+few-there : (ps : List Row) → Few ps → without noRole ps ≡ ps
+unfolding without
+few-there [] f = refl
+few-there (p ∷ []) f = rw (f .1)
+few-there (p ∷ q ∷ []) (f, g, d) = rw (f .1, g .1)
+few-there (p ∷ q ∷ r ∷ ps) f = absurd f
+
+few-distinct : (ps : List Row) → Few ps → distinctRoles ps ≡ true
+unfolding distinctRoles some
+few-distinct [] f = refl
+few-distinct (p ∷ []) f = refl
+few-distinct (p ∷ q ∷ []) (f, g, d) = rw d
+few-distinct (p ∷ q ∷ r ∷ ps) f = absurd f
+
+pub no-role-zeros : noRole (replicate rolePlaceSize 0) ≡ true
+unfolding noRole bits bit
+no-role-zeros = refl
+
+-- the test of the places, on their own bytes
+unfoldable soundPlaces : List ℕ → Bool
+soundPlaces x =
+    let held = without noRole (placesIn x) in
+    same x (packed rolesSize held) && distinctRoles held
+
+sound-few : (ps : List Row) → Few ps → soundPlaces (packed rolesSize ps) ≡ true
+unfolding soundPlaces
+sound-few ps f = rw (few-places noRole no-role-zeros ps f, few-there ps f, same-refl (packed rolesSize ps)) (few-distinct ps f)
 
 -- ---- the row with these roles in its places
 
@@ -121,37 +158,37 @@ module _ (h : List ℕ) (l : length h ≡ credBodySize) (x : List ℕ) where
   pub body-is : bodyOf (h ++ x) ≡ h
   body-is = take-at h x credBodySize l
 
-  behind-is : rolesSound (h ++ x) ≡ soundBehind x
-  unfolding rolesSound soundBehind
-  behind-is = rw (← drop-drop 8 credBodySize (h ++ x), drop-at h x credBodySize l)
+  sound-is : rolesSound (h ++ x) ≡ soundPlaces x
+  unfolding rolesSound soundPlaces
+  sound-is = ap soundPlaces (drop-at h x credBodySize l)
 
-  held-with : credStorable h ≡ true → length x ≡ 16 → soundBehind x ≡ true → Held (h ++ x)
-  held-with c m s = record { long = rw (length-append, l) (omega arith); body = rw body-is c; roles = behind-is ∙ s }
+  held-with : credStorable h ≡ true → length x ≡ rolesSize → soundPlaces x ≡ true → Held (h ++ x)
+  held-with c m s = record { long = rw (length-append, l) (omega arith); body = rw body-is c; roles = sound-is ∙ s }
 
 -- ---- a role is asserted
 
 module _ (clock : ℕ) (b : List ℕ) (w : Row) (p : Held w) where
   pub asserted-body : bodyOf (asserted clock b w) ≡ bodyOf w
   unfolding asserted
-  asserted-body = body-is (bodyOf w) (body-long w (p .long)) (packed 16 (withRole b (rolesInForce clock w)))
+  asserted-body = body-is (bodyOf w) (body-long w (p .long)) (packed rolesSize (withRole b (rolesInForce clock w)))
 
-  module _ (l : length b ≡ 8) (v : noRole b ≡ false) (n : bothTaken b (rolesInForce clock w) ≡ false) where
+  module _ (l : length b ≡ rolePlaceSize) (v : noRole b ≡ false) (n : bothTaken b (rolesInForce clock w) ≡ false) where
     few : Few (withRole b (rolesInForce clock w))
     few = few-with-role b l v (rolesInForce clock w) (few-in-force clock w p) n
 
     -- their bytes fit the places
-    pub asserted-short : length (joined (withRole b (rolesInForce clock w))) ≤ 16
+    pub asserted-short : length (joined (withRole b (rolesInForce clock w))) ≤ rolesSize
     asserted-short =
         let x = few-long (withRole b (rolesInForce clock w)) few in
-        omega (arith, length-joined 8 (withRole b (rolesInForce clock w)) (x .0), x .1)
+        omega (arith, length-joined rolePlaceSize (withRole b (rolesInForce clock w)) (x .0), x .1)
 
     pub asserted-held : Held (asserted clock b w)
     unfolding asserted
     asserted-held =
         let roles = withRole b (rolesInForce clock w) in
         let x = few-long roles few in
-        held-with (bodyOf w) (body-long w (p .long)) (packed 16 roles) (p .body)
-        (length-packed 8 16 roles (x .0) (omega (arith, x .1))) (sound-few roles few)
+        held-with (bodyOf w) (body-long w (p .long)) (packed rolesSize roles) (p .body)
+        (length-packed rolePlaceSize rolesSize roles (x .0) (omega (arith, x .1))) (sound-few roles few)
 
     pub asserted-storable : credHeld (asserted clock b w) ≡ true
     unfolding credHeld
@@ -168,7 +205,7 @@ pub unasserted-is : (b : List ℕ) → length b ≡ credBodySize → credHeld (u
 unfolding credHeld packed joined
 unasserted-is b l =
     let long : length (unasserted b) ≡ credRowSize = rw (length-append, l) in
-    rw (eq-eqb (length (unasserted b)) credRowSize long, body-is b l (replicate 16 0), behind-is b l (replicate 16 0) ∙ sound-few [] tt) (and-true (credStorable b))
+    rw (eq-eqb (length (unasserted b)) credRowSize long, body-is b l (replicate rolesSize 0), sound-is b l (replicate rolesSize 0) ∙ sound-few [] tt) (and-true (credStorable b))
 
 -- a role holds on its last second, and not behind it: role 7 of authority 1, to second 100
 pub last-second : map (λ clock. free clock (0 ∷ 1 ∷ 0 ∷ 7 ∷ 0 ∷ 0 ∷ 0 ∷ 100 ∷ [])) (99 ∷ 100 ∷ 101 ∷ []) ≡ false ∷ false ∷ true ∷ []

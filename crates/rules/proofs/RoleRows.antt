@@ -1,8 +1,8 @@
 -- Theorems, U11: a permitted UPDATE of roles alters the roles of the sender's own credential row, and nothing else in the tables.
 -- Which roles are in force then, at every clock; and 22 exactly where both places hold other roles. For any row, clock, buffer and default lists.
-use Rattle.rows.proofs.Prelude.{_≡_, refl, sym, ap, _∙_, Bool, true, false, cond, List, [], _∷_, _++_, map, append-nil, ℕ, arith, length, take, drop}
-use Rattle.rows.proofs.Prelude.{replicate, drop-at, drop-drop, take-at, take-all, length-append, eqb, not-false, bool-cases, contradiction}
-use Rattle.rows.specs.Rows.{Row, packed, joined, same, numberedAs, hasKey, some, without, firstRow, stored, distinctNumbers}
+use Rattle.rows.proofs.Prelude.{_≡_, refl, sym, ap, _∙_, Bool, true, false, cond, List, [], _∷_, _++_, map, ℕ, length, take}
+use Rattle.rows.proofs.Prelude.{replicate, drop-at, eqb, not-false, bool-cases, contradiction}
+use Rattle.rows.specs.Rows.{Row, packed, same, numberedAs, hasKey, some, without, firstRow, stored, distinctNumbers}
 use Rattle.rows.proofs.Kept.{same-true, same-refl, distinct-parts}
 use Rattle.rules.specs.declared.Tables.{Tables}
 use Rattle.rules.specs.declared.Table.the-variants.{Creds}
@@ -24,12 +24,12 @@ use Rattle.rules.specs.Outcome.{Outcome, effectBy, responseTo, tablesAft
 use Rattle.rules.proofs.Answers.{passed, table-parts, no-reply-fits}
 use Rattle.rules.proofs.CheckLaws.{skip-all}
 use Rattle.rules.proofs.TableLaws.{rows-with}
-use Rattle.rules.proofs.RoleLaws.{Held, Few, body-long, few-in-force, few-with-role, asserted-body}
+use Rattle.rules.proofs.RoleLaws.{Held, body-long, few-in-force, few-with-role, placesIn, few-places, asserted-body}
 use Rattle.rules.proofs.OwnRow.{asserts, own-held, own-two, asserted-two, asserted-number}
 use Rattle.rules.proofs.SoundKept.{Passed, passed-all, asserted-sound}
 use Rattle.rules.proofs.Refusals.{noneApplies, none-permitted, permitted-passes, permitted-outcome, answer-is}
 use Rattle.rules.proofs.SubjectRows.{earlier}
-use Rattle.rules.specs.Sizes.{credBodySize}
+use Rattle.rules.specs.Sizes.{credBodySize, rolePlaceSize, rolesSize}
 
 -- the row v, or new where v has the number of own
 unfoldable pub inPlaceOf : Row → Row → Row → Row
@@ -95,33 +95,21 @@ module _ (new : Row) where
 -- ---- the roles in force in a row with these roles in its places
 
 -- an unused place is free
-zeros-free : (later : ℕ) → free later (replicate 8 0) ≡ true
+zeros-free : (later : ℕ) → free later (replicate rolePlaceSize 0) ≡ true
 unfolding free noRole bits bit
 zeros-free later = refl
 
--- of the bytes of the places
-unfoldable inForceOf : ℕ → List ℕ → List Row
-inForceOf later x = without (free later) (take 8 x ∷ take 8 (drop 8 x) ∷ [])
+places-in-force : (later : ℕ) (h x : List ℕ) → length h ≡ credBodySize → rolesInForce later (h ++ x) ≡ without (free later) (placesIn x)
+unfolding rolesInForce
+places-in-force later h x l = ap (λ (y : List ℕ). without (free later) (placesIn y)) (drop-at h x credBodySize l)
 
-few-in-places : (later : ℕ) (ps : List Row) → Few ps → inForceOf later (packed 16 ps) ≡ without (free later) ps
-unfolding inForceOf packed joined without
-few-in-places later [] f = rw (zeros-free later)
-few-in-places later (p ∷ []) f =
-    rw (append-nil, f .0, take-at p (replicate 8 0) 8 (f .0), drop-at p (replicate 8 0) 8 (f .0), zeros-free later)
-few-in-places later (p ∷ q ∷ []) (f, g, d) =
-    rw (append-nil q, length-append, f .0, g .0, append-nil, take-at p q 8 (f .0), drop-at p q 8 (f .0), take-all 8 q (omega (arith, g .0)))
-few-in-places later (p ∷ q ∷ r ∷ ps) f = absurd f
-
-places-in-force : (later : ℕ) (h x : List ℕ) → length h ≡ credBodySize → rolesInForce later (h ++ x) ≡ inForceOf later x
-unfolding rolesInForce inForceOf
-places-in-force later h x l = rw (← drop-drop 8 credBodySize (h ++ x), drop-at h x credBodySize l)
-
-asserted-in-force : (clock later : ℕ) (b : List ℕ) (w : Row) → Held w → length b ≡ 8 → noRole b ≡ false → bothTaken b (rolesInForce clock w) ≡ false
+asserted-in-force : (clock later : ℕ) (b : List ℕ) (w : Row) → Held w → length b ≡ rolePlaceSize → noRole b ≡ false → bothTaken b (rolesInForce clock w) ≡ false
     → rolesInForce later (asserted clock b w) ≡ without (free later) (withRole b (rolesInForce clock w))
 unfolding asserted
 asserted-in-force clock later b w p l v n =
-    places-in-force later (bodyOf w) (packed 16 (withRole b (rolesInForce clock w))) (body-long w (p .long))
-    ∙ few-in-places later (withRole b (rolesInForce clock w)) (few-with-role b l v (rolesInForce clock w) (few-in-force clock w p) n)
+    places-in-force later (bodyOf w) (packed rolesSize (withRole b (rolesInForce clock w))) (body-long w (p .long))
+    ∙ few-places (free later) (zeros-free later) (withRole b (rolesInForce clock w))
+    (few-with-role b l v (rolesInForce clock w) (few-in-force clock w p) n)
 
 -- ---- what an UPDATE of roles asks for
 

@@ -10,7 +10,7 @@ use Rattle.rules.specs.Bits.{bit, bits, be16}
 use Rattle.rules.specs.Directory.{entryOf}
 use Rattle.rules.specs.Record.{Request, received, sender, passedOn}
 use Rattle.rules.specs.Bodies.{nil, isNil, ownerBody, stateBody, credStorable, credRowOf, setKnown, subjectStorable, aceStorable, everySecond, aceRowOf}
-use Rattle.rules.specs.Roles.{noRole, free, sameRole, unasserted, rolesInForce, rolesSound, credHeld, withRole, bothTaken, asserted}
+use Rattle.rules.specs.Roles.{noRole, free, sameRole, distinctRoles, unasserted, rolesInForce, rolesSound, credHeld, withRole, bothTaken, asserted}
 use Rattle.rules.specs.Tables.{rowsIn, withRows, rowsSound, headSound, sound, empty, rowOwner, withOwner, withState}
 use Rattle.rules.specs.Defaults.{noDefaults, goodList, defaultRows, fresh}
 use Rattle.rules.specs.Permission.{has, forRole, roleFits, subjectIs, subjectFits, resourceFits, inForce, rowFits, grants}
@@ -30,7 +30,7 @@ use Rattle.rules.specs.Run.{replies}
 unfoldable pub definitions : Unit {0}
 unfolding ones onesIn rowsBefore gapOf rowsOf joined packed allZero same hasKey numberedAs placeFrom firstRow some every without
     distinctNumbers stored unionOf withRow bit bits has entryOf be16 sender passedOn nil isNil ownerBody stateBody credStorable
-    credRowOf noRole free sameRole rolesInForce rolesSound credHeld withRole bothTaken asserted setKnown subjectStorable aceStorable
+    credRowOf noRole free sameRole distinctRoles rolesInForce rolesSound credHeld withRole bothTaken asserted setKnown subjectStorable aceStorable
     everySecond aceRowOf rowsIn rowsSound headSound sound empty goodList defaultRows fresh rowOwner forRole roleFits subjectIs
     subjectFits resourceFits inForce rowFits grants names isOwner byOwner byNoOwner byRoles effectiveOf permissionOf ownBody rowBytes
     contents reads replyTo tooShort ifAllowed updateDoxm updatePstat storeRow updateRows updateRoles updateAction deleteNumber

@@ -13,9 +13,13 @@ rolePlaceSize = 8
 abbrev pub rolePlaces : ℕ
 rolePlaces = 2
 
+-- the places together
+abbrev pub rolesSize : ℕ
+rolesSize = rolePlaces * rolePlaceSize
+
 -- a credential row: the body, and the places
 abbrev pub credRowSize : ℕ
-credRowSize = credBodySize + rolePlaces * rolePlaceSize
+credRowSize = credBodySize + rolesSize
 
 -- an access row, which is its longest body
 abbrev pub aceRowSize : ℕ

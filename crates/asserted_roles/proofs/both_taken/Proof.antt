@@ -7,4 +7,4 @@ pub both-taken-spec : {M : Type 1} → Rattle.asserted_roles.proofs.bot
 both-taken-spec = tie.close (tie.spec
     (λ c κs. search needs) (λ c κs. search needs) (λ c κs. search needs) (λ c κs. search needs)
     (λ c. let first = c .before .before in
-    rw (both-taken, c .holds-other2 .ensures, c .before .second-role .ensures, first .holds-other .ensures, first .before .first-role .ensures)))
+    rw (both-taken, c .holds-other2 .ensures, c .before .role-place2 .ensures, first .holds-other .ensures, first .before .role-place .ensures)))

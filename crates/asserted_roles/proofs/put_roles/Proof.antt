@@ -9,7 +9,7 @@ returns c =
     let last = c .before .before in
     let second = last .before in
     let first = second .before .before .before .before in
-    rw (joined-both _ _ _ _ (first .before .first-role .ensures) (second .second-role .ensures))
+    rw (joined-both _ _ _ _ (first .before .role-place .ensures) (second .role-place2 .ensures))
     (puts-then (omega arith) (first .put-place .ensures) (last .put-place2 .ensures))
 
 pub put-roles-spec : {M : Type 1} → Rattle.asserted_roles.proofs.put_roles.Statement.statement M

@@ -12,7 +12,7 @@ returns : tie.Need-returns
 returns c =
     let test = c .before .before .before .before in
     let second = test .before .before in
-    rw (with-free _ _ _ _ (second .before .first-role .ensures) (second .second-role .ensures)
+    rw (with-free _ _ _ _ (second .before .role-place .ensures) (second .role-place2 .ensures)
     _ (not-false _ (sym (test .before .in-force .ensures) ∙ not-true _ (test .if1 .taken))))
     (c .before .before .put-last .ensures)
 
@@ -23,7 +23,7 @@ returns-2 c =
     let same = put .before .before in
     let test = same .before .before in
     let second = test .before .before in
-    rw (with-same _ _ _ _ (second .before .first-role .ensures) (second .second-role .ensures)
+    rw (with-same _ _ _ _ (second .before .role-place .ensures) (second .role-place2 .ensures)
     _ (not-true _ (sym (test .before .in-force .ensures) ∙ not-false _ (test .if1 .left)))
     (sym (same .before .same-role .ensures) ∙ same .if2 .taken))
     (puts-then (bound (second .before .before .before .before)) (put .put .ensures) (last .put-place .ensures))
@@ -35,7 +35,7 @@ returns-3 c =
     let same = put .before .before in
     let test = same .before .before in
     let second = test .before .before in
-    rw (with-other _ _ _ _ (second .before .first-role .ensures) (second .second-role .ensures)
+    rw (with-other _ _ _ _ (second .before .role-place .ensures) (second .role-place2 .ensures)
     _ (not-true _ (sym (test .before .in-force .ensures) ∙ not-false _ (test .if1 .left)))
     (sym (same .before .same-role .ensures) ∙ same .if2 .left))
     (puts-then (bound (second .before .before .before .before)) (put .put2 .ensures) (last .put-last2 .ensures))

@@ -13,9 +13,9 @@ returns c =
     rw (
       some-in-force,
       c .place-fits2 .ensures,
-      c .before .second-role .ensures,
+      c .before .role-place2 .ensures,
       first .place-fits .ensures,
-      first .before .first-role .ensures,
+      first .before .role-place .ensures,
       authority .authority2 .ensures,
       authority .before .authority .ensures,
       role .role2 .ensures,

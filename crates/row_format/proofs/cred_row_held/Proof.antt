@@ -1,21 +1,18 @@
 -- `cred_row_held`: places of zeros are sound, so that the body decides.
-use Rattle.rows.proofs.Prelude.{_≡_, refl, sym, ap, _∙_, true, and-true, List, ℕ, length, take, drop, replicate, length-drop, needs, eq-eqb, ne-eqb}
-use Rattle.rows.specs.Rows.{Row, allZero}
+use Rattle.rows.proofs.Prelude.{_≡_, sym, ap, _∙_, true, and-true, List, ℕ, length, take, drop, replicate, length-drop, needs, eq-eqb, ne-eqb}
+use Rattle.rows.specs.Rows.{Row, rowsOf, allZero}
 use Rattle.rows.proofs.Laws.{zeros-replicate}
-use Rattle.rules.specs.Bits.{bit, bits}
 use Rattle.rules.specs.Roles.{noRole, rolesSound, credHeld}
 use Rattle.rules.specs.Sizes.{credBodySize, credRowSize}
+use Rattle.rules.proofs.RoleLaws.{no-role-zeros}
+use Rattle.rules.proofs.RolePlaces.{places-sound}
 use Rattle.row_format.proofs.cred_row_held.Tie as tie
 
-none : noRole (take 8 (replicate 16 0)) ≡ true
-unfolding noRole bits bit
-none = refl
-
 empty-sound : (w : Row) → length w ≡ credRowSize → allZero (drop credBodySize w) ≡ true → rolesSound w ≡ true
-unfolding rolesSound
+unfolding rowsOf
 empty-sound w l z =
     let are : drop credBodySize w ≡ replicate 16 0 = zeros-replicate (drop credBodySize w) z ∙ rw (length-drop credBodySize w, l) in
-    rw (ap (λ (x : List ℕ). noRole (take 8 x)) are ∙ none) z
+    rw (places-sound w l, ap (λ (x : List ℕ). noRole (take 8 x)) are ∙ no-role-zeros) z
 
 returns-2 : tie.Need-returns-2
 unfolding credHeld
