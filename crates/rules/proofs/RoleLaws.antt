@@ -1,6 +1,6 @@
 -- Laws of asserted roles: asserting one leaves a row that the table may hold, with the same body.
 -- A credential row has at most two roles in force, and they are different ones.
-use Rattle.rows.proofs.Prelude.{_≡_, refl, sym, ap, _∙_, Bool, true, false, _&&_, and-true, List, [], _∷_, _++_, map, append-nil, ℕ, _≤_, arith, length}
+use Rattle.rows.proofs.Prelude.{_≡_, refl, sym, ap, _∙_, Bool, true, false, not, _&&_, _||_, and-true, List, [], _∷_, _++_, map, append-nil, ℕ, _≤_, arith, length}
 use Rattle.rows.proofs.Prelude.{take, drop, replicate, length-append, length-drop, length-take, drop-at, length-take-le, take-all, take-at, eq-eqb}
 use Rattle.rows.proofs.Prelude.{eqb-true, not-true, bool-cases, contradiction, and-left, and-right, and-both, or-left}
 use Rattle.rows.specs.Rows.{Row, rowsOf, joined, packed, same, some, without}
@@ -46,12 +46,8 @@ place-role : (clock : ℕ) (x : List ℕ) → rolePlaceSize ≤ length x → fre
 unfolding free
 place-role clock x l e = (length-take-le rolePlaceSize x l, or-left (noRole (take rolePlaceSize x)) _ e)
 
-two-distinct : (p q : Row) → distinctRoles (p ∷ q ∷ []) ≡ true → sameRole p q ≡ false
-unfolding distinctRoles some
-two-distinct p q h = or-left (sameRole p q) false (not-true _ (and-left _ _ h))
-
 pub few-in-force : (clock : ℕ) (w : Row) → Held w → Few (rolesInForce clock w)
-unfolding rolesInForce rolesSound rowsOf without
+unfolding rolesInForce rolesSound rowsOf without distinctRoles some
 few-in-force clock w h =
     let x = drop credBodySize w in
     let p = take rolePlaceSize x in
@@ -63,7 +59,8 @@ few-in-force clock w h =
     (λ e. bool-cases (free clock q) (λ f. rw (e, f) tt) (λ f. rw (e, f) (second f)))
     (λ e. bool-cases (free clock q) (λ f. rw (e, f) (first e))
     (λ f. let sound = rw (first e .1, second f .1) at (h .roles) in
-    rw (e, f) (first e, second f, two-distinct p q (and-right (same x (packed rolesSize (p ∷ q ∷ []))) _ sound))))
+    let distinct = and-left (not (sameRole p q || false)) _ (and-right (same x (packed rolesSize (p ∷ q ∷ []))) _ sound) in
+    rw (e, f) (first e, second f, or-left (sameRole p q) false (not-true _ distinct))))
 
 -- fewer rows have fewer bytes
 without-short : (f : Row → Bool) (ps : List Row) → length (joined (without f ps)) ≤ length (joined ps)
