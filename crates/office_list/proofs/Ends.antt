@@ -6,7 +6,7 @@ use Rattle.text.specs.Buffer.{largest, Puts}
 use Rattle.text.proofs.Buffers.{puts-then, written-start}
 use Rattle.rows.specs.Rows.{Row, rowsOf, without, joined}
 use Rattle.rows.proofs.Laws.{take-rest, rowsOf-suc}
-use Rattle.rules.specs.declared.Tables.{Tables}
+use Rattle.rules.specs.declared.Table.the-variants.{Aces}
 use Rattle.rules.specs.Tables.{rowsIn}
 use Rattle.rules_waiting.specs.Terminal.{Terminal, soundTerminal}
 use Rattle.rules.specs.Reading.{filled}
@@ -33,12 +33,12 @@ unfolding rowsOf without
 entries-end first n b h = let e : n ≡ 0 = omega arith in ap (λ (k : ℕ). entries first k b) e
 
 -- the list, in the three parts in which the code puts it
-pub list-puts : {o o₁ o₂ o₃ : List ℕ} {at r₁ r₂ r₃ : ℕ} (t : Tables) (n : ℕ) → length o ≤ largest → n ≡ min (t .naces) 32
-    → Puts o at (ascii "{\"aclist2\":[") o₁ r₁ → Puts o₁ r₁ (rowsText (rowsWritten (rowsOf aceRowSize n (t .aces)))) o₂ r₂ → Puts o₂ r₂ (ascii "]}") o₃ r₃
-    → Puts o at (officeText t) o₃ r₃
+pub list-puts : {o o₁ o₂ o₃ : List ℕ} {at r₁ r₂ r₃ : ℕ} (held : ℕ) (b : List ℕ) (n : ℕ) → length o ≤ largest → n ≡ min held 32
+    → Puts o at (ascii "{\"aclist2\":[") o₁ r₁ → Puts o₁ r₁ (rowsText (rowsWritten (rowsOf aceRowSize n b))) o₂ r₂ → Puts o₂ r₂ (ascii "]}") o₃ r₃
+    → Puts o at (listText (rowsWritten (rowsIn Aces held b))) o₃ r₃
 unfolding listText rowsIn joined
-list-puts t n h e p q r =
-    rw (← e, append-nil, ← append-assoc (ascii "{\"aclist2\":[") (rowsText (rowsWritten (rowsOf aceRowSize n (t .aces)))) (ascii "]}"))
+list-puts held b n h e p q r =
+    rw (← e, append-nil, ← append-assoc (ascii "{\"aclist2\":[") (rowsText (rowsWritten (rowsOf aceRowSize n b))) (ascii "]}"))
     (puts-then h (puts-then h p q) r)
 
 -- ---- the three ends

@@ -7,8 +7,10 @@ use office_entry::put_row;
 use office_resources::put_comma;
 use rows::part;
 use rules::ACE_ROW;
+use rules::ACE_ROWS;
 use rules::ACES;
-use rules::Tables;
+use rules::CRED_ROWS;
+use rules::Head;
 use rules_waiting::QUEUE;
 use text::put;
 ghost use mathlib.Core.Path.{_≡_};
@@ -18,10 +20,13 @@ ghost use Prim.Native.Nat.{_*_, _≤_};
 ghost use lib.ListN.{length};
 ghost use Rattle.text.specs.Buffer.{Puts};
 ghost use Rattle.rows.specs.Rows.{rowsOf};
+ghost use Rattle.rules.specs.declared.Table.the-variants.{Aces};
+ghost use Rattle.rules.specs.Tables.{rowsIn};
+ghost use Rattle.rules.specs.Words.{was, became, before};
 ghost use Rattle.rules.specs.Reading.{filled};
 ghost use Rattle.rules.specs.Checks.{numberOf};
 ghost use Rattle.rules_waiting.specs.Terminal.{terminal};
-ghost use Rattle.rules_office.specs.Office.{comma, rowText, rowsText, seasonal, rowsWritten, officeText, officeVerdict, officeReply};
+ghost use Rattle.rules_office.specs.Office.{comma, rowText, rowsText, seasonal, rowsWritten, listText, officeVerdict, officeReply};
 ghost use Rattle.rules.specs.Sizes.{aceRowSize};
 
 // What the office is told: 0, 17 or 18, and how many bytes were written.
@@ -67,38 +72,44 @@ fn put_rows(out: &mut [u8], at: usize, rows: &[u8], count: usize) -> usize
     p
 }
 
-fn put_list(out: &mut [u8], t: Tables) -> usize
-    ensures { λ r. ⌜ Puts (now (out .entry)) 0 (officeText t) (now (out .exit)) r ⌝ }
+fn put_list(out: &mut [u8], naces: u8, aces: &[u8; ACE_ROWS]) -> usize
+    ensures { λ r. ⌜ Puts (was out) 0 (listText (rowsWritten (rowsIn Aces naces (was aces)))) (became out) r ⌝ }
 {
     let p = put(out, 0, b"{\"aclist2\":[");
-    let count = held(t.naces, ACES);
-    let p = put_rows(out, p, &t.aces, count);
+    let count = held(naces, ACES);
+    let p = put_rows(out, p, aces, count);
     put(out, p, b"]}")
 }
 
 // The tables' access list as office text: the answer, the length of the text, and the lent buffer afterwards.
 // Rules out: a byte written on 18; 18 where the text fits exactly; the text of tables that are
 // not sound, be it only in what waits; a row of a shorter period in the text.
-pub fn access_list(t: Tables, queue: &[u8; QUEUE], out: &mut [u8]) -> Listed
-    ensures answer { λ r. ⌜ r .answer ≡ numberOf (officeVerdict (terminal t (now (queue .entry))) (length (now (out .entry)))) ⌝ }
-    ensures length { λ r. ⌜ r .length ≡ length (officeReply (terminal t (now (queue .entry))) (length (now (out .entry)))) ⌝ }
-    ensures buffer { λ _. ⌜ now (out .exit) ≡ filled (now (out .entry)) (officeReply (terminal t (now (queue .entry))) (length (now (out .entry)))) ⌝ }
+pub fn access_list<'a>(
+    h: Head,
+    creds: &'a [u8; CRED_ROWS],
+    aces: &'a [u8; ACE_ROWS],
+    queue: &[u8; QUEUE],
+    out: &mut [u8],
+) -> Listed
+    ensures answer { λ r. ⌜ r .answer ≡ numberOf (officeVerdict (terminal (before h creds aces) (was queue)) (length (was out))) ⌝ }
+    ensures length { λ r. ⌜ r .length ≡ length (officeReply (terminal (before h creds aces) (was queue)) (length (was out))) ⌝ }
+    ensures buffer { λ _. ⌜ became out ≡ filled (was out) (officeReply (terminal (before h creds aces) (was queue)) (length (was out))) ⌝ }
 {
-    if !terminal_sound(t.head(), &t.creds, &t.aces, queue) {
+    if !terminal_sound(h, creds, aces, queue) {
         return Listed {
             answer: 17,
             length: 0,
         };
     }
     let mut none = [0u8; 0];
-    let n = put_list(&mut none, t);
+    let n = put_list(&mut none, h.naces, aces);
     if out.len() < n {
         return Listed {
             answer: 18,
             length: 0,
         };
     }
-    let n = put_list(out, t);
+    let n = put_list(out, h.naces, aces);
     Listed {
         answer: 0,
         length: n,

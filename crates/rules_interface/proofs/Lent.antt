@@ -1,6 +1,5 @@
 -- Laws for the code of the C functions: what a call gives beside a head and the bytes of the rows, it gives of the memory that C lends.
 use Rattle.rows.proofs.Prelude.{_≡_, refl, ap, _∙_, subst, Bool, cond, List, [], _∷_, ℕ, length}
-use Rattle.rules.specs.declared.Tables.{Tables}
 use Rattle.rules.specs.declared.Head.{Head}
 use Rattle.rules.specs.declared.Judgement.{Judgement}
 use Rattle.rules.specs.Record.{Request}
@@ -14,7 +13,7 @@ use Rattle.rules_waiting.specs.Slots.{emptyQueue}
 use Rattle.rules_waiting.specs.Terminal.{Terminal, terminal, soundTerminal, freshTerminal, HandedOut, takenOf, judged, taken}
 use Rattle.rules_waiting.specs.Calls.{HandsIn, Takes, Judges}
 use Rattle.rules_office.specs.Office.{officeVerdict, officeReply}
-use Rattle.rules_interface.specs.Memory.{Memory, headAt, tablesAt, terminalAt, countsOf, memoryOf}
+use Rattle.rules_interface.specs.Memory.{Memory, headAt, terminalAt, countsOf, memoryOf}
 use Rattle.rules_interface.specs.Interface.{wordsIn, FreshAt, IsSoundAt, HandsInAt, JudgesAt, TakesAt, ListsAt}
 
 -- memories are the same where their bytes are
@@ -91,9 +90,8 @@ module _ (m : Memory) (h : Head) (reads : h ≡ headAt (m .counts) (m .devowner)
         fills = is .leaves .fills;
       }
 
--- ---- beside the tables that were read
-
-pub lists-at : (m : Memory) (t : Tables) (answer n : ℕ) (lent buffer : List ℕ) → t ≡ tablesAt (m .counts) (m .devowner) (m .rowners) (m .creds) (m .aces)
-    → answer ≡ numberOf (officeVerdict (terminal t (m .queue)) (length lent)) → n ≡ length (officeReply (terminal t (m .queue)) (length lent))
-    → buffer ≡ filled lent (officeReply (terminal t (m .queue)) (length lent)) → ListsAt m (answer ∷ n ∷ []) lent buffer
-lists-at m t answer n lent buffer reads a l f = record { says = rw (a, l, reads); fills = rw (f, reads) }
+  pub lists-at : (answer n : ℕ) (lent buffer : List ℕ)
+      → answer ≡ numberOf (officeVerdict (terminal (tablesOf h (m .creds) (m .aces)) (m .queue)) (length lent))
+      → n ≡ length (officeReply (terminal (tablesOf h (m .creds) (m .aces)) (m .queue)) (length lent))
+      → buffer ≡ filled lent (officeReply (terminal (tablesOf h (m .creds) (m .aces)) (m .queue)) (length lent)) → ListsAt m (answer ∷ n ∷ []) lent buffer
+  lists-at answer n lent buffer a l f = record { says = rw (a, l, reads); fills = rw (f, reads) }

@@ -1,39 +1,13 @@
 // The C interface of lists: the access list as office text, the test of a list, and lists of the older terminals.
 // What is said is two words: the answer, and a row or a length.
+use lent::head_at;
 use rules::ACE_ROWS;
 use rules::CRED_ROWS;
-use rules::Tables;
 use rules_waiting::QUEUE;
 ghost use mathlib.Core.Path.{_≡_};
 ghost use Rattle.rules.specs.Words.{was, became};
-ghost use Rattle.rules_interface.specs.Memory.{tablesAt, memoryBefore};
+ghost use Rattle.rules_interface.specs.Memory.{memoryBefore};
 ghost use Rattle.rules_interface.specs.Interface.{ListsAt, TestsAt, ConvertsAt};
-
-// The tables that are lent.
-fn tables_at<'a>(
-    counts: &[u8; 4],
-    devowner: &[u8; 16],
-    rowners: &[u8; 64],
-    creds: &'a [u8; CRED_ROWS],
-    aces: &'a [u8; ACE_ROWS],
-) -> Tables
-    ensures { λ r. ⌜ r ≡ tablesAt (was counts) (was devowner) (was rowners) (was creds) (was aces) ⌝ }
-{
-    let owner = *devowner;
-    let owners = *rowners;
-    let cred_rows = *creds;
-    let ace_rows = *aces;
-    Tables {
-        state: counts[0],
-        owned: counts[1],
-        ncreds: counts[2],
-        naces: counts[3],
-        devowner: owner,
-        rowners: owners,
-        creds: cred_rows,
-        aces: ace_rows,
-    }
-}
 
 // The access list as office text.
 // Rules out: a byte written on 17 or 18; another list's text; a length that is not the text's.
@@ -50,8 +24,8 @@ pub extern "C" fn tillerclover_access_list_at<'a>(
 )
     ensures { λ _. ⌜ ListsAt (memoryBefore counts devowner rowners creds aces queue) (became said) (was text) (became text) ⌝ }
 {
-    let t = tables_at(counts, devowner, rowners, creds, aces);
-    let l = office_list::access_list(t, queue, text);
+    let h = head_at(counts, devowner, rowners);
+    let l = office_list::access_list(h, creds, aces, queue, text);
     *said = [l.answer as u64, l.length as u64];
 }
 

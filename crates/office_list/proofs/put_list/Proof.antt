@@ -13,10 +13,11 @@ unfolding ascii
 returns c =
     let end = c .before .before in
     let rows = end .before .before .before .before .before in
-    let count = rows .before .before .before .before .before in
+    let count = rows .before .before .before in
     let key = count .before .before .before in
     let known = key .before .before .before in
-    list-puts (known .before .args .t2) _ (bound known) (count .held .ensures) (key .put .ensures) (rows .put-rows .ensures) (end .put2 .ensures)
+    list-puts (known .before .args .naces) (now (known .before .args .aces)) _ (bound known)
+    (count .held .ensures) (key .put .ensures) (rows .put-rows .ensures) (end .put2 .ensures)
 
 pub put-list-spec : {M : Type 1} → Rattle.office_list.proofs.put_list.Statement.statement M
 put-list-spec = tie.close (tie.spec
