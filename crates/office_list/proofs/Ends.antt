@@ -1,6 +1,6 @@
 -- The text of the rows that are left, and what the entry point ends with.
 use Rattle.rows.proofs.Prelude.{_≡_, ap, _∙_, Bool, true, false, _&&_, cond, List, [], _++_, map, append-assoc, append-nil, ℕ, _+_, _-_, _≤_, _<_, min, arith}
-use Rattle.rows.proofs.Prelude.{length, take, drop, le-ltb, lt-ltb, bool-cases}
+use Rattle.rows.proofs.Prelude.{length, take, drop, ltb, ltb-false, bool-cases}
 use Rattle.text.specs.Text.{ascii}
 use Rattle.text.specs.Buffer.{largest, Puts}
 use Rattle.text.proofs.Buffers.{puts-then, written-start}
@@ -52,20 +52,14 @@ module _ (x : Terminal) (o : List ℕ) where
   unfolding officeReply officeVerdict verdict filled
   not-sound e = (rw e, (rw e, rw e))
 
-  -- the length that was measured is the text's
-  measured : (n : ℕ) → n ≡ min (0 + length (officeText (x .tables))) largest → n ≡ length (officeText (x .tables))
-  measured n e = omega (arith, text-short (x .tables))
-
-  pub too-short : (n : ℕ) → soundTerminal x ≡ true → n ≡ min (0 + length (officeText (x .tables))) largest → length o < n → Ends x o o 18 0
+  pub too-short : soundTerminal x ≡ true → ltb (length o) (length (officeText (x .tables))) ≡ true → Ends x o o 18 0
   unfolding officeReply officeVerdict verdict filled
-  too-short n e m h =
-      let l = lt-ltb (length o) (length (officeText (x .tables))) (omega (arith, measured n m)) in
-      (rw (e, l), (rw (e, l), rw (e, l)))
+  too-short e l = (rw (e, l), (rw (e, l), rw (e, l)))
 
-  pub all-written : {o′ : List ℕ} (n r : ℕ) → soundTerminal x ≡ true → n ≡ min (0 + length (officeText (x .tables))) largest → n ≤ length o
+  pub all-written : {o′ : List ℕ} (r : ℕ) → soundTerminal x ≡ true → ltb (length o) (length (officeText (x .tables))) ≡ false
       → Puts o 0 (officeText (x .tables)) o′ r → Ends x o o′ 0 r
   unfolding officeReply officeVerdict verdict filled
-  all-written {o′} n r e m h p =
-      let f : length (officeText (x .tables)) ≤ length o = omega (arith, measured n m) in
-      let l = le-ltb (length o) (length (officeText (x .tables))) f in
-      (rw (e, l), (rw (e, l) (measured r (p .next)), rw (e, l) (p .buffer ∙ written-start o (officeText (x .tables)) f)))
+  all-written r e l p =
+      let f = ltb-false (length o) (length (officeText (x .tables))) l in
+      let n : r ≡ length (officeText (x .tables)) = omega (arith, p .next, text-short (x .tables)) in
+      (rw (e, l), (rw (e, l) n, rw (e, l) (p .buffer ∙ written-start o (officeText (x .tables)) f)))

@@ -1,5 +1,6 @@
 // The tables' access list as office text, in a buffer that the caller lends.
 // The same walk measures, on an empty buffer, and writes: too short is decided before a byte is written.
+// A buffer that fits every text needs no measuring.
 use check_waiting::terminal_sound;
 use fields::ace;
 use fields::held;
@@ -17,6 +18,7 @@ ghost use mathlib.Core.Path.{_≡_};
 ghost use mathlib.Core.Bool.{cond};
 ghost use mathlib.Core.List.{[], _++_};
 ghost use Prim.Native.Nat.{_*_, _≤_};
+ghost use lib.Dec.{ltb};
 ghost use lib.ListN.{length};
 ghost use Rattle.text.specs.Buffer.{Puts};
 ghost use Rattle.rows.specs.Rows.{rowsOf};
@@ -28,6 +30,9 @@ ghost use Rattle.rules.specs.Checks.{numberOf};
 ghost use Rattle.rules_waiting.specs.Terminal.{terminal};
 ghost use Rattle.rules_office.specs.Office.{comma, rowText, rowsText, seasonal, rowsWritten, listText, officeVerdict, officeReply};
 ghost use Rattle.rules.specs.Sizes.{aceRowSize};
+
+// Bytes that fit every text (`text-short`, rules_office/proofs/Bounds.antt).
+const TEXT_MAX: usize = 13069;
 
 // What the office is told: 0, 17 or 18, and how many bytes were written.
 #[repr(C)]
@@ -81,6 +86,19 @@ fn put_list(out: &mut [u8], naces: u8, aces: &[u8; ACE_ROWS]) -> usize
     put(out, p, b"]}")
 }
 
+// Whether a buffer of this capacity is shorter than the text.
+// Rules out: a buffer that fits exactly; a text that is longer than every text.
+fn is_too_short(capacity: usize, naces: u8, aces: &[u8; ACE_ROWS]) -> bool
+    ensures { λ r. ⌜ r ≡ ltb capacity (length (listText (rowsWritten (rowsIn Aces naces (was aces))))) ⌝ }
+{
+    if TEXT_MAX <= capacity {
+        return false;
+    }
+    let mut none = [0u8; 0];
+    let n = put_list(&mut none, naces, aces);
+    capacity < n
+}
+
 // The tables' access list as office text: the answer, the length of the text, and the lent buffer afterwards.
 // Rules out: a byte written on 18; 18 where the text fits exactly; the text of tables that are
 // not sound, be it only in what waits; a row of a shorter period in the text.
@@ -101,9 +119,7 @@ pub fn access_list<'a>(
             length: 0,
         };
     }
-    let mut none = [0u8; 0];
-    let n = put_list(&mut none, h.naces, aces);
-    if out.len() < n {
+    if is_too_short(out.len(), h.naces, aces) {
         return Listed {
             answer: 18,
             length: 0,

@@ -11,6 +11,7 @@ use Rattle.rules.specs.Bits.{bits}
 use Rattle.rules.specs.Record.{Request, received}
 use Rattle.rules.specs.Defaults.{noDefaults, fresh}
 use Rattle.rules.specs.Outcome.{responseTo, tablesAfter}
+use Rattle.rules.specs.Reading.{longestReply}
 
 unfoldable pub header : List ℕ
 header = ascii "n answer perm state\n"
@@ -22,7 +23,7 @@ line place answer permission state =
 
 -- each record is lent a buffer that fits any reply
 abbrev pub lent : ℕ → List ℕ → Request
-lent clock r = received clock r 1168
+lent clock r = received clock r longestReply
 
 -- of a record that is judged on the tables t
 abbrev pub lineFor : Tables → ℕ → Request → List ℕ

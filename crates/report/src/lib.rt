@@ -4,6 +4,7 @@ use fields::after;
 use fields::be16;
 use fields::be32;
 use judge::judge;
+use rules::REPLY_MAX;
 use rules::Tables;
 use rules_waiting::QUEUE;
 use text::put;
@@ -65,7 +66,7 @@ fn judge_one(t: Tables, clock: u32, record: &[u8]) -> Judged
     let mut creds = t.creds;
     let mut aces = t.aces;
     let mut queue = [0u8; QUEUE];
-    let mut reply = [0u8; 1168];
+    let mut reply = [0u8; REPLY_MAX];
     let j = judge(
         t.head(),
         &mut creds,

@@ -16,7 +16,7 @@ use Rattle.rules.specs.Tables.{headOf, stride, longest, storable, rowOf,
 use Rattle.rules.specs.Bodies.{credRowOf, aceRowOf}
 use Rattle.rules.specs.Roles.{bodyOf, withoutRoles, rolesInForce}
 use Rattle.rules.specs.Permission.{senderRow}
-use Rattle.rules.specs.Reading.{ownBody, rowBytes, contents, reads, replyTo, replyOf, tooShort, holder, bare, rowsOfReply}
+use Rattle.rules.specs.Reading.{ownBody, rowBytes, contents, reads, replyTo, replyOf, tooShort, holder, bare, rowsOfReply, longestReply}
 use Rattle.rules.proofs.Answers.{table-parts}
 use Rattle.rules.proofs.BodyLaws.{sized, positive}
 use Rattle.rules.proofs.TableLaws.{few-rows}
@@ -95,18 +95,18 @@ parts-short clock t w n h l =
     (λ d. bool-cases (eqb n 4) (λ e. rw (eqb-true n 4 e) (omega (arith, in-force-short clock w)))
     (λ e. rw (a, b, c, d, e) (omega arith))))))
 
--- a reply is 1168 bytes long at most
-pub reply-short : (clock : ℕ) (t : Tables) (w : Row) (n : ℕ) → sound t ≡ true → length (t .devowner) ≡ 16 → length (contents clock t w n) ≤ 1168
+-- no reply is longer
+pub reply-short : (clock : ℕ) (t : Tables) (w : Row) (n : ℕ) → sound t ≡ true → length (t .devowner) ≡ 16 → length (contents clock t w n) ≤ longestReply
 unfolding contents rowOwner
 reply-short clock t w n h l =
     simp length-append (omega (arith, parts-short clock t w n h l, length-take 16 (drop (n * 16) (t .rowners))))
 
 -- so a record with a buffer of that length never gets 15
-pub capacity-enough : (clock : ℕ) (t : Tables) (r : List ℕ) → sound t ≡ true → length (t .devowner) ≡ 16 → tooShort 1168 (length (replyOf clock t r)) ≡ false
+pub capacity-enough : (clock : ℕ) (t : Tables) (r : List ℕ) → sound t ≡ true → length (t .devowner) ≡ 16 → tooShort longestReply (length (replyOf clock t r)) ≡ false
 unfolding tooShort replyTo
 capacity-enough clock t r h l =
-    cond-cases (λ (reply : List ℕ). ltb 1168 (length reply) ≡ false) (reads (headerOf r))
-    (λ _. le-ltb 1168 _ (reply-short clock t (senderRow t (sender r)) (resource r) h l)) (λ _. refl)
+    cond-cases (λ (reply : List ℕ). ltb longestReply (length reply) ≡ false) (reads (headerOf r))
+    (λ _. le-ltb longestReply _ (reply-short clock t (senderRow t (sender r)) (resource r) h l)) (λ _. refl)
 
 -- ---- the reply of roles (U11) has no row owner
 

@@ -20,7 +20,7 @@ use Rattle.rules.specs.Action.{deleteNumber, deleteAces, deleteCreds, de
 use Rattle.rules.specs.States.{writeAllowed, moveListed, moveAllowed}
 use Rattle.rules.specs.StoreRange.{noRange, gapOf}
 use Rattle.rules.specs.Links.{asksLinks, linkSet, noLinks}
-use Rattle.rules.specs.Reading.{ownBody, rowBytes, contents, reads, replyTo, tooShort}
+use Rattle.rules.specs.Reading.{ownBody, rowBytes, contents, reads, replyTo, tooShort, longestReply}
 use Rattle.rules.specs.Checks.{badLength, noVerb, zeroBitSet, mismatch, unknownResource}
 use Rattle.rules.specs.Checks.{noCredential, noEndpoint, notPermitted, offered, notOffered, verdict}
 use Rattle.rules.specs.Outcome.{outcomeAt, outcome, entered, responseTo, tablesAfter}
@@ -40,7 +40,7 @@ definitions = tt
 
 -- a record at clock 0, with a buffer that fits any reply
 abbrev pub lent : List ℕ → Request
-lent r = received 0 r 1168
+lent r = received 0 r longestReply
 
 abbrev pub answer : Tables → List ℕ → ℕ
 answer t r = responseTo noDefaults t (lent r) .answer

@@ -1,6 +1,6 @@
 -- Reading the tables back (U1): what a permitted RETRIEVE of a security resource fills the lent buffer with.
 -- The resource's own body, its row owner, and its rows in table order; of roles the sender's own in force. Every other record has no reply.
-use Prim.Native.Nat.{ℕ, _*_, _-_, _/_, _%_}
+use Prim.Native.Nat.{ℕ, _+_, _*_, _-_, _/_, _%_}
 use mathlib.Core.Bool.{Bool, _&&_, cond}
 use mathlib.Core.List.{List, [], _∷_, _++_, map}
 use lib.Dec.{eqb, ltb}
@@ -15,7 +15,7 @@ use Rattle.rules.specs.declared.Header.{Header}
 use Rattle.rules.specs.Directory.{doxm, pstat, cred, acl2, roles}
 use Rattle.rules.specs.Record.{headerOf, sender, retrieve}
 use Rattle.rules.specs.Roles.{bodyOf, withoutRoles, rolesInForce}
-use Rattle.rules.specs.Tables.{longest, headOf, rows, rowOwner}
+use Rattle.rules.specs.Tables.{longest, tableSize, headOf, rows, rowOwner}
 use Rattle.rules.specs.Permission.{senderRow}
 
 -- what an UPDATE of doxm or pstat would set to what is: owned stands in the first bit, the state in the first three; the tables' resources have no such body
@@ -46,6 +46,10 @@ replyTo clock t w h = cond (reads h) (contents clock t w (h .resource .number)) 
 -- to a record
 abbrev pub replyOf : ℕ → Tables → List ℕ → List ℕ
 replyOf clock t r = replyTo clock t (senderRow t (sender r)) (headerOf r)
+
+-- bytes of the longest reply: a row owner, and all access rows
+abbrev pub longestReply : ℕ
+longestReply = 16 + tableSize Aces
 
 -- the buffer is shorter than a reply of this length
 unfoldable pub tooShort : ℕ → ℕ → Bool

@@ -8,6 +8,7 @@ use Rattle.rows.specs.Rows.{Row, rowsOf, joined}
 use Rattle.rows.proofs.Laws.{length-rowsOf}
 use Rattle.rows.proofs.Kept.{length-without}
 use Rattle.rules.specs.declared.Tables.{Tables}
+use Rattle.rules.specs.declared.Table.the-variants.{Aces}
 use Rattle.rules.specs.Bits.{bits}
 use Rattle.rules.specs.Bodies.{aceKind, aceSubject, aceConnection, acePermission}
 use Rattle.rules.specs.declared.Check.the-variants.{Pass}
@@ -121,12 +122,16 @@ list-length : (ws : List Row) → length ws ≤ 32 → length (listText ws) ≤ 
 unfolding listText rowsText joined ascii
 list-length ws h = simp length-append (omega (arith, all-rows ws h))
 
-pub text-short : (t : Tables) → length (officeText t) ≤ 13069
+-- of so many rows in these bytes, whatever they are
+pub rows-text-short : (n : ℕ) (b : List ℕ) → length (listText (rowsWritten (rowsIn Aces n b))) ≤ 13069
 unfolding rowsIn
-text-short t =
-    let ws = rowsOf aceRowSize (min (t .naces) 32) (t .aces) in
-    let few : length ws ≤ 32 = rw (length-rowsOf aceRowSize (min (t .naces) 32) (t .aces)) (min-le-right (t .naces) 32) in
+rows-text-short n b =
+    let ws = rowsOf aceRowSize (min n 32) b in
+    let few : length ws ≤ 32 = rw (length-rowsOf aceRowSize (min n 32) b) (min-le-right n 32) in
     list-length (rowsWritten ws) (omega (arith, length-without seasonal ws, few))
+
+pub text-short : (t : Tables) → length (officeText t) ≤ 13069
+text-short t = rows-text-short (t .naces) (t .aces)
 
 pub never-18 : (x : Terminal) → soundTerminal x ≡ true → officeVerdict x 13069 ≡ Pass
 unfolding officeVerdict verdict

@@ -4,7 +4,7 @@ use Rattle.rows.proofs.Prelude.{length-append, length-drop, length-take-le, dro
 use Rattle.rules.specs.declared.Tables.{Tables}
 use Rattle.rules_waiting.specs.Slots.{queueSize}
 use Rattle.rules_waiting.specs.Terminal.{Terminal, terminal}
-use Rattle.rules_power.specs.Image.{tablesImage, terminalImage, tablesSize, terminalSize, field, tablesIn, terminalIn, SizedTables, SizedTerminal}
+use Rattle.rules_power.specs.Image.{tablesImage, terminalImage, tablesSize, terminalSize, field, tablesIn, terminalIn, SizedTables, SizedTerminal, credsAt, acesAt}
 use Rattle.rules.specs.declared.Table.the-variants.{Aces, Creds}
 use Rattle.rules.specs.Tables.{tableSize}
 
@@ -73,8 +73,8 @@ module _ (t : Tables) (rest : List ℕ) (l : SizedTables t) where
   tables-among =
       let owner = next-field 16 4 bytes (t .devowner) _ (l .devowner) arrays in
       let owners = next-field 64 20 bytes (t .rowners) _ (l .rowners) (owner .1) in
-      let creds = next-field (tableSize Creds) 84 bytes (t .creds) _ (l .creds) (owners .1) in
-      let aces = next-field (tableSize Aces) 1020 bytes (t .aces) rest (l .aces) (creds .1) in
+      let creds = next-field (tableSize Creds) credsAt bytes (t .creds) _ (l .creds) (owners .1) in
+      let aces = next-field (tableSize Aces) acesAt bytes (t .aces) rest (l .aces) (creds .1) in
       same-tables t _ _ _ _ (owner .0) (owners .0) (creds .0) (aces .0)
 
 pub tables-back : (t : Tables) → SizedTables t → tablesIn (tablesImage t) ≡ t
@@ -83,5 +83,5 @@ tables-back t l = ap tablesIn (sym (append-nil (tablesImage t))) ∙ tables-amon
 pub terminal-back : (x : Terminal) → SizedTerminal x → terminalIn (terminalImage x) ≡ x
 unfolding terminalIn terminalImage field
 terminal-back x l =
-    let after = drop-at (tablesImage (x .tables)) (x .queue) 2172 (length-tables (x .tables) (l .tables)) in
+    let after = drop-at (tablesImage (x .tables)) (x .queue) tablesSize (length-tables (x .tables) (l .tables)) in
     ap₂ terminal (tables-among (x .tables) (x .queue) (l .tables)) (ap (take queueSize) after ∙ take-all queueSize (x .queue) (omega (arith, l .queue)))

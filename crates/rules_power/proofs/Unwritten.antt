@@ -12,7 +12,7 @@ use Rattle.rules_store.specs.Store as store
 use Rattle.rules_store.specs.Store.{current}
 use Rattle.rules_store.proofs.Parts.{length-current}
 use Rattle.rules_store.proofs.Ends.{nothing}
-use Rattle.rules_power.specs.Image.{tablesImage, tablesSize, field, tablesIn, SizedTables}
+use Rattle.rules_power.specs.Image.{tablesImage, tablesSize, field, tablesIn, SizedTables, credsAt, acesAt}
 use Rattle.rules_power.specs.Day.{found, Kept}
 use Rattle.rules_power.specs.Kept.{Act, tablesAlone}
 use Rattle.rules.specs.declared.Table.the-variants.{Aces, Creds}
@@ -34,10 +34,10 @@ four (x ∷ y ∷ z ∷ w ∷ b) h = refl
 pub tables-again : (b : List ℕ) → length b ≡ tablesSize → tablesImage (tablesIn b) ≡ b
 unfolding tablesImage tablesIn
 tables-again b l =
-    let none : drop 2172 b ≡ [] = drop-of-length-le b {i = 2172} (omega arith) in
-    let rows = field (tableSize Aces) 1020 b in
-    let last : rows ≡ drop 1020 b = sym (append-nil rows) ∙ ap (λ (r : List ℕ). rows ++ r) (sym none) ∙ field-on (tableSize Aces) 1020 b in
-    rw (last, field-on (tableSize Creds) 84 b, field-on 64 20 b, field-on 16 4 b) (four b (omega arith))
+    let none : drop tablesSize b ≡ [] = drop-of-length-le b {i = tablesSize} (omega arith) in
+    let rows = field (tableSize Aces) acesAt b in
+    let last : rows ≡ drop acesAt b = sym (append-nil rows) ∙ ap (λ (r : List ℕ). rows ++ r) (sym none) ∙ field-on (tableSize Aces) acesAt b in
+    rw (last, field-on (tableSize Creds) credsAt b, field-on 64 20 b, field-on 16 4 b) (four b (omega arith))
 
 -- ---- so
 

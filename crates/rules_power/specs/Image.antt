@@ -1,14 +1,14 @@
 -- The image of a terminal: the bytes of the tables in the order of the struct, and with them the memory of waiting records.
 -- Every field is a byte or an array of bytes, so no image depends on padding or on the order of bytes.
-use Prim.Native.Nat.{ℕ}
+use Prim.Native.Nat.{ℕ, _+_}
 use mathlib.Core.Path.{_≡_}
 use mathlib.Core.List.{List, _∷_, _++_}
 use lib.ListN.{length, take, drop, getD}
 use Rattle.rules.specs.declared.Tables.{Tables}
+use Rattle.rules.specs.declared.Table.the-variants.{Creds, Aces}
+use Rattle.rules.specs.Tables.{tableSize}
 use Rattle.rules_waiting.specs.Slots.{queueSize}
 use Rattle.rules_waiting.specs.Terminal.{Terminal, terminal}
-use Rattle.rules.specs.declared.Table.the-variants.{Aces, Creds}
-use Rattle.rules.specs.Tables.{tableSize}
 
 -- ---- written
 
@@ -18,11 +18,18 @@ tablesImage t = t .state ∷ t .owned ∷ t .ncreds ∷ t .naces ∷ (t .devowne
 unfoldable pub terminalImage : Terminal → List ℕ
 terminalImage x = tablesImage (x .tables) ++ x .queue
 
+-- where the rows of each table begin: behind four bytes, the device owner and four row owners
+abbrev pub credsAt : ℕ
+credsAt = 4 + 16 + 64
+
+abbrev pub acesAt : ℕ
+acesAt = credsAt + tableSize Creds
+
 abbrev pub tablesSize : ℕ
-tablesSize = 2172
+tablesSize = acesAt + tableSize Aces
 
 abbrev pub terminalSize : ℕ
-terminalSize = 8676
+terminalSize = tablesSize + queueSize
 
 -- ---- read
 
@@ -37,8 +44,8 @@ tablesIn bytes = record {
   naces = getD bytes 3 0;
   devowner = field 16 4 bytes;
   rowners = field 64 20 bytes;
-  creds = field (tableSize Creds) 84 bytes;
-  aces = field (tableSize Aces) 1020 bytes;
+  creds = field (tableSize Creds) credsAt bytes;
+  aces = field (tableSize Aces) acesAt bytes;
 }
 
 unfoldable pub terminalIn : List ℕ → Terminal

@@ -20,24 +20,24 @@ returns c =
 
 returns-2 : tie.Need-returns-2
 returns-2 c =
-    let measured = c .before .before in
-    let test = measured .before .before in
+    let asked = c .before in
+    let test = asked .before in
     let told = test .before in
     let s = start told in
-    too-short (lent s) (now (s .args .out)) _
-    (sym (told .terminal-sound .ensures) ∙ not-false _ (test .if1 .left)) (measured .put-list .ensures .next) (c .if2 .taken)
+    too-short (lent s) (now (s .args .out))
+    (sym (told .terminal-sound .ensures) ∙ not-false _ (test .if1 .left)) (sym (asked .is-too-short .ensures) ∙ c .if2 .taken)
 
 returns-3 : tie.Need-returns-3
 returns-3 c =
     let put = c .before .before in
     let fits = put .before .before in
-    let measured = fits .before .before in
-    let test = measured .before .before in
+    let asked = fits .before in
+    let test = asked .before in
     let told = test .before in
     let s = start told in
-    all-written (lent s) (now (s .args .out)) _ _
-    (sym (told .terminal-sound .ensures) ∙ not-false _ (test .if1 .left)) (measured .put-list .ensures .next) (fits .if2 .left) (put .put-list2 .ensures)
+    all-written (lent s) (now (s .args .out)) _
+    (sym (told .terminal-sound .ensures) ∙ not-false _ (test .if1 .left)) (sym (asked .is-too-short .ensures) ∙ fits .if2 .left) (put .put-list .ensures)
 
 pub access-list-spec : {M : Type 1} → Rattle.office_list.proofs.access_list.Statement.statement M
 access-list-spec = tie.close (tie.spec
-    (λ c κs. search needs) returns (λ c. search needs) (λ c κs. search needs) returns-2 (λ c κs. search needs) (λ c. search needs) returns-3)
+    (λ c κs. search needs) returns (λ c κs. search needs) returns-2 (λ c κs. search needs) (λ c. search needs) returns-3)
