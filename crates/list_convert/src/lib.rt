@@ -1,9 +1,9 @@
 // An access list of the older terminals as access rows, in a buffer that the caller lends.
 // The whole file is tested and the rows are counted before a byte is written.
+use list_row::OLD_ROW;
 use list_row::is_bad;
 use list_row::made_count;
 use list_row::put_made;
-use rows::part;
 use rules::ACE_ROW;
 use rules::ACES;
 ghost use mathlib.Core.Path.{_≡_};
@@ -15,9 +15,6 @@ ghost use Rattle.rules.specs.Reading.{filled};
 ghost use Rattle.rules.specs.Checks.{numberOf};
 ghost use Rattle.rules_legacy.specs.OldList.{oldRows, badRow, badFile};
 ghost use Rattle.rules_legacy.specs.Conversion.{rowsMade, conversionVerdict, conversionReply};
-
-// Bytes of an old row.
-const OLD_ROW: usize = 25;
 
 // Access rows that a list holds at most.
 const MOST_ROWS: usize = ACES as usize;
@@ -36,7 +33,7 @@ fn has_bad_row(file: &[u8]) -> bool
     let mut rest = file;
     let mut left = file.len() / OLD_ROW;
     while 0 < left {
-        if is_bad(part(rest, 0, OLD_ROW)) {
+        if is_bad(&rest[..OLD_ROW]) {
             return true;
         }
         rest = &rest[OLD_ROW..];
@@ -59,7 +56,7 @@ fn count_made(file: &[u8]) -> usize
     let mut rest = file;
     let mut left = file.len() / OLD_ROW;
     while 0 < left {
-        total += made_count(part(rest, 0, OLD_ROW)) as usize;
+        total += made_count(&rest[..OLD_ROW]) as usize;
         rest = &rest[OLD_ROW..];
         left -= 1;
     }
@@ -75,7 +72,7 @@ fn put_all(out: &mut [u8], file: &[u8]) -> usize
     let mut rest = file;
     let mut left = file.len() / OLD_ROW;
     while 0 < left {
-        let row = part(rest, 0, OLD_ROW);
+        let row = &rest[..OLD_ROW];
         p = put_made(out, p, number, row);
         number += made_count(row);
         rest = &rest[OLD_ROW..];

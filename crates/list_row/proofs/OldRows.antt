@@ -1,9 +1,9 @@
 -- An old row's fields as code reads them, and the bytes of the rows made of it.
-use Rattle.rows.proofs.Prelude.{_≡_, ap, _∙_, true, false, not, _||_, List, [], _∷_, _++_, append-assoc, append-nil, ℕ, _+_, _*_, _/_, _%_, _≤_, _<_, arith}
-use Rattle.rows.proofs.Prelude.{length, drop, getD, eqb}
+use Rattle.rows.proofs.Prelude.{_≡_, sym, ap, _∙_, true, false, not, _||_, List, [], _∷_, _++_, append-assoc, append-nil, ℕ, _+_, _*_, _/_, _%_, _≤_, _<_, arith}
+use Rattle.rows.proofs.Prelude.{length, take, drop, getD, replicate, drop-of-length-le, take-all, eqb}
 use mathlib.Core.Bool.{Bool·not-not}
 use Rattle.text.specs.Buffer.{largest, Puts}
-use Rattle.text.proofs.Buffers.{puts-then}
+use Rattle.text.proofs.Buffers.{puts-then, written-start}
 use Rattle.rows.specs.Rows.{Row, joined}
 use Rattle.rules.specs.Bits.{bit, be16}
 use Rattle.rules.specs.Bodies.{setKnown, everySecond}
@@ -11,6 +11,7 @@ use Rattle.rules.proofs.BitLaws.{bits-in-byte}
 use Rattle.rules_legacy.specs.OldList.{oldSubject, oldPermission, oldZeros, oldSet, isAnybody, badRow}
 use Rattle.rules_legacy.specs.Conversion.{entry, uuidEntry, connectionEntry, entriesOf, numberedFrom}
 use Rattle.rules_legacy.proofs.BitParts.{bit-drop}
+use Rattle.rules_legacy.proofs.Made.{made}
 use Rattle.rules_legacy.proofs.Stored.{set-known}
 
 -- ---- the fields
@@ -43,6 +44,25 @@ row-puts i kind subject set row b h e l f p q r s =
     rw (permission-byte row (rw (← e) l), ← e, ← f, ← append-assoc set subject everySecond)
     (puts-then h (puts-then h (puts-then h p q) r) s)
 
+-- a text as long as the buffer is all that stands there
+exact : {o o′ : List ℕ} {r : ℕ} (text : List ℕ) → length o ≡ length text → Puts o 0 text o′ r → o′ ≡ text
+exact {o} text h p =
+    let fits : length text ≤ length o = omega arith in
+    let all : length o ≤ length text = omega arith in
+    p .buffer ∙ written-start o text fits ∙ rw (drop-of-length-le o all, append-nil)
+
+-- the row that is made, where an old row has its 25 bytes and a subject its 16
+pub row-is : {o₁ o₂ o₃ o₄ : List ℕ} {r₁ r₂ r₃ r₄ : ℕ} (i kind : ℕ) (subject row set : List ℕ) (b : ℕ) → kind < 4 → length subject ≡ 16 → length row ≡ 25
+    → b ≡ getD (take 25 row) 16 0 → b < 256 → set ≡ oldSet (take 25 row)
+    → Puts (replicate 36 0) 0 (i / 256 ∷ i % 256 ∷ (kind * 64 + b / 8 * 2) ∷ 0 ∷ []) o₁ r₁ → Puts o₁ r₁ set o₂ r₂ → Puts o₂ r₂ (take 16 subject) o₃ r₃
+    → Puts o₃ r₃ everySecond o₄ r₄
+    → o₄ ≡ be16 i ++ entry kind subject row
+row-is i kind subject row set b k l m e n f p q r s =
+    let w = take-all 25 row (omega arith) in
+    let v = take-all 16 subject (omega arith) in
+    exact (be16 i ++ entry kind subject row) (sym (made i kind subject row k m l .long))
+    (row-puts i kind subject set row b (omega arith) (e ∙ ap (λ (x : Row). getD x 16 0) w) n (f ∙ ap (λ (x : Row). oldSet x) w) p q (rw v at r) s)
+
 -- ---- the rows made of an old row
 
 pub two-puts : {o o₁ o₂ : List ℕ} {at r₁ r₂ : ℕ} (i : ℕ) (row : Row) → length o ≤ largest → isAnybody row ≡ true
@@ -51,7 +71,7 @@ pub two-puts : {o o₁ o₂ : List ℕ} {at r₁ r₂ : ℕ} (i : ℕ) (row : Ro
 unfolding entriesOf numberedFrom joined
 two-puts i row h e p q = rw (e, append-nil) (puts-then h p q)
 
-pub one-puts : {o o₁ : List ℕ} {at r₁ : ℕ} (i : ℕ) (row subject : List ℕ) → isAnybody row ≡ false → subject ≡ oldSubject row
-    → Puts o at (be16 i ++ entry 0 subject row) o₁ r₁ → Puts o at (joined (numberedFrom i (entriesOf row))) o₁ r₁
+pub one-puts : {o o₁ : List ℕ} {at r₁ : ℕ} (i : ℕ) (row : Row) → isAnybody row ≡ false
+    → Puts o at (be16 i ++ entry 0 (oldSubject row) row) o₁ r₁ → Puts o at (joined (numberedFrom i (entriesOf row))) o₁ r₁
 unfolding entriesOf numberedFrom joined uuidEntry
-one-puts i row subject e f p = rw (e, append-nil, ← f) p
+one-puts i row e p = rw (e, append-nil) p

@@ -1,9 +1,10 @@
 // One old row: whether it is bad, how many access rows it becomes, and their bytes.
-// Every function is total: a byte past the row's end is 0, and one past the buffer's end is not written.
+// The tests are total: a byte past the row's end is 0. A row to be put has its 25 bytes, and one past the buffer's end is not written.
 use fields::ace;
 use fields::after;
 use row_format::is_nil;
 use rows::part;
+use rules::ACE_ROW;
 use text::put;
 ghost use mathlib.Core.Path.{_≡_};
 ghost use mathlib.Core.List.{_++_};
@@ -14,6 +15,9 @@ ghost use Rattle.rows.specs.Rows.{joined};
 ghost use Rattle.rules.specs.Bits.{be16};
 ghost use Rattle.rules_legacy.specs.OldList.{isAnybody, badRow};
 ghost use Rattle.rules_legacy.specs.Conversion.{entry, connectionEntry, entriesOf, numberedFrom};
+
+// Bytes of an old row.
+pub const OLD_ROW: usize = 25;
 
 // Where an old row's permission stands, with the three zero bits behind it.
 const FLAGS_AT: usize = 16;
@@ -65,24 +69,38 @@ pub fn made_count(row: &[u8]) -> u16
 }
 
 // An access row: its number, the subject's kind, the old permission, no wildcards, the old set, the subject, every second.
-fn put_row(out: &mut [u8], at: usize, number: u16, kind: u8, subject: &[u8], row: &[u8]) -> usize
-    requires { ⌜ kind < 4 ⌝ }
-    ensures { λ r. ⌜ Puts (now (out .entry)) at (be16 number ++ entry kind (now (subject .entry)) (now (row .entry))) (now (out .exit)) r ⌝ }
+// The slices of a known length let the compiler copy each part at once.
+fn row_made(number: u16, kind: u8, subject: &[u8], row: &[u8]) -> [u8; ACE_ROW]
+    requires { ⌜ (kind < 4) × (length (now subject) ≡ 16) × (length (now row) ≡ 25) ⌝ }
+    ensures { λ r. ⌜ r ≡ be16 number ++ entry kind (now (subject .entry)) (now (row .entry)) ⌝ }
 {
+    let old = &row[..OLD_ROW];
     let head = [
         (number / 256) as u8,
         (number % 256) as u8,
-        kind * 64 + flags(row) / 8 * 2,
+        kind * 64 + flags(old) / 8 * 2,
         0,
     ];
-    let p = put(out, at, &head);
-    let p = put(out, p, part(row, SET_AT, SET_BYTES));
-    let p = put(out, p, subject);
-    put(out, p, &EVERY_SECOND)
+    let mut made = [0u8; ACE_ROW];
+    let p = put(&mut made, 0, &head);
+    let p = put(&mut made, p, part(old, SET_AT, SET_BYTES));
+    let p = put(&mut made, p, &subject[..SUBJECT_BYTES]);
+    put(&mut made, p, &EVERY_SECOND);
+    made
+}
+
+// That row in the buffer, in one copy.
+fn put_row(out: &mut [u8], at: usize, number: u16, kind: u8, subject: &[u8], row: &[u8]) -> usize
+    requires { ⌜ (kind < 4) × (length (now subject) ≡ 16) × (length (now row) ≡ 25) ⌝ }
+    ensures { λ r. ⌜ Puts (now (out .entry)) at (be16 number ++ entry kind (now (subject .entry)) (now (row .entry))) (now (out .exit)) r ⌝ }
+{
+    let made = row_made(number, kind, subject, row);
+    put(out, at, &made)
 }
 
 // An access row for a connection.
 fn put_connection(out: &mut [u8], at: usize, number: u16, connection: u8, row: &[u8]) -> usize
+    requires { ⌜ length (now row) ≡ 25 ⌝ }
     ensures { λ r. ⌜ Puts (now (out .entry)) at (be16 number ++ connectionEntry connection (now (row .entry))) (now (out .exit)) r ⌝ }
 {
     let mut subject = [0u8; SUBJECT_BYTES];
@@ -93,12 +111,12 @@ fn put_connection(out: &mut [u8], at: usize, number: u16, connection: u8, row: &
 // The access rows that the row becomes, numbered from `number` on: one for a UUID, and for "*" one for each connection.
 // Rules out: anon-clear before auth-crypt; one number for both.
 pub fn put_made(out: &mut [u8], at: usize, number: u16, row: &[u8]) -> usize
-    requires { ⌜ number < 65535 ⌝ }
+    requires { ⌜ (number < 65535) × (length (now row) ≡ 25) ⌝ }
     ensures { λ r. ⌜ Puts (now (out .entry)) at (joined (numberedFrom number (entriesOf (now (row .entry))))) (now (out .exit)) r ⌝ }
 {
     if is_anybody(row) {
         let p = put_connection(out, at, number, 1, row);
         return put_connection(out, p, number + 1, 0, row);
     }
-    put_row(out, at, number, 0, part(row, 0, SUBJECT_BYTES), row)
+    put_row(out, at, number, 0, &row[..SUBJECT_BYTES], row)
 }

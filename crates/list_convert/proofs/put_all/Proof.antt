@@ -1,11 +1,11 @@
 -- `put_all`: the bytes of what the rows left become are still to be put, and the numbers stay small. The measure is the number of rows left.
 -- Assumes nothing.
-use Rattle.rows.proofs.Prelude.{ap, _∙_, _+_, _*_, _≤_, arith, length, now, needs}
+use Rattle.rows.proofs.Prelude.{_≡_, sym, _+_, _*_, _≤_, arith, length, take, length-take-le, now, needs}
 use Rattle.text.proofs.Buffers.{Writing, writing-start, writing-step, writing-end, writing-length}
 use Rattle.rows.specs.Rows.{joined}
 use Rattle.rows.proofs.Laws.{a-row, next-fits}
 use Rattle.rules_legacy.specs.OldList.{oldRows}
-use Rattle.rules_legacy.specs.Conversion.{entriesOf, rowsMade}
+use Rattle.rules_legacy.specs.Conversion.{rowsMade}
 use Rattle.rules_legacy.proofs.Stored.{rows-count}
 use Rattle.list_convert.proofs.Files.{count, many-more, two-at-most, bytesFrom, bytes-more, bytes-end}
 use Rattle.list_convert.proofs.put_all.Tie as tie
@@ -27,6 +27,10 @@ loop-holds c =
 row-here : (c : tie.In-loop Inv-loop μ-loop) → 25 ≤ length (c .before .loop .rest .now)
 row-here c = a-row 25 _ (c .before .loop .rest .now) (c .loop-test .taken) (c .before .loop .inv .0)
 
+-- and a row has 25 bytes
+row-long : (c : tie.In-loop Inv-loop μ-loop) → length (take 25 (c .before .loop .rest .now)) ≡ 25
+row-long c = length-take-le 25 (c .before .loop .rest .now) (row-here c)
+
 loop-again : tie.Need-loop-again Inv-loop μ-loop
 loop-again c =
     let made = c .before in
@@ -34,19 +38,18 @@ loop-again c =
     let row = put .before .before in
     let turn = row .before in
     let l = turn .before .loop in
-    let e = row .part .ensures in
-    let m = made .made-count .ensures ∙ ap (λ r. length (entriesOf r)) e in (
+    let m = made .made-count .ensures in (
       next-fits 25 (l .left) (l .rest .now) (turn .loop-test .taken) (l .inv .0),
       (
         omega (arith, m, l .inv .1 .0, many-more (l .left) (l .rest .now) (turn .loop-test .taken)),
-        rw m (writing-step _ _ (l .inv .1 .1) (bytes-more (l .number) (l .left) (l .rest .now) (turn .loop-test .taken)) (rw e at (put .put-made .ensures))),
+        rw m (writing-step _ _ (l .inv .1 .1) (bytes-more (l .number) (l .left) (l .rest .now) (turn .loop-test .taken)) (put .put-made .ensures)),
       ),
     )
 
 pub put-all-spec : {M : Type 1} → Rattle.list_convert.proofs.put_all.Statement.statement M
 put-all-spec = tie.close (tie.spec
-    Inv-loop μ-loop loop-holds (λ c κs. search needs) (λ c κs. search needs) (λ c κs. search needs)
-    (λ c. omega (arith, c .made-count .ensures, two-at-most (now (c .before .before .before .before .before .part .result))))
+    Inv-loop μ-loop loop-holds (λ c. sym (row-long (c .before))) (λ c κs. (omega arith, row-long (c .before .before))) (λ c κs. search needs)
+    (λ c. omega (arith, c .made-count .ensures, two-at-most (take 25 (c .before .before .before .before .before .before .before .loop .rest .now))))
     (λ c. row-here (c .before .before .before .before .before .before))
     (λ c. row-here (c .before .before .before .before .before .before))
     (λ c. search needs) (λ c. search needs) (λ c. search needs) loop-again (λ c. writing-length (c .before .loop .inv .1 .1))

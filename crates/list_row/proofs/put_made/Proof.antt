@@ -1,5 +1,5 @@
 -- `put_made`: two rows for "*", one for a UUID.
-use Rattle.rows.proofs.Prelude.{sym, _∙_, _≤_, arith, length, now, needs}
+use Rattle.rows.proofs.Prelude.{_≡_, sym, _∙_, _≤_, arith, length, take, length-take-le, now, needs}
 use Rattle.text.specs.Buffer.{largest}
 use Rattle.list_row.proofs.OldRows.{two-puts, one-puts}
 use Rattle.list_row.proofs.put_made.Tie as tie
@@ -19,11 +19,13 @@ returns c =
 returns-2 : tie.Need-returns-2
 returns-2 c =
     let put = c .before .before in
-    let part = put .before in
-    let test = part .before .before in
-    one-puts _ _ _ (sym (test .before .is-anybody .ensures) ∙ test .if1 .left) (part .part .ensures) (put .put-row .ensures)
+    let test = put .before .before .before in
+    one-puts _ _ (sym (test .before .is-anybody .ensures) ∙ test .if1 .left) (put .put-row .ensures)
+
+subject-long : (c : tie.After-put-row-arg2) → length (take 16 (c .before .before .before .before .before .before .args .row .now)) ≡ 16
+subject-long c = length-take-le 16 (now (c .before .before .before .before .before .before .args .row)) (omega arith)
 
 pub put-made-spec : {M : Type 1} → Rattle.list_row.proofs.put_made.Statement.statement M
 put-made-spec = tie.close (tie.spec
     (λ c κs. search needs) (λ c κs. search needs) (λ c. search needs) (λ c κs. search needs) (λ c. search needs) returns
-    (λ c κs. search needs) (λ c κs. search needs) (λ c. search needs) returns-2)
+    (λ c. sym (subject-long c)) (λ c κs. (omega arith, subject-long c, search needs)) (λ c. search needs) returns-2)
