@@ -1,6 +1,7 @@
 -- Loops over the rows of a file: one row more or none, what it becomes, and the bytes of that.
 use Rattle.rows.proofs.Prelude.{_≡_, sym, ap, _∙_, Bool, true, false, List, [], _++_, ℕ, zero, suc, _+_, _-_, _≤_, _<_, arith, length, take, drop}
 use Rattle.rows.proofs.Prelude.{length-append, cond-cases}
+use Rattle.text.proofs.Buffers.{Writing, writing-length}
 use Rattle.rows.specs.Rows.{Row, rowsOf, some, joined}
 use Rattle.rows.proofs.Laws.{take-rest, rowsOf-suc, joined-append}
 use Rattle.rules_legacy.specs.OldList.{isAnybody}
@@ -79,3 +80,11 @@ bytes-more i n b h =
 pub bytes-end : (i n : ℕ) (b : List ℕ) → n ≤ 0 → bytesFrom i n b ≡ []
 unfolding numberedFrom joined
 bytes-end i n b h = ap (λ (es : List (List ℕ)). joined (numberedFrom i es)) (entries-end n b h)
+
+-- where all rows fit, those of the next old row do
+pub made-fits : {o whole out : List ℕ} {p : ℕ} (i n : ℕ) (b : List ℕ) → 0 < n → Writing o 0 whole (bytesFrom i n b) out p → length whole ≤ length o
+    → p + length (joined (numberedFrom i (entriesOf (take 25 b)))) ≤ length out
+made-fits {o} {whole} i n b h w fits =
+    let all : length (w .done) + length (bytesFrom i n b) ≡ length whole = sym (length-append (w .done) (bytesFrom i n b)) ∙ ap length (w .parts) in
+    let next = ap length (bytes-more i n b h) ∙ length-append (joined (numberedFrom i (entriesOf (take 25 b)))) _ in
+    omega (arith, w .puts .next, w .bound, writing-length w)

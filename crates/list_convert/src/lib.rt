@@ -63,8 +63,9 @@ fn count_made(file: &[u8]) -> usize
     total
 }
 
+// The rows made, in a buffer that holds them.
 fn put_all(out: &mut [u8], file: &[u8]) -> usize
-    requires { ⌜ length (rowsMade (now file)) ≤ 32 ⌝ }
+    requires { ⌜ (length (rowsMade (now file)) ≤ 32) × (length (joined (rowsMade (now file))) ≤ length (now out)) ⌝ }
     ensures { λ r. ⌜ Puts (now (out .entry)) 0 (joined (rowsMade (now (file .entry)))) (now (out .exit)) r ⌝ }
 {
     let mut p = 0;

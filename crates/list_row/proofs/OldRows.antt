@@ -1,10 +1,11 @@
 -- An old row's fields as code reads them, and the bytes of the rows made of it.
-use Rattle.rows.proofs.Prelude.{_≡_, sym, ap, _∙_, true, false, not, _||_, List, [], _∷_, _++_, append-assoc, append-nil, ℕ, _+_, _*_, _/_, _%_, _≤_, _<_, arith}
-use Rattle.rows.proofs.Prelude.{length, take, drop, getD, replicate, drop-of-length-le, take-all, eqb}
+use Rattle.rows.proofs.Prelude.{_≡_, sym, ap, _∙_, true, false, not, _||_, List, [], _∷_, _++_, append-assoc, append-nil, ℕ, _+_, _*_, _/_, _%_, _≤_, _<_}
+use Rattle.rows.proofs.Prelude.{arith, zero, suc, _-_, length, take, drop, getD, replicate, length-append, drop-of-length-le, take-all, eqb}
 use mathlib.Core.Bool.{Bool·not-not}
-use Rattle.text.specs.Buffer.{largest, Puts}
+use Rattle.text.specs.Buffer.{written, largest, Puts}
 use Rattle.text.proofs.Buffers.{puts-then, written-start}
-use Rattle.rows.specs.Rows.{Row, joined}
+use Rattle.rows.specs.Rows.{Row, joined, withRow}
+use Rattle.rows.proofs.Laws.{take-rest, lent-rest}
 use Rattle.rules.specs.Bits.{bit, be16}
 use Rattle.rules.specs.Bodies.{setKnown, everySecond}
 use Rattle.rules.proofs.BitLaws.{bits-in-byte}
@@ -12,6 +13,7 @@ use Rattle.rules_legacy.specs.OldList.{oldSubject, oldPermission, oldZeros, old
 use Rattle.rules_legacy.specs.Conversion.{entry, uuidEntry, connectionEntry, entriesOf, numberedFrom}
 use Rattle.rules_legacy.proofs.BitParts.{bit-drop}
 use Rattle.rules_legacy.proofs.Made.{made}
+use Rattle.rules_legacy.proofs.SameUnion.{made-uuid, made-connection}
 use Rattle.rules_legacy.proofs.Stored.{set-known}
 
 -- ---- the fields
@@ -35,7 +37,7 @@ bad-is o b e =
 
 -- ---- a row made, in the four parts in which it is put
 
-pub row-puts : {o o₁ o₂ o₃ o₄ : List ℕ} {at r₁ r₂ r₃ r₄ : ℕ} (i kind : ℕ) (subject set : List ℕ) (row : Row) (b : ℕ) → length o ≤ largest
+row-puts : {o o₁ o₂ o₃ o₄ : List ℕ} {at r₁ r₂ r₃ r₄ : ℕ} (i kind : ℕ) (subject set : List ℕ) (row : Row) (b : ℕ) → length o ≤ largest
     → b ≡ getD row 16 0 → b < 256 → set ≡ oldSet row
     → Puts o at (i / 256 ∷ i % 256 ∷ (kind * 64 + b / 8 * 2) ∷ 0 ∷ []) o₁ r₁ → Puts o₁ r₁ set o₂ r₂ → Puts o₂ r₂ subject o₃ r₃ → Puts o₃ r₃ everySecond o₄ r₄
     → Puts o at (be16 i ++ entry kind subject row) o₄ r₄
@@ -63,7 +65,42 @@ row-is i kind subject row set b k l m e n f p q r s =
     exact (be16 i ++ entry kind subject row) (sym (made i kind subject row k m l .long))
     (row-puts i kind subject set row b (omega arith) (e ∙ ap (λ (x : Row). getD x 16 0) w) n (f ∙ ap (λ (x : Row). oldSet x) w) p q (rw v at r) s)
 
+-- ---- that row put over a part of the buffer
+
+written-at : (o : List ℕ) (at : ℕ) (s : List ℕ) → at + length s ≤ length o → written o at s ≡ take at o ++ (s ++ drop (length s) (drop at o))
+unfolding written
+written-at o zero s h = written-start o s (omega arith)
+written-at [] (suc at) s h = absurd (omega arith)
+written-at (b ∷ o) (suc at) s h = ap (λ (l : List ℕ). b ∷ l) (written-at o at s (omega arith))
+
+-- the part from `at` on is lent, and comes back as y
+pub row-put : (o : List ℕ) (at : ℕ) (text made y : List ℕ) → length o ≤ largest → at + 36 ≤ length o → length text ≡ 36 → made ≡ text
+    → y ≡ withRow 36 0 made (take (length o - at) (drop at o)) → Puts o at text (take at o ++ (y ++ drop (length o - at) (drop at o))) (at + 36)
+unfolding withRow
+row-put o at text made y h fits l m e = record {
+  next = omega arith;
+  buffer = lent-rest at o y
+      ∙ ap (λ (t : List ℕ). take at o ++ t) (e ∙ rw (m, take-rest))
+      ∙ sym (rw l at (written-at o at text (omega arith)));
+}
+
 -- ---- the rows made of an old row
+
+pub two-long : (i : ℕ) (row : Row) → length row ≡ 25 → isAnybody row ≡ true → length (joined (numberedFrom i (entriesOf row))) ≡ 72
+unfolding entriesOf numberedFrom joined
+two-long i row l e =
+    let first = made-connection i row l 1 .long in
+    let second = made-connection (i + 1) row l 0 .long in
+    rw (e, append-nil) (omega (arith, length-append (be16 i ++ connectionEntry 1 row) (be16 (i + 1) ++ connectionEntry 0 row)))
+
+-- the position after the first of the two
+pub after-first : {o o₁ : List ℕ} {at r₁ : ℕ} (i connection : ℕ) (row : Row) → length row ≡ 25 → length o ≤ largest → at + 36 ≤ length o
+    → Puts o at (be16 i ++ connectionEntry connection row) o₁ r₁ → r₁ ≡ at + 36
+after-first i connection row l h fits p = omega (arith, p .next, made-connection i row l connection .long)
+
+pub one-long : (i : ℕ) (row : Row) → length row ≡ 25 → isAnybody row ≡ false → length (joined (numberedFrom i (entriesOf row))) ≡ 36
+unfolding entriesOf numberedFrom joined
+one-long i row l e = rw (e, append-nil) (made-uuid i row l .long)
 
 pub two-puts : {o o₁ o₂ : List ℕ} {at r₁ r₂ : ℕ} (i : ℕ) (row : Row) → length o ≤ largest → isAnybody row ≡ true
     → Puts o at (be16 i ++ connectionEntry 1 row) o₁ r₁ → Puts o₁ r₁ (be16 (i + 1) ++ connectionEntry 0 row) o₂ r₂

@@ -1,5 +1,5 @@
 // One old row: whether it is bad, how many access rows it becomes, and their bytes.
-// The tests are total: a byte past the row's end is 0. A row to be put has its 25 bytes, and one past the buffer's end is not written.
+// The tests are total: a byte past the row's end is 0. Rows are put into a buffer that holds them, from an old row of 25 bytes.
 use fields::ace;
 use fields::after;
 use row_format::is_nil;
@@ -8,7 +8,7 @@ use rules::ACE_ROW;
 use text::put;
 ghost use mathlib.Core.Path.{_≡_};
 ghost use mathlib.Core.List.{_++_};
-ghost use Prim.Native.Nat.{_<_};
+ghost use Prim.Native.Nat.{_+_, _≤_, _<_};
 ghost use lib.ListN.{length, getD};
 ghost use Rattle.text.specs.Buffer.{Puts};
 ghost use Rattle.rows.specs.Rows.{joined};
@@ -89,18 +89,19 @@ fn row_made(number: u16, kind: u8, subject: &[u8], row: &[u8]) -> [u8; ACE_ROW]
     made
 }
 
-// That row in the buffer, in one copy.
+// That row in the buffer, which holds it, in one copy.
 fn put_row(out: &mut [u8], at: usize, number: u16, kind: u8, subject: &[u8], row: &[u8]) -> usize
-    requires { ⌜ (kind < 4) × (length (now subject) ≡ 16) × (length (now row) ≡ 25) ⌝ }
+    requires { ⌜ (kind < 4) × (length (now subject) ≡ 16) × (length (now row) ≡ 25) × (at + 36 ≤ length (now out)) ⌝ }
     ensures { λ r. ⌜ Puts (now (out .entry)) at (be16 number ++ entry kind (now (subject .entry)) (now (row .entry))) (now (out .exit)) r ⌝ }
 {
     let made = row_made(number, kind, subject, row);
-    put(out, at, &made)
+    rows_change::put_row(&mut out[at..], ACE_ROW, 0, &made);
+    at + ACE_ROW
 }
 
 // An access row for a connection.
 fn put_connection(out: &mut [u8], at: usize, number: u16, connection: u8, row: &[u8]) -> usize
-    requires { ⌜ length (now row) ≡ 25 ⌝ }
+    requires { ⌜ (length (now row) ≡ 25) × (at + 36 ≤ length (now out)) ⌝ }
     ensures { λ r. ⌜ Puts (now (out .entry)) at (be16 number ++ connectionEntry connection (now (row .entry))) (now (out .exit)) r ⌝ }
 {
     let mut subject = [0u8; SUBJECT_BYTES];
@@ -111,7 +112,10 @@ fn put_connection(out: &mut [u8], at: usize, number: u16, connection: u8, row: &
 // The access rows that the row becomes, numbered from `number` on: one for a UUID, and for "*" one for each connection.
 // Rules out: anon-clear before auth-crypt; one number for both.
 pub fn put_made(out: &mut [u8], at: usize, number: u16, row: &[u8]) -> usize
-    requires { ⌜ (number < 65535) × (length (now row) ≡ 25) ⌝ }
+    requires { ⌜
+        (number < 65535)
+        × (length (now row) ≡ 25)
+        × (at + length (joined (numberedFrom number (entriesOf (now row)))) ≤ length (now out)) ⌝ }
     ensures { λ r. ⌜ Puts (now (out .entry)) at (joined (numberedFrom number (entriesOf (now (row .entry))))) (now (out .exit)) r ⌝ }
 {
     if is_anybody(row) {

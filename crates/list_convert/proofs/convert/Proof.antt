@@ -1,5 +1,6 @@
 -- `convert`: a bad file, too many rows, a buffer that is too short, or the rows.
-use Rattle.rows.proofs.Prelude.{sym, _∙_, now, needs}
+use Rattle.rows.proofs.Prelude.{sym, _∙_, arith, now, needs}
+use Rattle.rules_legacy.proofs.Stored.{rows-size}
 use Rattle.list_convert.proofs.Ends.{bad-file, too-many, too-short, all-put}
 use Rattle.list_convert.proofs.convert.Tie as tie
 
@@ -27,6 +28,12 @@ returns-3 c =
     too-short (now (s .args .file)) (now (s .args .rows)) (sym (told .is-bad-file .ensures) ∙ test .if1 .left) _
     (count .count-made .ensures) (few .if2 .left) (c .if3 .taken)
 
+put-all-requires : tie.Need-put-all-requires
+put-all-requires c κs =
+    let count = c .before .before .before .before in
+    let s = count .before .before .before .before in
+    (omega (arith, count .count-made .ensures), omega (arith, count .count-made .ensures, rows-size (now (s .args .file))))
+
 returns-4 : tie.Need-returns-4
 returns-4 c =
     let put = c .before .before in
@@ -41,5 +48,5 @@ returns-4 c =
 
 pub convert-spec : {M : Type 1} → Rattle.list_convert.proofs.convert.Statement.statement M
 convert-spec = tie.close (tie.spec
-    (λ c κs. search needs) (λ c κs. search needs) returns returns-2 (λ c. search needs) returns-3 (λ c κs. search needs)
+    (λ c κs. search needs) (λ c κs. search needs) returns returns-2 (λ c. search needs) returns-3 put-all-requires
     (λ c. search needs) returns-4)

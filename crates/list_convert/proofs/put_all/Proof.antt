@@ -7,7 +7,7 @@ use Rattle.rows.proofs.Laws.{a-row, next-fits}
 use Rattle.rules_legacy.specs.OldList.{oldRows}
 use Rattle.rules_legacy.specs.Conversion.{rowsMade}
 use Rattle.rules_legacy.proofs.Stored.{rows-count}
-use Rattle.list_convert.proofs.Files.{count, many-more, two-at-most, bytesFrom, bytes-more, bytes-end}
+use Rattle.list_convert.proofs.Files.{count, many-more, two-at-most, bytesFrom, bytes-more, bytes-end, made-fits}
 use Rattle.list_convert.proofs.put_all.Tie as tie
 
 abbrev Inv-loop : tie.InvT-loop
@@ -21,7 +21,7 @@ loop-holds : tie.Need-loop-holds Inv-loop μ-loop
 unfolding rowsMade oldRows
 loop-holds c =
     let s = c .before .before in
-    (omega arith, (omega (arith, s .pre, rows-count (s .args .file .now)), writing-start _ _ _ (omega arith) (omega arith)))
+    (omega arith, (omega (arith, s .pre .0, rows-count (s .args .file .now)), writing-start _ _ _ (omega arith) (omega arith)))
 
 -- a turn has a row
 row-here : (c : tie.In-loop Inv-loop μ-loop) → 25 ≤ length (c .before .loop .rest .now)
@@ -30,6 +30,16 @@ row-here c = a-row 25 _ (c .before .loop .rest .now) (c .loop-test .taken) (c .b
 -- and a row has 25 bytes
 row-long : (c : tie.In-loop Inv-loop μ-loop) → length (take 25 (c .before .loop .rest .now)) ≡ 25
 row-long c = length-take-le 25 (c .before .loop .rest .now) (row-here c)
+
+put-made-requires : tie.Need-put-made-requires Inv-loop μ-loop
+put-made-requires c κs =
+    let turn = c .before .before in
+    let l = turn .before .loop in
+    let s = turn .before .before .before .before in (
+      omega arith,
+      row-long turn,
+      made-fits (l .number) (l .left) (l .rest .now) (turn .loop-test .taken) (l .inv .1 .1) (s .pre .1),
+    )
 
 loop-again : tie.Need-loop-again Inv-loop μ-loop
 loop-again c =
@@ -48,7 +58,7 @@ loop-again c =
 
 pub put-all-spec : {M : Type 1} → Rattle.list_convert.proofs.put_all.Statement.statement M
 put-all-spec = tie.close (tie.spec
-    Inv-loop μ-loop loop-holds (λ c. sym (row-long (c .before))) (λ c κs. (omega arith, row-long (c .before .before))) (λ c κs. search needs)
+    Inv-loop μ-loop loop-holds (λ c. sym (row-long (c .before))) put-made-requires (λ c κs. search needs)
     (λ c. omega (arith, c .made-count .ensures, two-at-most (take 25 (c .before .before .before .before .before .before .before .loop .rest .now))))
     (λ c. row-here (c .before .before .before .before .before .before))
     (λ c. row-here (c .before .before .before .before .before .before))
