@@ -1,22 +1,27 @@
 -- Laws of the memory's bytes, as the code reads them.
-use Rattle.rows.proofs.Prelude.{_≡_, refl, sym, ap, _∙_, Bool, false, _&&_, _||_, and-false, and-true, or-false, drop-cons, bool-cases, List, [], _∷_, _++_, ℕ}
-use Rattle.rows.proofs.Prelude.{zero, suc, _+_, _-_, _*_, _/_, _%_, _≤_, _<_, min-eq-left, arith, length, take, drop, getD, replicate, eqb, eq-eqb, eqb-true}
-use Rattle.rows.proofs.Prelude.{le-leb, lt-leb}
+use Rattle.rows.proofs.Prelude.{_≡_, refl, sym, ap, _∙_, Bool, true, false, not, _&&_, _||_, and-false, and-true, or-false, drop-cons, bool-cases, List, [], _∷_, _++_, ℕ}
+use Rattle.rows.proofs.Prelude.{zero, suc, _+_, _-_, _*_, _/_, _%_, _≤_, _<_, min, min-eq-left, arith, length, take, drop, getD, replicate, eqb, eq-eqb, eqb-true}
+use Rattle.rows.proofs.Prelude.{ltb, ltb-false, le-leb, lt-leb, ne-eqb, or-right, or-true-right, take-append-drop}
 use mathlib.Core.Bool.{and-assoc}
+use lib.Dec.{eqb·suc-zero}
+use native.Mathlib.Nat.{zero-add}
 use native.Mathlib.Numerals.{add-four}
-use Rattle.rows.specs.Rows.{Row, same, allZero, every, distinctNumbers, rowsOf}
-use Rattle.rows.proofs.Laws.{take-rest}
-use Rattle.rules.specs.declared.Check.{Check}
-use Rattle.rules.specs.declared.Check.the-variants.{Pass, Refuse}
+use Rattle.rows.specs.Rows.{Row, same, hasKey, allZero, every, some, distinctNumbers, rowsOf}
+use Rattle.rows.proofs.Laws.{take-rest, some-append, from-row, isAt, some-place}
+use Rattle.rows.specs.declared.Found.{Found}
+use Rattle.rows.specs.Contracts.{placeFrom}
+use Rattle.rules.specs.declared.Table.the-variants.{Creds}
+use Rattle.rules.specs.Tables.{rowsIn}
 use Rattle.rules.specs.Bits.{bits, be16}
-use Rattle.rules.specs.Record.{credential}
-use Rattle.rules.specs.Checks.{verdict}
-use Rattle.rules.specs.Groups.{senderChecks}
-use Rattle.rules.proofs.BitLaws.{word-is}
+use Rattle.rules.specs.Record.{headerOf, sender, credential}
+use Rattle.rules.specs.Directory.{known}
+use Rattle.rules.specs.Checks.{verdict, isPass, badLength, noVerb, zeroBitSet, mismatch, unknownResource, noCredential}
+use Rattle.rules.specs.Groups.{headerChecks, senderChecks}
+use Rattle.rules.proofs.BitLaws.{bits-part, bits-small, bits-word, word-is}
 use Rattle.rules.proofs.Answers.{passed, long-enough}
 use Rattle.rules_waiting.specs.Slots.{seatOf, padded, slotOf, recordOf, roundBytes, roundOf, waiting, queueSize, slotSize}
 use Rattle.rules_waiting.specs.Terminal.{slotSound, queueSound}
-use Rattle.rules_waiting.proofs.SlotLaws.{short-record}
+use Rattle.rules_waiting.proofs.SlotLaws.{is-pass}
 
 -- the round's bytes: zeros, or 1 and a seat
 pub round-is : (m : List ℕ) → 4 ≤ length m
@@ -69,25 +74,145 @@ take-again zero s = refl
 take-again (suc k) [] = refl
 take-again (suc k) (x ∷ s) = ap (λ (l : List ℕ). x ∷ l) (take-again k s)
 
+-- ---- the checks of a record, each as whether it passes
+
+pass-more : (n : ℕ) (b : Bool) (es : List (ℕ × Bool)) → isPass (verdict ((n, b) ∷ es)) ≡ (not b && isPass (verdict es))
+unfolding verdict
+pass-more n true es = refl
+pass-more n false es = refl
+
+pass-last : (n : ℕ) (b : Bool) → isPass (verdict ((n, b) ∷ [])) ≡ not b
+unfolding verdict
+pass-last n true = refl
+pass-last n false = refl
+
+pass-append : (xs ys : List (ℕ × Bool)) → isPass (verdict (xs ++ ys)) ≡ (isPass (verdict xs) && isPass (verdict ys))
+unfolding verdict
+pass-append [] ys = refl
+pass-append ((n, true) ∷ xs) ys = refl
+pass-append ((n, false) ∷ xs) ys = pass-append xs ys
+
+zero-word : (x y : ℕ) → eqb (x * 256 + y) 0 ≡ (eqb x 0 && eqb y 0)
+zero-word zero y = ap (λ (n : ℕ). eqb n 0) (zero-add y)
+zero-word (suc x) y = ne-eqb (suc x * 256 + y) 0 (λ e. omega arith) ∙ rw (eqb·suc-zero x)
+
+pub bad-length : (r : List ℕ) → (ltb (length r) 4 || ltb 256 (length r)) ≡ true → false ≡ isPass (verdict (headerChecks (length r) (headerOf r)))
+unfolding badLength
+bad-length r e = sym (pass-more 2 _ _ ∙ rw e)
+
+pub read-fits : (r : List ℕ) → (ltb (length r) 4 || ltb 256 (length r)) ≡ false → 4 ≤ length r
+unfolding badLength
+read-fits r e = long-enough r e
+
+-- the header's fields, as parts of its first 16 bits
+module _ (r : List ℕ) where
+  abbrev word : ℕ
+  word = bits r 0 16
+
+  verb-is : bits r 0 3 ≡ word / 8192
+  verb-is = bits-part r 0 0 3 16 (omega arith) ∙ omega (arith, bits-small r 0 16)
+
+  pub connection-is : bits r 3 1 ≡ word / 4096 % 2
+  connection-is = bits-part r 0 3 1 16 (omega arith)
+
+  resource-is : bits r 4 6 ≡ word / 64 % 64
+  resource-is = bits-part r 0 4 6 16 (omega arith)
+
+  zeros-is : bits r 10 6 ≡ word % 64
+  zeros-is = bits-part r 0 10 6 16 (omega arith) ∙ omega arith
+
+  pub header-tested : (k : Bool) → (ltb (length r) 4 || ltb 256 (length r)) ≡ false → getD r 2 0 < 256 → getD r 3 0 < 256
+      → k ≡ known (word / 64 % 64)
+      → (let clear = eqb (word / 4096 % 2) 0 in
+        let unnamed = eqb (getD r 2 0) 0 && eqb (getD r 3 0) 0 in
+        not (ltb 4 (word / 8192)) && (not (not (eqb (word % 64) 0)) && (not ((clear && not unnamed) || (not clear && unnamed)) && not (not k))))
+      ≡ isPass (verdict (headerChecks (length r) (headerOf r)))
+  unfolding badLength noVerb zeroBitSet mismatch unknownResource
+  header-tested k l x y e =
+      sym (pass-more 2 _ _
+      ∙ rw (
+        l,
+        pass-more 3,
+        pass-more 4,
+        pass-more 5,
+        pass-last 6,
+        verb-is,
+        zeros-is,
+        connection-is,
+        resource-is,
+        bits-word r 2 x y,
+        zero-word (getD r 2 0) (getD r 3 0),
+        e,
+      ))
+
+-- ---- the sender's row
+
+-- a row that passes is one of them
+some-at : (passes : Row → Bool) (s n i : ℕ) (b : List ℕ) → i < n → passes (take s (drop (i * s) b)) ≡ true → some passes (rowsOf s n b) ≡ true
+unfolding some
+some-at passes s n i b h e =
+    ap (some passes) (sym (take-append-drop i (rowsOf s n b)))
+    ∙ some-append passes (take i (rowsOf s n b)) (drop i (rowsOf s n b))
+    ∙ or-true-right (some passes (take i (rowsOf s n b))) (some passes (drop i (rowsOf s n b))) (rw (from-row s n i b h, e))
+
+-- the key is looked for at a place, and then by a search
+module _ (n count : ℕ) (b key : List ℕ) (few : count ≡ min n 24) where
+  pub near : (i : ℕ) (h : Bool) → i < count → h ≡ hasKey 0 key (take 39 (drop (i * 39) b)) → h ≡ true → true ≡ some (hasKey 0 key) (rowsIn Creds n b)
+  unfolding rowsIn
+  near i h l e t = sym (ap (λ (k : ℕ). some (hasKey 0 key) (rowsOf 39 k b)) (sym few) ∙ some-at (hasKey 0 key) 39 count i b l (sym e ∙ t))
+
+  pub searched : (p : Found) → p ≡ placeFrom 0 (hasKey 0 key) (rowsOf 39 count b) → isAt p ≡ some (hasKey 0 key) (rowsIn Creds n b)
+  unfolding rowsIn
+  searched p e =
+      ap isAt e ∙ sym (some-place 0 (hasKey 0 key) (rowsOf 39 count b)) ∙ ap (λ (k : ℕ). some (hasKey 0 key) (rowsOf 39 k b)) few
+
+not-not : (b : Bool) → not (not b) ≡ b
+not-not true = refl
+not-not false = refl
+
+-- nobody is looked for over connection 0
+pub clear-passes : (ws : List Row) (r : List ℕ) → bits r 0 16 / 4096 % 2 ≡ 0 → true ≡ not (noCredential ws (headerOf r))
+unfolding noCredential sender
+clear-passes ws r e = sym (rw (connection-is r, e, and-false))
+
+-- over connection 1 the number that the record carries
+pub named-passes : (ws : List Row) (r : List ℕ) → (bits r 0 16 / 4096 % 2 ≡ 0 → ⊥) → 4 ≤ length r → getD r 2 0 < 256 → getD r 3 0 < 256
+    → some (hasKey 0 (take 2 (drop 2 r))) ws ≡ not (noCredential ws (headerOf r))
+unfolding noCredential sender
+named-passes ws r n l x y =
+    let one : bits r 0 16 / 4096 % 2 ≡ 1 = omega arith in
+    let key : take 2 (drop 2 r) ≡ be16 (bits r 16 16) = rw (drop-cons r 2 0 (omega arith), drop-cons r 3 0 (omega arith)) (sym (word-is r 2 x y)) in
+    rw (connection-is r, one, le-leb 4 (length r) l, not-not, key)
+
 -- what the checks of a slot's record say of it
-module _ (ws : List Row) (w r : List ℕ) (is : r ≡ recordOf w) (c : Check) (told : c ≡ verdict (senderChecks ws r)) where
-  pub not-kept : (n : ℕ) → c ≡ Refuse n → false ≡ slotSound ws w
-  unfolding slotSound
-  not-kept n e = sym (rw (← is, ← told, e, and-false))
+module _ (w r : List ℕ) (is : r ≡ recordOf w) where
+  abbrev header : Bool
+  header = isPass (verdict (headerChecks (length r) (headerOf r)))
 
-  module _ (e : c ≡ Pass) where
-    pub fits : (r ≡ take (length r) (drop 4 w)) × (4 ≤ length r) × (length r ≤ 256)
-    unfolding recordOf
-    fits =
-        let p = sym told ∙ e in (
-          is ∙ take-again (bits (drop 2 w) 0 16) (drop 4 w) ∙ ap (λ (l : List ℕ). take (length l) (drop 4 w)) (sym is),
-          long-enough r (passed (senderChecks ws r) p 2),
-          short-record ws r p,
-        )
+  pub fits : header ≡ true → (r ≡ take (length r) (drop 4 w)) × (4 ≤ length r) × (length r ≤ 256)
+  unfolding recordOf badLength
+  fits h =
+      let few = passed (headerChecks (length r) (headerOf r)) (is-pass _ h) 2 in (
+        is ∙ take-again (bits (drop 2 w) 0 16) (drop 4 w) ∙ ap (λ (l : List ℕ). take (length l) (drop 4 w)) (sym is),
+        long-enough r few,
+        ltb-false 256 (length r) (or-right (ltb (length r) 4) (ltb 256 (length r)) few),
+      )
 
-    pub kept-is : (b : Bool) → b ≡ same w (slotOf r) → b ≡ slotSound ws w
+  module _ (ws : List Row) where
+    both : isPass (verdict (senderChecks ws r)) ≡ (header && not (noCredential ws (headerOf r)))
+    both = pass-append (headerChecks (length r) (headerOf r)) ((7, noCredential ws (headerOf r)) ∷ []) ∙ rw (pass-last 7)
+
+    pub bad-header : header ≡ false → false ≡ slotSound ws w
     unfolding slotSound
-    kept-is b s = s ∙ rw (← is, ← told, e, and-true)
+    bad-header e = sym (rw (← is, both, e, and-false))
+
+    pub bad-sender : not (noCredential ws (headerOf r)) ≡ false → false ≡ slotSound ws w
+    unfolding slotSound
+    bad-sender e = sym (rw (← is, both, e, and-false, and-false))
+
+    pub kept-is : header ≡ true → not (noCredential ws (headerOf r)) ≡ true → (b : Bool) → b ≡ same w (slotOf r) → b ≡ slotSound ws w
+    unfolding slotSound
+    kept-is h f b s = s ∙ rw (← is, both, h, f, and-true)
 
 -- ---- the memory
 
@@ -105,3 +230,11 @@ module _ (ws : List Row) (m : List ℕ) (six : length m ≡ queueSize) (few : ge
   unfolding queueSound waiting
   tested r z s d hr hz hs hd =
       rw (hr, hz, hs, hd, take-rest 4 m, eq-eqb (length m) queueSize six, le-leb (getD m 0 0) 25 few, min-eq-left few)
+
+  -- where nothing waits, the round and the zeros are all there is
+  pub tested-empty : (r z : Bool) → getD m 0 0 ≡ 0 → r ≡ same (take 3 (drop 1 m)) (roundBytes (roundOf m)) → z ≡ allZero (drop (getD m 0 0 * slotSize) part)
+      → (r && z) ≡ queueSound ws m
+  unfolding every distinctNumbers rowsOf
+  tested-empty r z e hr hz =
+      sym (and-true (r && z)) ∙ sym (and-true ((r && z) && true))
+      ∙ tested r z true true hr hz (rw e) (rw e)

@@ -1,10 +1,14 @@
 // Check 1: whether the tables are sound, and the memory of waiting records beside them.
 // The round's bytes, then the slots: zeros after those that are used, each keeping a record that passes 2 to 7, one for a seat.
-use caller::check_record;
 use check_tables::tables_sound;
+use fields::be16;
+use fields::held;
 use queue::record_in;
+use rows::Found;
+use rules::CRED_ROW;
 use rules::ACE_ROWS;
 use rules::CRED_ROWS;
+use rules::CREDS;
 use rules::Check;
 use rules::Head;
 use rules_waiting::QUEUE;
@@ -14,8 +18,12 @@ ghost use mathlib.Core.Path.{_≡_};
 ghost use mathlib.Core.Bool.{not};
 ghost use Prim.Native.Nat.{_*_, _≤_};
 ghost use lib.ListN.{length, take, drop};
-ghost use Rattle.rows.specs.Rows.{rowsOf, every, same};
-ghost use Rattle.rules.specs.Checks.{refuseIf};
+ghost use Rattle.rows.specs.Rows.{rowsOf, every, some, same, hasKey};
+ghost use Rattle.rules.specs.Checks.{refuseIf, verdict, isPass, noCredential};
+ghost use Rattle.rules.specs.Directory.{known as knownTo};
+ghost use Rattle.rules.specs.Groups.{headerChecks};
+ghost use Rattle.rules.specs.Permission.{numbered};
+ghost use Rattle.rules.specs.Record.{headerOf};
 ghost use Rattle.rules_waiting.specs.Slots.{slotOf, roundBytes, roundOf, slotSize};
 ghost use Rattle.rules_waiting.specs.Terminal.{terminal, slotSound, queueSound, soundTerminal};
 ghost use Rattle.rules.specs.Words.{was, before};
@@ -38,16 +46,95 @@ fn is_slot_of(slot: &[u8], rec: &[u8]) -> bool
     number & size & rows::all_zero(slot, end)
 }
 
-fn slot_sound(ncreds: u8, creds: &[u8; CRED_ROWS], slot: &[u8]) -> bool
+// The resources that the directory knows, by number.
+const KNOWN: [bool; 17] = [
+    true, true, true, true, true, false, false, false, true, true, true, true, true, true, true,
+    false, true,
+];
+
+fn known(number: u16) -> bool
+    ensures { λ r. ⌜ r ≡ knownTo number ⌝ }
+{
+    if number < 17 {
+        return KNOWN[number as usize];
+    }
+    false
+}
+
+// Whether a record passes the checks 2 to 6: what they ask of the header's 32 bits, and nothing else of it.
+fn header_passes(rec: &[u8]) -> bool
+    ensures { λ r. ⌜ r ≡ isPass (verdict (headerChecks (length (was rec)) (headerOf (was rec)))) ⌝ }
+{
+    let n = rec.len();
+    if (n < 4) | (256 < n) {
+        return false;
+    }
+    let word = be16(rec);
+    let no_verb = 4 < word / 8192;
+    let zero_set = word % 64 != 0;
+    let clear = word / 4096 % 2 == 0;
+    let unnamed = (rec[2] == 0) & (rec[3] == 0);
+    let mismatch = (clear & !unnamed) | (!clear & unnamed);
+    let unknown = !known(word / 64 % 64);
+    !no_verb & (!zero_set & (!mismatch & !unknown))
+}
+
+// Whether a credential row has this number: the row at the place that is likely, or else any.
+fn number_held(ncreds: u8, creds: &[u8; CRED_ROWS], likely: u8, number: &[u8]) -> bool
+    ensures { λ r. ⌜ r ≡ some (hasKey 0 (was number)) (rowsIn Creds ncreds (was creds)) ⌝ }
+{
+    let count = held(ncreds, CREDS);
+    let i = likely as usize;
+    if i < count {
+        if rows::row_has(creds, CRED_ROW, i, 0, number) {
+            return true;
+        }
+    }
+    let Found::At(_) = rows::find(creds, CRED_ROW, count, 0, number) else {
+        return false;
+    };
+    true
+}
+
+// Whether a record passes check 7: an unauthenticated sender does, and a partner that has a row.
+fn sender_passes(ncreds: u8, creds: &[u8; CRED_ROWS], likely: u8, rec: &[u8]) -> bool
+    requires { ⌜ 4 ≤ length (now rec) ⌝ }
+    ensures { λ r. ⌜ r ≡ not (noCredential (rowsIn Creds ncreds (was creds)) (headerOf (was rec))) ⌝ }
+{
+    if be16(rec) / 4096 % 2 == 0 {
+        return true;
+    }
+    number_held(ncreds, creds, likely, &rec[2..4])
+}
+
+fn slot_sound(ncreds: u8, creds: &[u8; CRED_ROWS], likely: u8, slot: &[u8]) -> bool
     requires { ⌜ length (now slot) ≡ slotSize ⌝ }
     ensures { λ r. ⌜ r ≡ slotSound (rowsIn Creds ncreds (was creds)) (was slot) ⌝ }
 {
     let rec = record_in(slot);
-    let c = check_record(ncreds, creds, rec);
-    let Check::Pass = c else {
+    if !header_passes(rec) {
         return false;
-    };
+    }
+    if !sender_passes(ncreds, creds, likely, rec) {
+        return false;
+    }
     is_slot_of(slot, rec)
+}
+
+// A place for each low byte of a number: a row's that has it. It is where a search begins, so that no answer depends on it.
+fn likely_places(ncreds: u8, creds: &[u8; CRED_ROWS]) -> [u8; 256]
+    ensures { λ r. ⌜ length r ≡ 256 ⌝ }
+{
+    let rows = &creds[..];
+    let count = held(ncreds, CREDS);
+    let mut places = [0; 256];
+    let mut i = 0;
+    while i < count {
+        let low = rows[i * CRED_ROW + 1] as usize;
+        places[low] = i as u8;
+        i += 1;
+    }
+    places
 }
 
 // Whether each of the first `count` slots is sound.
@@ -55,10 +142,12 @@ fn slots_sound(ncreds: u8, creds: &[u8; CRED_ROWS], slots: &[u8], count: usize) 
     requires { ⌜ count * slotSize ≤ length (now slots) ⌝ }
     ensures { λ r. ⌜ r ≡ every (slotSound (rowsIn Creds ncreds (was creds))) (rowsOf slotSize count (was slots)) ⌝ }
 {
+    let places = likely_places(ncreds, creds);
     let mut rest = slots;
     let mut left = count;
     while 0 < left {
-        if !slot_sound(ncreds, creds, &rest[..SLOT]) {
+        let likely = places[rest[1] as usize];
+        if !slot_sound(ncreds, creds, likely, &rest[..SLOT]) {
             return false;
         }
         rest = &rest[SLOT..];
@@ -88,10 +177,11 @@ pub fn queue_sound(ncreds: u8, creds: &[u8; CRED_ROWS], queue: &[u8; QUEUE]) -> 
     }
     let slots = &m[4..];
     let end = count * SLOT;
-    round_sound(m)
-        & rows::all_zero(slots, end)
-        & slots_sound(ncreds, creds, slots, count)
-        & rows_distinct::distinct(slots, SLOT, count)
+    let still = round_sound(m) & rows::all_zero(slots, end);
+    if count == 0 {
+        return still;
+    }
+    still & slots_sound(ncreds, creds, slots, count) & rows_distinct::distinct(slots, SLOT, count)
 }
 
 // Whether the terminal is sound: the tables, and what waits.

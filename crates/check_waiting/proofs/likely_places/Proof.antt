@@ -1,0 +1,19 @@
+-- `likely_places`: nothing is asked of the places but that there are 256.
+use Rattle.rows.proofs.Prelude.{_≡_, refl, _∙_, _+_, _-_, _*_, _≤_, _<_, arith, length, getD, length-set, now, needs}
+use Rattle.check_waiting.proofs.likely_places.Tie as tie
+
+abbrev Inv-loop : tie.InvT-loop
+Inv-loop ncreds creds rows count places₀ i₀ places i = (length places ≡ 256) × (count ≤ 24)
+
+abbrev μ-loop : tie.MeasureT-loop
+μ-loop ncreds creds rows count places₀ i₀ places i = count - i
+
+-- the low byte is one
+low : (c : tie.After-shared-slice-known Inv-loop μ-loop) → getD (now (c .before .before .before .before .before .args .creds)) (c .before .before .loop .i * 39 + 1) 0 < 256
+low c = omega (arith, c .shared-slice-known .given (c .before .before .loop .i * 39 + 1))
+
+pub likely-places-spec : {M : Type 1} → Rattle.check_waiting.proofs.likely_places.Statement.statement M
+likely-places-spec = tie.close (tie.spec
+    Inv-loop μ-loop (λ c κs. search needs) (λ c. (refl, search needs)) (λ c. search needs) (λ c. search needs) (λ c. search needs)
+    (λ c. omega (arith, low c)) (λ c. search needs) low (λ c. search needs) (λ c. search needs)
+    (λ c. (search needs, search needs)) (λ c. search needs))
