@@ -1,7 +1,8 @@
 -- Laws of the memory's bytes, as the code reads them.
 use Rattle.rows.proofs.Prelude.{_≡_, refl, sym, ap, _∙_, Bool, true, false, not, _&&_, _||_, and-false, and-true, or-false, drop-cons, bool-cases, List, [], _∷_, _++_, ℕ}
 use Rattle.rows.proofs.Prelude.{zero, suc, _+_, _-_, _*_, _/_, _%_, _≤_, _<_, min, min-eq-left, arith, length, take, drop, getD, replicate, eqb, eq-eqb, eqb-true}
-use Rattle.rows.proofs.Prelude.{ltb, ltb-false, le-leb, lt-leb, ne-eqb, or-right, or-true-right, take-append-drop}
+use Rattle.rows.proofs.Zeros.{zeros-part}
+use Rattle.rows.proofs.Prelude.{and-left, and-right, contradiction, ltb, ltb-false, le-leb, lt-leb, ne-eqb, or-right, or-true-right, take-append-drop}
 use mathlib.Core.Bool.{and-assoc}
 use lib.Dec.{eqb·suc-zero}
 use native.Mathlib.Nat.{zero-add}
@@ -34,6 +35,21 @@ round-is m h =
     (λ e. rw (e, eq-eqb (getD m 2 0) (getD m 2 0) refl, eq-eqb (getD m 3 0) (getD m 3 0) refl, or-false, and-true)))
 
 -- ---- a slot
+
+later : (i k : ℕ) (b : List ℕ) → i ≤ k → allZero (drop i b) ≡ true → allZero (drop k b) ≡ true
+later i k b h e =
+    let at : i + (k - i) ≡ k = omega arith in
+    ap (λ (j : ℕ). allZero (drop j b)) (sym at) ∙ and-right (allZero (take (k - i) (drop i b))) _ (sym (zeros-part (k - i) i b) ∙ e)
+
+-- n bytes from i on, and those from k on, which begins within them or just behind
+pub overlap : (n i k : ℕ) (b : List ℕ) → i ≤ k → k ≤ i + n → (allZero (take n (drop i b)) && allZero (drop k b)) ≡ allZero (drop i b)
+overlap n i k b h l =
+    let parts = zeros-part n i b in
+    bool-cases (allZero (drop i b))
+    (λ e. rw (e, and-left (allZero (take n (drop i b))) (allZero (drop (i + n) b)) (sym parts ∙ e), later i k b h e))
+    (λ e. rw e (bool-cases (allZero (take n (drop i b)))
+    (λ t. rw t (bool-cases (allZero (drop k b)) (λ z. contradiction (parts ∙ rw (t, later k (i + n) b l z)) e) (λ z. z)))
+    (λ t. rw t)))
 
 -- bytes are the first n of them with zeros behind exactly where the rest is zeros
 zeros-behind : (n m : ℕ) (b : List ℕ) → m + n ≡ length b → same b (take n b ++ replicate m 0) ≡ allZero (drop n b)

@@ -18,7 +18,7 @@ ghost use mathlib.Core.Path.{_≡_};
 ghost use mathlib.Core.Bool.{not};
 ghost use Prim.Native.Nat.{_*_, _≤_};
 ghost use lib.ListN.{length, take, drop};
-ghost use Rattle.rows.specs.Rows.{rowsOf, every, some, same, hasKey};
+ghost use Rattle.rows.specs.Rows.{rowsOf, every, some, same, hasKey, allZero};
 ghost use Rattle.rules.specs.Checks.{refuseIf, verdict, isPass, noCredential};
 ghost use Rattle.rules.specs.Directory.{known as knownTo};
 ghost use Rattle.rules.specs.Groups.{headerChecks};
@@ -29,6 +29,19 @@ ghost use Rattle.rules_waiting.specs.Terminal.{terminal, slotSound, queueSound,
 ghost use Rattle.rules.specs.Words.{was, before};
 ghost use Rattle.rules.specs.Tables.{rowsIn};
 ghost use Rattle.rules.specs.declared.Table.the-variants.{Creds};
+
+// Whether each byte of a slot from `from` on is 0. Of more than 128 bytes the first 128 are looked at and the last 128, which may be
+// some of the same: the compiler then knows how many they are, and counts none.
+fn zeros_from(slot: &[u8], from: usize) -> bool
+    requires { ⌜ (length (now slot) ≡ slotSize) × (4 ≤ from) ⌝ }
+    ensures { λ r. ⌜ r ≡ allZero (drop from (was slot)) ⌝ }
+{
+    if 132 < from {
+        return rows::all_zero(slot, from);
+    }
+    let end = from + 128;
+    rows::all_zero(&slot[from..end], 0) & rows::all_zero(&slot[132..], 0)
+}
 
 // Whether the slot is the one that keeps the record in it: the sender's number, the record's length, and zeros behind.
 fn is_slot_of(slot: &[u8], rec: &[u8]) -> bool
@@ -43,7 +56,7 @@ fn is_slot_of(slot: &[u8], rec: &[u8]) -> bool
     let number = (slot[0] == rec[2]) & (slot[1] == rec[3]);
     let size = (slot[2] == (n / 256) as u8) & (slot[3] == (n % 256) as u8);
     let end = n + 4;
-    number & size & rows::all_zero(slot, end)
+    number & size & zeros_from(slot, end)
 }
 
 // The resources that the directory knows, by number.
