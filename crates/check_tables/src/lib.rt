@@ -10,24 +10,21 @@ use rules::Head;
 use rules::Table;
 ghost use mathlib.Core.Path.{_≡_};
 ghost use mathlib.Core.List.{[]};
-ghost use Prim.Native.Nat.{_*_};
+ghost use Prim.Native.Nat.{_*_, _≤_};
 ghost use lib.ListN.{length};
 ghost use Rattle.rows.specs.Rows.{rowsOf, every};
 ghost use Rattle.rules.specs.Tables.{stride, storable, capacity, rowsSound, headSound, sound, tablesOf, tableSize};
 ghost use Rattle.rules.specs.Words.{was, before};
 
-// Whether each of the first `count` rows is one that a body could store; one that is cut short is not.
-// Rules out: the last row not looked at; a row of the other table.
-pub fn rows_storable(table: Table, rows: &[u8], count: usize) -> bool
+// Whether each of `count` rows is one that a body could store, where all of them are there.
+fn each_storable(table: Table, rows: &[u8], count: usize) -> bool
+    requires { ⌜ count * stride table ≤ length (now rows) ⌝ }
     ensures { λ r. ⌜ r ≡ every (storable table) (rowsOf (stride table) count (was rows)) ⌝ }
 {
     let long = stride_of(table);
     let mut rest = rows;
     let mut left = count;
     while 0 < left {
-        if rest.len() < long {
-            return false;
-        }
         if !row_storable(table, &rest[..long]) {
             return false;
         }
@@ -35,6 +32,18 @@ pub fn rows_storable(table: Table, rows: &[u8], count: usize) -> bool
         left -= 1;
     }
     true
+}
+
+// Whether each of the first `count` rows is one that a body could store; one that is cut short is not.
+// Rules out: the last row not looked at; a row of the other table.
+pub fn rows_storable(table: Table, rows: &[u8], count: usize) -> bool
+    ensures { λ r. ⌜ r ≡ every (storable table) (rowsOf (stride table) count (was rows)) ⌝ }
+{
+    let whole = rows.len() / stride_of(table);
+    if whole < count {
+        return false;
+    }
+    each_storable(table, rows, count)
 }
 
 fn rows_sound(table: Table, count: usize, bytes: &[u8]) -> bool
@@ -48,7 +57,7 @@ fn rows_sound(table: Table, count: usize, bytes: &[u8]) -> bool
     let long = stride_of(table);
     let end = count * long;
     rows::all_zero(bytes, end)
-        & rows_storable(table, bytes, count)
+        & each_storable(table, bytes, count)
         & rows_distinct::distinct(bytes, long, count)
 }
 

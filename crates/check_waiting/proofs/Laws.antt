@@ -140,8 +140,8 @@ module _ (r : List ℕ) where
   pub header-tested : (k : Bool) → (ltb (length r) 4 || ltb 256 (length r)) ≡ false → getD r 2 0 < 256 → getD r 3 0 < 256
       → k ≡ known (word / 64 % 64)
       → (let clear = eqb (word / 4096 % 2) 0 in
-        let unnamed = eqb (getD r 2 0) 0 && eqb (getD r 3 0) 0 in
-        not (ltb 4 (word / 8192)) && (not (not (eqb (word % 64) 0)) && (not ((clear && not unnamed) || (not clear && unnamed)) && not (not k))))
+      let unnamed = eqb (getD r 2 0) 0 && eqb (getD r 3 0) 0 in
+      not (ltb 4 (word / 8192)) && (not (not (eqb (word % 64) 0)) && (not ((clear && not unnamed) || (not clear && unnamed)) && not (not k))))
       ≡ isPass (verdict (headerChecks (length r) (headerOf r)))
   unfolding badLength noVerb zeroBitSet mismatch unknownResource
   header-tested k l x y e =

@@ -5,8 +5,8 @@ use fields::be16;
 use fields::held;
 use queue::record_in;
 use rows::Found;
-use rules::CRED_ROW;
 use rules::ACE_ROWS;
+use rules::CRED_ROW;
 use rules::CRED_ROWS;
 use rules::CREDS;
 use rules::Check;
@@ -61,8 +61,23 @@ fn is_slot_of(slot: &[u8], rec: &[u8]) -> bool
 
 // The resources that the directory knows, by number.
 const KNOWN: [bool; 17] = [
-    true, true, true, true, true, false, false, false, true, true, true, true, true, true, true,
-    false, true,
+    true,
+    true,
+    true,
+    true,
+    true,
+    false,
+    false,
+    false,
+    true,
+    true,
+    true,
+    true,
+    true,
+    true,
+    true,
+    false,
+    true,
 ];
 
 fn known(number: u16) -> bool

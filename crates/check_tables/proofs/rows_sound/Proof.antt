@@ -21,7 +21,7 @@ returns-2 c =
       le-leb (a .count) (capacity (a .table)) (few at),
       rows-counted (a .table) (a .count) (now (a .bytes)) (few at),
       c .distinct .ensures,
-      c .before .rows-storable .ensures,
+      c .before .each-storable .ensures,
       c .before .before .all-zero .ensures,
       c .before .before .before .stride-of .ensures,
     )
@@ -31,6 +31,6 @@ unfolding rowsSound
 rows-sound-spec = tie.close (tie.spec
     (λ c κs. search needs) (λ c. rw (lt-leb _ _ (rw (c .before .capacity-of .ensures) at (c .if1 .taken)))) (λ c κs. search needs)
     (λ c. rw (c .stride-of .ensures) (omega (arith, fits c, c .before .before .before .before .good)))
-    (λ c κs. search needs) (λ c κs. search needs)
+    (λ c κs. search needs) (λ c κs. fits (c .before))
     (λ c κs. let at = c .before .before in rw (at .stride-of .ensures) (two-long (at .before .before .before .before .args .table), fits at))
     returns-2)

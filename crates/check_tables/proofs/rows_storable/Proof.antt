@@ -1,56 +1,42 @@
--- `rows_storable`: by the law of a loop that tests each row; a row that is cut short is none.
-use Rattle.rows.proofs.Prelude.{_≡_, refl, sym, ap, _∙_, Bool, false, List, ℕ, _<_, arith, length, take, length-take-le, take-all, now, needs, not-false}
-use Rattle.rows.proofs.Prelude.{not-true, bool-cases}
+-- `rows_storable`: a row that is cut short is none, and the others are tested one by one.
+use Rattle.rows.proofs.Prelude.{_≡_, sym, ap, _∙_, false, and-false, List, ℕ, zero, suc, _*_, _/_, _≤_, _<_, suc-mul, zero-mul, arith, length, take, drop, length-drop}
+use Rattle.rows.proofs.Prelude.{take-all, ltb, ltb-false, ltb-true, now, needs, bool-cases}
 use Rattle.rows.specs.Rows.{every, rowsOf}
-use Rattle.rows.proofs.Laws.{EveryInv, every-fails, every-turn, every-end}
 use Rattle.rules.specs.declared.Table.{Table}
+use Rattle.rules.specs.declared.Table.the-variants.{Creds, Aces}
 use Rattle.rules.specs.Tables.{stride, storable}
-use Rattle.rules.proofs.BodyLaws.{sized}
+use Rattle.rules.proofs.BodyLaws.{sized, two-long}
 use Rattle.check_tables.proofs.rows_storable.Tie as tie
 
-abbrev Inv-loop : tie.InvT-loop
-Inv-loop table rows count long rest₀ left₀ rest left = EveryInv (storable table) long count rows rest left
-
-abbrev μ-loop : tie.MeasureT-loop
-μ-loop table rows count long rest₀ left₀ rest left = left
-
--- rows of the length that `stride_of` gave
-at-stride : (c : tie.After-stride-of Inv-loop μ-loop) (r : Bool) → let a = c .before .before .args in
-    r ≡ every (storable (a .table)) (rowsOf (c .stride-of .result) (a .count) (now (a .rows)))
-    → r ≡ every (storable (a .table)) (rowsOf (stride (a .table)) (a .count) (now (a .rows)))
-at-stride c r e =
-    let a = c .before .before .args in e ∙ ap (λ (s : ℕ). every (storable (a .table)) (rowsOf s (a .count) (now (a .rows)))) (c .stride-of .ensures)
-
 -- fewer bytes than a row has are no row
-cut-short : (k : Table) (s : ℕ) (rest : List ℕ) → s ≡ stride k → length rest < s → storable k (take s rest) ≡ false
-cut-short k s rest e h =
-    let all : take s rest ≡ rest = take-all s rest (omega arith) in
-    bool-cases (storable k (take s rest)) (λ t. absurd (omega (arith, e, ap length all, sized k (take s rest) t))) (λ f. f)
+cut-short : (k : Table) (rest : List ℕ) → length rest < stride k → storable k (take (stride k) rest) ≡ false
+cut-short k rest h =
+    let all : take (stride k) rest ≡ rest = take-all (stride k) rest (omega arith) in
+    bool-cases (storable k (take (stride k) rest)) (λ t. absurd (omega (arith, ap length all, sized k (take (stride k) rest) t))) (λ f. f)
 
-returns : tie.Need-returns Inv-loop μ-loop
-returns c =
-    let turn = c .before in
-    let told = turn .before .before in
-    at-stride told _ (every-fails _ _ _ _ _ _ (turn .before .loop .inv) (turn .loop-test .taken)
-    (cut-short (told .before .before .args .table) _ _ (told .stride-of .ensures) (c .if1 .taken)))
+-- fewer bytes than n rows have are not n rows
+too-few : (k : Table) (n : ℕ) (b : List ℕ) → length b < n * stride k → every (storable k) (rowsOf (stride k) n b) ≡ false
+unfolding every rowsOf
+too-few k zero b h = absurd (omega (arith, zero-mul (stride k)))
+too-few k (suc n) b h =
+    bool-cases (ltb (length b) (stride k))
+    (λ e. rw (cut-short k b (ltb-true (length b) (stride k) e)))
+    (λ e. rw (too-few k n (drop (stride k) b) (omega (arith, suc-mul n (stride k), length-drop (stride k) b, ltb-false (length b) (stride k) e)), and-false))
 
-returns-2 : tie.Need-returns-2 Inv-loop μ-loop
-returns-2 c =
-    let turn = c .before .before .before .before in
-    at-stride (turn .before .before) _
-    (every-fails _ _ _ _ _ _ (turn .before .loop .inv) (turn .loop-test .taken) (sym (c .before .row-storable .ensures) ∙ not-true _ (c .if2 .taken)))
+-- the rows that the bytes have room for
+past : (k : Table) (l n : ℕ) → l / stride k < n → l < n * stride k
+past Creds l n h = omega arith
+past Aces l n h = omega arith
 
-loop-again : tie.Need-loop-again Inv-loop μ-loop
-loop-again c =
-    let test = c .before in
-    let turn = test .before .before .before .before in
-    every-turn _ _ _ _ _ _ (turn .before .loop .inv) (turn .loop-test .taken) (sym (test .before .row-storable .ensures) ∙ not-false _ (test .if2 .left))
+within : (k : Table) (l n : ℕ) → n ≤ l / stride k → n * stride k ≤ l
+within Creds l n h = omega arith
+within Aces l n h = omega arith
 
 pub rows-storable-spec : {M : Type 1} → Rattle.check_tables.proofs.rows_storable.Statement.statement M
 rows-storable-spec = tie.close (tie.spec
-    Inv-loop μ-loop (λ c κs. search needs) (λ c. refl)
-    returns (λ c. sym (length-take-le _ (c .before .before .before .loop .rest .now) (c .before .if1 .left)))
-    (λ c κs. search needs) returns-2 (λ c. c .before .before .before .if1 .left)
-    (λ c. c .before .before .before .if1 .left)
-    (λ c. search needs) (λ c. search needs) (λ c. search needs) loop-again
-    (λ c. at-stride (c .before .before) _ (every-end _ _ _ _ _ _ (c .before .loop .inv) (c .loop-test .left))))
+    (λ c κs. search needs) (λ c. rw (c .stride-of .ensures) (omega (arith, two-long (c .before .before .args .table))))
+    (λ c. let k = c .before .before .before .args .table in
+    sym (too-few k _ _ (past k _ _ (rw (c .before .stride-of .ensures) at (c .if1 .taken)))))
+    (λ c κs. let k = c .before .before .before .args .table in
+    within k _ _ (rw (c .before .stride-of .ensures) at (c .if1 .left)))
+    (λ c. search needs))
