@@ -11,21 +11,35 @@ use rules::Caller;
 use rules::Check;
 use rules::Sender;
 ghost use mathlib.Core.Path.{_≡_};
-ghost use Rattle.rows.specs.Contracts.{rowAt};
+ghost use Prim.Native.Nat.{_*_, _≤_};
+ghost use lib.ListN.{length};
+ghost use Rattle.rows.specs.Rows.{rowsOf};
+ghost use Rattle.rows.specs.Contracts.{placeOf, rowAt};
 ghost use Rattle.rules.specs.declared.Table.the-variants.{Creds};
-ghost use Rattle.rules.specs.Bits.{be16};
 ghost use Rattle.rules.specs.Tables.{rowsIn};
-ghost use Rattle.rules.specs.Permission.{connectionOf};
+ghost use Rattle.rules.specs.Permission.{numbered, connectionOf};
 ghost use Rattle.rules.specs.Checks.{refuseIf, verdict};
 ghost use Rattle.rules.specs.Groups.{senderChecks};
 ghost use Rattle.rules.specs.Callers.{placeFor, callerOf, lacksRow, callerChecks};
 ghost use Rattle.rules.specs.Words.{was};
 
-// The two bytes of a credential number.
-fn number_bytes(n: u16) -> [u8; 2]
-    ensures { λ r. ⌜ r ≡ be16 n ⌝ }
+// The place of the first of the credential rows that has a number. Its low byte is compared first: numbers differ there.
+fn find_number(rows: &[u8], count: usize, n: u16) -> Found
+    requires { ⌜ count * 39 ≤ length (now rows) ⌝ }
+    ensures { λ r. ⌜ r ≡ placeOf (numbered n) (rowsOf 39 count (was rows)) ⌝ }
 {
-    [(n / 256) as u8, (n % 256) as u8]
+    let high = (n / 256) as u8;
+    let low = (n % 256) as u8;
+    let mut rest = rows;
+    let mut i = 0;
+    while i < count {
+        if (rest[1] == low) & (rest[0] == high) {
+            return Found::At(i);
+        }
+        rest = &rest[CRED_ROW..];
+        i += 1;
+    }
+    Found::Nothing
 }
 
 // The place of a sender's own row among the credential rows.
@@ -36,8 +50,7 @@ pub fn place_for(count: u8, creds: &[u8; CRED_ROWS], who: Sender) -> Found
     let Sender::Partner(n) = who else {
         return Found::Nothing;
     };
-    let key = number_bytes(n);
-    rows::find(creds, CRED_ROW, held(count, CREDS), 0, &key)
+    find_number(creds, held(count, CREDS), n)
 }
 
 // The row at a place, or no bytes.

@@ -30,17 +30,21 @@ ghost use Rattle.rules.specs.Words.{was, before};
 ghost use Rattle.rules.specs.Tables.{rowsIn};
 ghost use Rattle.rules.specs.declared.Table.the-variants.{Creds};
 
-// Whether each byte of a slot from `from` on is 0. Of more than 128 bytes the first 128 are looked at and the last 128, which may be
-// some of the same: the compiler then knows how many they are, and counts none.
+// Whether each byte of a slot from `from` on is 0. Of 128 bytes or more the first 128 are looked at and the last 128, which may be
+// some of the same, and of 64 or more so many: the compiler then knows how many they are, and counts none.
 fn zeros_from(slot: &[u8], from: usize) -> bool
     requires { ⌜ (length (now slot) ≡ slotSize) × (4 ≤ from) ⌝ }
     ensures { λ r. ⌜ r ≡ allZero (drop from (was slot)) ⌝ }
 {
-    if 132 < from {
-        return rows::all_zero(slot, from);
+    if from <= 132 {
+        let end = from + 128;
+        return rows::all_zero(&slot[from..end], 0) & rows::all_zero(&slot[132..], 0);
     }
-    let end = from + 128;
-    rows::all_zero(&slot[from..end], 0) & rows::all_zero(&slot[132..], 0)
+    if from <= 196 {
+        let end = from + 64;
+        return rows::all_zero(&slot[from..end], 0) & rows::all_zero(&slot[196..], 0);
+    }
+    rows::all_zero(slot, from)
 }
 
 // Whether the slot is the one that keeps the record in it: the sender's number, the record's length, and zeros behind.
