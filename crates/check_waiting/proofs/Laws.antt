@@ -1,13 +1,14 @@
 -- Laws of the memory's bytes, as the code reads them.
-use Rattle.rows.proofs.Prelude.{_≡_, refl, sym, ap, _∙_, Bool, true, false, not, _&&_, _||_, and-false, and-true, or-false, drop-cons, bool-cases, List, [], _∷_, _++_, ℕ}
-use Rattle.rows.proofs.Prelude.{zero, suc, _+_, _-_, _*_, _/_, _%_, _≤_, _<_, min, min-eq-left, arith, length, take, drop, getD, replicate, eqb, eq-eqb, eqb-true}
-use Rattle.rows.proofs.Zeros.{zeros-part}
-use Rattle.rows.proofs.Prelude.{and-left, and-right, contradiction, ltb, ltb-false, le-leb, lt-leb, ne-eqb, or-right, or-true-right, take-append-drop}
+use Rattle.rows.proofs.Prelude.{_≡_, refl, sym, ap, _∙_, Bool, true, false, not, _&&_, _||_, and-false, and-true, or-false, drop-cons, bool-cases, List, []}
+use Rattle.rows.proofs.Prelude.{ℕ, zero, suc, _+_, _-_, _*_, _/_, _%_, _≤_, _<_, min, min-eq-left, arith, length, take, drop, getD, replicate, eqb, eq-eqb}
+use Rattle.rows.proofs.Prelude.{_∷_, _++_, eqb-true, and-left, and-right, contradiction, ltb, ltb-false, le-leb, lt-leb, ne-eqb, or-right, or-true-right}
+use Rattle.rows.proofs.Prelude.{take-append-drop}
 use mathlib.Core.Bool.{and-assoc}
 use lib.Dec.{eqb·suc-zero}
 use native.Mathlib.Nat.{zero-add}
 use native.Mathlib.Numerals.{add-four}
 use Rattle.rows.specs.Rows.{Row, same, hasKey, allZero, every, some, distinctNumbers, rowsOf}
+use Rattle.rows.proofs.Zeros.{zeros-part}
 use Rattle.rows.proofs.Laws.{take-rest, some-append, from-row, isAt, some-place}
 use Rattle.rows.specs.declared.Found.{Found}
 use Rattle.rows.specs.Contracts.{placeFrom}

@@ -22,7 +22,6 @@ ghost use Rattle.rows.specs.Rows.{rowsOf, every, some, same, hasKey, allZero};
 ghost use Rattle.rules.specs.Checks.{refuseIf, verdict, isPass, noCredential};
 ghost use Rattle.rules.specs.Directory.{known as knownTo};
 ghost use Rattle.rules.specs.Groups.{headerChecks};
-ghost use Rattle.rules.specs.Permission.{numbered};
 ghost use Rattle.rules.specs.Record.{headerOf};
 ghost use Rattle.rules_waiting.specs.Slots.{slotOf, roundBytes, roundOf, slotSize};
 ghost use Rattle.rules_waiting.specs.Terminal.{terminal, slotSound, queueSound, soundTerminal};
@@ -63,8 +62,9 @@ fn is_slot_of(slot: &[u8], rec: &[u8]) -> bool
     number & size & zeros_from(slot, end)
 }
 
-// The resources that the directory knows, by number.
+// Which numbers the directory knows.
 const KNOWN: [bool; 17] = [
+    // 0 to 4, the security resources
     true,
     true,
     true,
@@ -73,6 +73,7 @@ const KNOWN: [bool; 17] = [
     false,
     false,
     false,
+    // 8 /weight to 14 /display
     true,
     true,
     true,
@@ -81,9 +82,11 @@ const KNOWN: [bool; 17] = [
     true,
     true,
     false,
+    // 16 /yard
     true,
 ];
 
+// Whether the directory knows a number: of its rows, this alone is asked of a record that waits.
 fn known(number: u16) -> bool
     ensures { λ r. ⌜ r ≡ knownTo number ⌝ }
 {

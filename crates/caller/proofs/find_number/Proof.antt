@@ -1,8 +1,7 @@
 -- `find_number`. The loop's invariant: the place asked for is the place in the rest of the rows, counted from `i`.
-use Rattle.rows.proofs.Prelude.{_≡_, refl, sym, ap, _∙_, Bool, true, false, cond, _&&_, and-true, List, [], _∷_, ℕ, _+_, _-_, _*_, _/_, _%_, _≤_, _<_, add-one, arith}
-use Rattle.rows.proofs.Prelude.{length, take, drop, getD, drop-cons, eqb, needs}
+use Rattle.rows.proofs.Prelude.{_≡_, sym, ap, _∙_, Bool, true, false, cond, _&&_, and-true, List, [], _∷_, ℕ, _+_, _-_, _*_, _/_, _%_, _≤_, _<_, arith}
+use Rattle.rows.proofs.Prelude.{length, take, drop, getD, eqb, needs}
 use mathlib.Core.Bool.{and-comm}
-use Rattle.rows.specs.declared.Found.{Found}
 use Rattle.rows.specs.declared.Found.the-variants.{At, Nothing}
 use Rattle.rows.specs.Rows.{rowsOf, same, hasKey}
 use Rattle.rows.specs.Contracts.{placeFrom}

@@ -1,5 +1,5 @@
 -- `likely_places`: nothing is asked of the places but that there are 256.
-use Rattle.rows.proofs.Prelude.{_≡_, refl, _∙_, _+_, _-_, _*_, _≤_, _<_, arith, length, getD, length-set, now, needs}
+use Rattle.rows.proofs.Prelude.{_≡_, refl, _+_, _-_, _*_, _≤_, _<_, arith, length, getD, now, needs}
 use Rattle.check_waiting.proofs.likely_places.Tie as tie
 
 abbrev Inv-loop : tie.InvT-loop
@@ -9,7 +9,8 @@ abbrev μ-loop : tie.MeasureT-loop
 μ-loop ncreds creds rows count places₀ i₀ places i = count - i
 
 -- the low byte is one
-low : (c : tie.After-shared-slice-known Inv-loop μ-loop) → getD (now (c .before .before .before .before .before .args .creds)) (c .before .before .loop .i * 39 + 1) 0 < 256
+low : (c : tie.After-shared-slice-known Inv-loop μ-loop)
+    → getD (now (c .before .before .before .before .before .args .creds)) (c .before .before .loop .i * 39 + 1) 0 < 256
 low c = omega (arith, c .shared-slice-known .given (c .before .before .loop .i * 39 + 1))
 
 pub likely-places-spec : {M : Type 1} → Rattle.check_waiting.proofs.likely_places.Statement.statement M

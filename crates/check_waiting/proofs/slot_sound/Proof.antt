@@ -1,5 +1,5 @@
 -- `slot_sound`: by the checks of its record, then by the slot's other bytes.
-use Rattle.rows.proofs.Prelude.{_≡_, sym, _∙_, true, needs, not-false, not-true}
+use Rattle.rows.proofs.Prelude.{sym, _∙_, needs, not-false, not-true}
 use Rattle.check_waiting.proofs.Laws.{bad-header, bad-sender, fits, kept-is}
 use Rattle.check_waiting.proofs.slot_sound.Tie as tie
 
