@@ -69,6 +69,10 @@ part_documents() {
     sed -n 's/^CRATES=(\(.*\))/\1 sha2/p' "$root/tests/run.sh" | tr ' _' '\n-' | sort >installed
     cmp -s needed installed || fault "tests/run.sh installs other packages than the tool needs: $(diff needed installed | head -n 5)"
     "$root/tests/shown.py" "$program" "$root/README.md" "$root/docs/TOOL.md" || fault "the documents show something else"
+    local form length
+    while IFS='|' read -r _ form length _; do
+        gives 0 "written, $(tr -d ' ,' <<<"$length") bytes" new --force --form "$(tr -d ' `' <<<"$form")" made
+    done < <(sed -n '/^| form | bytes/,/^$/{/^| `/p}' "$root/docs/TOOL.md")
 }
 
 part_tables() {
