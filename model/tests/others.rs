@@ -4,10 +4,11 @@
 #![forbid(unsafe_code)]
 
 use model::answers::NOT_SOUND;
-use model::case::{Call, Case};
+use model::case::{Call, Case, Seen};
 use model::generate::{any_bytes, clock, record, Style};
 use model::others::{compared, random_run, Counts};
 use model::random::Random;
+use model::record::HEADER_SIZE;
 use model::tables::Tables;
 
 const SEED: u64 = 3;
@@ -54,4 +55,21 @@ fn without_the_premise_the_others_notice() {
     let mut counts = Counts::default();
     let noticed = (0..RUNS).filter(|_| random_run(&mut random, Case::expected, false, &mut counts).is_err()).count();
     assert!(noticed > RUNS / 20, "{noticed} runs");
+}
+
+/// A terminal that hands out other bytes than were handed in.
+fn other_bytes(case: &Case) -> Seen {
+    let mut seen = case.expected();
+    if case.call == Call::Take && seen.taken > HEADER_SIZE {
+        seen.record[seen.taken - 1] ^= 1;
+    }
+    seen
+}
+
+#[test]
+fn other_bytes_are_noticed() {
+    let mut random = Random::new(SEED + 3);
+    let mut counts = Counts::default();
+    let noticed = (0..RUNS / 4).filter(|_| random_run(&mut random, other_bytes, true, &mut counts).is_err()).count();
+    assert!(noticed > RUNS / 200, "{noticed} runs");
 }
