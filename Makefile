@@ -8,6 +8,8 @@ INCLUDEDIR ?= $(PREFIX)/include
 DESTDIR ?=
 # The archive that is installed; another one than the repository's must be of the same sources.
 ARCHIVE ?= target/staticlib/libterminal.a
+# The folder with the archives for all processors, as `make targets` writes it; what is there is installed too ('-': none).
+LIBRARIES ?= target/lib
 # The command that a release holds; the example terminal, of which it says what it is linked with ('-': of none). CARGOFLAGS: where cargo finds the crates; DEBFLAGS: for dpkg-deb.
 TOOL ?= tool/target/release/tillerclover
 TERMINAL ?= target/terminal
@@ -20,9 +22,16 @@ SOURCES := crates.txt $(shell find crates -path '*/must-fail' -prune -o \( -name
 MAJOR := $(shell sed -n 's/^.define TILLERCLOVER_INTERFACE_MAJOR //p' include/tillerclover.h)
 MINOR := $(shell sed -n 's/^.define TILLERCLOVER_INTERFACE_MINOR //p' include/tillerclover.h)
 LIB := $(DESTDIR)$(LIBDIR)
-# what `make install` writes
+# what `make install` writes, but for the archives by target, which have a folder of their own
 INSTALLED := $(HEADERS:include/%=$(DESTDIR)$(INCLUDEDIR)/%) $(LIB)/libtillerclover.a $(LIB)/pkgconfig/tillerclover.pc \
     $(LIB)/cmake/tillerclover/tillerclover-config.cmake $(LIB)/cmake/tillerclover/tillerclover-config-version.cmake
+BY_TARGET = $(patsubst $(LIBRARIES)/%/libterminal.a,%,$(wildcard $(LIBRARIES)/*/*/libterminal.a))
+# the one among them that is the toolchain's own archive
+OWN = $(LIBRARIES)/x86_64-unknown-linux-gnu/O3/libterminal.a
+# what `make install-tool` writes
+TOOL_INSTALLED = $(DESTDIR)$(PREFIX)/bin/tillerclover $(wildcard $(DESTDIR)$(PREFIX)/share/man/man1/tillerclover.1.gz \
+    $(DESTDIR)$(PREFIX)/share/man/man1/tillerclover-*.1.gz) $(DESTDIR)$(PREFIX)/share/bash-completion/completions/tillerclover \
+    $(DESTDIR)$(PREFIX)/share/zsh/vendor-completions/_tillerclover $(DESTDIR)$(PREFIX)/share/fish/vendor_completions.d/tillerclover.fish
 
 # what `make dist` writes
 NAME := tillerclover-$(MAJOR).$(MINOR)
@@ -74,10 +83,12 @@ target/terminal: $(ARCHIVE) $(wildcard examples/terminal/*.[ch])
 fill = sed -e 's|@PREFIX@|$(PREFIX)|g' -e 's|@LIBDIR@|$(LIBDIR)|g' -e 's|@INCLUDEDIR@|$(INCLUDEDIR)|g' -e 's|@MAJOR@|$(MAJOR)|g' \
     -e 's|@VERSION@|$(MAJOR).$(MINOR)|g' -e 's|@INCLUDE_FROM_LIB@|$(shell realpath -m --relative-to=$(LIBDIR) $(INCLUDEDIR))|g' $(1)
 
-install: $(ARCHIVE) ## installs headers, archive, pkg-config file and CMake package below DESTDIR/PREFIX (/usr/local)
+install: $(ARCHIVE) ## installs headers, archives, pkg-config file and CMake package below DESTDIR/PREFIX (/usr/local)
+	@[ -z "$(BY_TARGET)" ] || cmp -s $(OWN) $(ARCHIVE) || { echo "$(LIBRARIES) is of another archive than $(ARCHIVE): make targets renews it, LIBRARIES=- leaves it out"; exit 1; }
 	$(INSTALL) -d $(sort $(dir $(INSTALLED)))
 	$(INSTALL) -m 644 $(HEADERS) $(DESTDIR)$(INCLUDEDIR)/
 	$(INSTALL) -m 644 $(ARCHIVE) $(LIB)/libtillerclover.a
+	@for target in $(BY_TARGET); do $(INSTALL) -D -m 644 $(LIBRARIES)/$$target/libterminal.a $(LIB)/tillerclover/$$target/libtillerclover.a || exit 1; done
 	$(call fill,packaging/tillerclover.pc.in) >$(LIB)/pkgconfig/tillerclover.pc
 	$(call fill,packaging/tillerclover-config.cmake.in) >$(LIB)/cmake/tillerclover/tillerclover-config.cmake
 	$(call fill,packaging/tillerclover-config-version.cmake.in) >$(LIB)/cmake/tillerclover/tillerclover-config-version.cmake
@@ -86,17 +97,18 @@ install: $(ARCHIVE) ## installs headers, archive, pkg-config file and CMake pack
 install-tool: $(TOOL) ## installs the command tillerclover, its pages of the manual and its completions below DESTDIR/PREFIX
 	packaging/install-tool.sh $(TOOL) $(DESTDIR)$(PREFIX)
 
-uninstall: ## removes what `make install` with the same PREFIX and DESTDIR wrote
-	rm -f $(INSTALLED)
-	-rmdir $(LIB)/cmake/tillerclover 2>/dev/null
+uninstall: ## removes what `make install` and `make install-tool` with the same PREFIX and DESTDIR wrote
+	rm -f $(INSTALLED) $(TOOL_INSTALLED)
+	rm -rf $(LIB)/tillerclover
+	@rmdir $(LIB)/cmake/tillerclover 2>/dev/null || true
 
 dist: $(ARCHIVE) $(TOOL) $(filter-out -,$(TERMINAL)) ## writes target/dist/tillerclover-VERSION.tar.gz: libraries, headers, binding, tool, examples, documents, SBOM, SHA256SUMS
 	rm -rf $(DIST)
-	@$(MAKE) -s -o $(ARCHIVE) install DESTDIR=$(DIST) PREFIX= ARCHIVE=$(ARCHIVE)
+	@$(MAKE) -s -o $(ARCHIVE) install DESTDIR=$(DIST) PREFIX= ARCHIVE=$(ARCHIVE) LIBRARIES=$(LIBRARIES)
+	@[ -d $(DIST)/lib/tillerclover ] || echo "dist: for x86-64 alone; for all processors, make targets comes before"
 	@packaging/install-tool.sh $(TOOL) $(DIST)
 	@sed -i -e 's|^prefix=.*|prefix=$${pcfiledir}/../..|' -e 's|^libdir=.*|libdir=$${prefix}/lib|' \
 	    -e 's|^includedir=.*|includedir=$${prefix}/include|' $(DIST)/lib/pkgconfig/tillerclover.pc
-	@for target in $(wildcard target/lib/*); do cp -R $$target $(DIST)/lib/; done
 	@tar -ch --exclude=target bindings/rust | tar -x -C $(DIST)
 	@cp -R README.md SECURITY.md CHANGELOG.md CONTRIBUTING.md docs examples packaging/KIT $(DIST)/
 	CARGOFLAGS="$(CARGOFLAGS)" packaging/sbom.py $(MAJOR).$(MINOR) $(ARCHIVE) $(TOOL) $(TERMINAL) >$(DIST)/sbom.json && packaging/sbom.py --check $(DIST)/sbom.json
@@ -118,7 +130,7 @@ endef
 
 deb: $(ARCHIVE) $(TOOL) ## writes the Debian packages libtillerclover-dev and tillerclover for amd64 to target/deb
 	rm -rf $(DEBS)
-	@$(MAKE) -s -o $(ARCHIVE) install DESTDIR=$(LIBRARY_DEB) PREFIX=/usr LIBDIR=/usr/lib/x86_64-linux-gnu ARCHIVE=$(ARCHIVE)
+	@$(MAKE) -s -o $(ARCHIVE) install DESTDIR=$(LIBRARY_DEB) PREFIX=/usr LIBDIR=/usr/lib/x86_64-linux-gnu ARCHIVE=$(ARCHIVE) LIBRARIES=-
 	@packaging/install-tool.sh $(TOOL) $(TOOL_DEB)/usr
 	@$(INSTALL) -d $(TOOL_DEB)/usr/share/doc/tillerclover
 	@CARGOFLAGS="$(CARGOFLAGS)" packaging/sbom.py $(MAJOR).$(MINOR) $(ARCHIVE) $(TOOL) - >$(TOOL_DEB)/usr/share/doc/tillerclover/sbom.json

@@ -109,7 +109,9 @@ static inline unsigned tillerclover_get_16(const uint8_t *at)
     return (unsigned)at[0] << 8 | at[1];
 }
 
-/* ---- Rows, as the bodies that store them; these are also the rows of lists and of default rows */
+/* ---- Rows, as the bodies that store them; these are also the rows of lists and of default rows
+ *
+ * A row's UUID may lie in the bytes that the row is packed into: a row of a reply can be changed in its place. */
 
 /* A credential row. `subject` is a UUID; role 0 is none. */
 typedef struct tillerclover_cred {
@@ -147,8 +149,8 @@ typedef struct tillerclover_old_row {
 /* TILLERCLOVER_CRED_LENGTH bytes. */
 static inline void tillerclover_pack_cred(uint8_t *body, const tillerclover_cred *row)
 {
+    memmove(body + TILLERCLOVER_CRED_SUBJECT_AT, row->subject, TILLERCLOVER_UUID_LENGTH);
     tillerclover_put_16(body + TILLERCLOVER_CRED_NUMBER_AT, row->number);
-    memcpy(body + TILLERCLOVER_CRED_SUBJECT_AT, row->subject, TILLERCLOVER_UUID_LENGTH);
     tillerclover_put_16(body + TILLERCLOVER_CRED_ROLE_AT, row->role);
     tillerclover_put_16(body + TILLERCLOVER_CRED_AUTHORITY_AT, row->authority);
     body[TILLERCLOVER_CRED_TYPE_AT] = (uint8_t)((row->type & 63) << TILLERCLOVER_CRED_TYPE_SHIFT);
@@ -157,24 +159,22 @@ static inline void tillerclover_pack_cred(uint8_t *body, const tillerclover_cred
 /* TILLERCLOVER_ACE_LENGTH bytes. */
 static inline void tillerclover_pack_ace(uint8_t *body, const tillerclover_ace *row)
 {
-    memset(body, 0, TILLERCLOVER_ACE_LENGTH);
+    if (row->kind == TILLERCLOVER_SUBJECT_UUID) {
+        memmove(body + TILLERCLOVER_ACE_SUBJECT_AT, row->uuid, TILLERCLOVER_UUID_LENGTH);
+    } else {
+        memset(body + TILLERCLOVER_ACE_SUBJECT_AT, 0, TILLERCLOVER_UUID_LENGTH);
+    }
+    if (row->kind == TILLERCLOVER_SUBJECT_ROLE) {
+        tillerclover_put_16(body + TILLERCLOVER_ACE_AUTHORITY_AT, row->authority);
+        tillerclover_put_16(body + TILLERCLOVER_ACE_ROLE_AT, row->role);
+    } else if (row->kind == TILLERCLOVER_SUBJECT_CONNECTION) {
+        body[TILLERCLOVER_ACE_CONNECTION_AT] = (uint8_t)((unsigned)row->connection & 1);
+    }
     tillerclover_put_16(body + TILLERCLOVER_ACE_NUMBER_AT, row->number);
     tillerclover_put_16(body + TILLERCLOVER_ACE_WORD, ((unsigned)row->kind & 3) << TILLERCLOVER_ACE_KIND_SHIFT |
                                                           (row->permission & 31) << TILLERCLOVER_ACE_PERMISSION_SHIFT |
                                                           (row->wildcards & 7) << TILLERCLOVER_ACE_WILDCARDS_SHIFT);
     tillerclover_put_64(body + TILLERCLOVER_ACE_SET_AT, row->set);
-    switch (row->kind) {
-    case TILLERCLOVER_SUBJECT_UUID:
-        memcpy(body + TILLERCLOVER_ACE_SUBJECT_AT, row->uuid, TILLERCLOVER_UUID_LENGTH);
-        break;
-    case TILLERCLOVER_SUBJECT_ROLE:
-        tillerclover_put_16(body + TILLERCLOVER_ACE_AUTHORITY_AT, row->authority);
-        tillerclover_put_16(body + TILLERCLOVER_ACE_ROLE_AT, row->role);
-        break;
-    case TILLERCLOVER_SUBJECT_CONNECTION:
-        body[TILLERCLOVER_ACE_CONNECTION_AT] = (uint8_t)((unsigned)row->connection & 1);
-        break;
-    }
     tillerclover_put_32(body + TILLERCLOVER_ACE_FIRST_AT, row->first);
     tillerclover_put_32(body + TILLERCLOVER_ACE_LAST_AT, row->last);
 }
@@ -190,7 +190,7 @@ static inline void tillerclover_pack_role(uint8_t *body, const tillerclover_role
 /* TILLERCLOVER_OLD_ROW_LENGTH bytes. */
 static inline void tillerclover_pack_old_row(uint8_t *bytes, const tillerclover_old_row *row)
 {
-    memcpy(bytes + TILLERCLOVER_OLD_SUBJECT_AT, row->subject, TILLERCLOVER_UUID_LENGTH);
+    memmove(bytes + TILLERCLOVER_OLD_SUBJECT_AT, row->subject, TILLERCLOVER_UUID_LENGTH);
     bytes[TILLERCLOVER_OLD_PERMISSION_AT] = (uint8_t)((row->permission & 31) << TILLERCLOVER_OLD_PERMISSION_SHIFT);
     tillerclover_put_64(bytes + TILLERCLOVER_OLD_SET_AT, row->set);
 }

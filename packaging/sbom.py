@@ -2,7 +2,10 @@
 """What the library, the tool and the example terminal are made of: an SBOM, CycloneDX 1.5 in JSON, from what was really linked.
 
     packaging/sbom.py VERSION ARCHIVE TOOL TERMINAL >FILE    TOOL and TERMINAL may be '-': then they are left out
-    packaging/sbom.py --check FILE                           compares a file with packaging/cyclonedx.json; status 1 where it does not fit
+    packaging/sbom.py --check FILE [FOLDER]                  compares a file with packaging/cyclonedx.json; status 1 where it does not fit
+
+With FOLDER the file is held to CycloneDX's own schema too, by the module jsonschema. The folder has the files of Debian's package
+python3-cyclonedx-lib, cyclonedx/schema/_res.
 
 The archive: its symbols, each of a crate of crates.txt or of the C library. The tool: the crates that cargo links, with how many symbols
 of each are in the program, and the shared libraries that the loader finds. The terminal: the shared libraries. Licences are those that
@@ -267,7 +270,30 @@ def faults_of(value, schema, definitions, place="the file"):
     return found
 
 
-def check(path):
+def by_standard(made, folder):
+    """What CycloneDX's own schema says against a file. It cites two others, which become definitions of its own."""
+    import jsonschema  # no part of Python, and asked for here alone
+
+    def part(name):
+        return read(os.path.join(folder, f"{name}.SNAPSHOT.schema.json"))
+
+    def no_more(_, allowed, value, within):
+        # In Debian 12 the module fails where it has to say which items are too many.
+        if allowed is False and isinstance(value, list) and len(value) > len(within["items"]):
+            yield jsonschema.ValidationError(f"{len(value)} items, and {len(within['items'])} are allowed")
+
+    schema = json.loads(re.sub(r'"(spdx|jsf-0\.82)\.SNAPSHOT\.schema\.json(?:#/definitions)?', r'"#/definitions/\1', part("bom-1.5")))
+    schema["definitions"]["spdx"] = json.loads(part("spdx"))
+    schema["definitions"]["jsf-0.82"] = {"signature": False}
+    for inner in (schema, schema["definitions"]["spdx"]):
+        inner.pop("$id")
+    validator = jsonschema.validators.extend(jsonschema.Draft7Validator, {"additionalItems": no_more})
+    validator.check_schema(schema)
+    faults = validator(schema, format_checker=jsonschema.FormatChecker()).iter_errors(made)
+    return [f"by CycloneDX's schema, {fault.json_path}: {fault.message[:200]}" for fault in faults]
+
+
+def check(path, folder=None):
     schema = json.loads(read(os.path.join(ROOT, "packaging/cyclonedx.json")))
     made = json.loads(read(path))
     found = faults_of(made, schema, schema["definitions"])
@@ -277,14 +303,16 @@ def check(path):
         used = {ref for edge in made["dependencies"] for ref in [edge["ref"], *edge["dependsOn"]]}
         found += [f"there is no component {ref}" for ref in sorted(used - set(refs))]
         found += [f"{component['name']} states no licence" for component in made["components"] if not component.get("licenses")]
+    if folder:
+        found += by_standard(made, folder)
     for line in found:
         print(f"sbom: {line}", file=sys.stderr)
     return 1 if found else 0
 
 
 def main(words):
-    if len(words) == 2 and words[0] == "--check":
-        return check(words[1])
+    if len(words) in (2, 3) and words[0] == "--check":
+        return check(*words[1:])
     if len(words) != 4 or words[0].startswith("--"):
         print(__doc__.strip(), file=sys.stderr)
         return 2

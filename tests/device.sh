@@ -67,17 +67,7 @@ device_memory() {
     local byte
     for byte in 0 377; do
         head -c "$DEVICE" /dev/zero | tr '\0' "\\$byte" >"$file"
-        launch || return
-        grep -q "is damaged" "$work/errors" && [ "$(wc -l <"$work/errors")" -eq 1 ] ||
-            fault "new memory of bytes $byte: $(cat "$work/errors")"
-        : >"$work/errors"
-        expect "5.00 1 tables not sound: the terminal must be cleared" 0 get /weight
-        kill -USR1 "$pid"
-        expect "2.05 20$(uuid 00)" 0 get /oic/sec/pstat
-        finish
-        launch || return
-        expect "2.05 20$(uuid 00)" 0 get /oic/sec/pstat
-        finish
+        launch_damaged "new memory of bytes $byte" && mend || return
     done
 }
 

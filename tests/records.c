@@ -1,5 +1,6 @@
 /* include/tillerclover_records.h: the bytes of records and rows, worked out by hand, and the words of the answers. Prints
  * nothing, and exits with 1 at the first fault. */
+#include <limits.h>
 #include <stdio.h>
 #include <stdlib.h>
 
@@ -132,14 +133,74 @@ static void records(void)
     expect(tillerclover_record_connection(r.bytes) == TILLERCLOVER_ANON_CLEAR, "the connection of nobody");
 }
 
-/* The longest body, and longer ones: one byte too many is kept, for the library to refuse. */
+/* No body, the longest one, and longer ones: one byte too many is kept, for the library to refuse, and no more is read. Each
+ * body has memory of its own, whose end the sanitizers watch, and begins at any place. */
 static void lengths(void)
 {
-    static uint8_t body[1000];
-    for (size_t length = 250; length < sizeof body; length++) {
-        tillerclover_record r = tillerclover_request(TILLERCLOVER_UPDATE, TILLERCLOVER_TARE, 7, body, length);
-        expect(r.length == (length < 253 ? length + 4 : 257), "a long body");
+    static const size_t longer[] = {1000, UINT16_MAX, SIZE_MAX / 2, SIZE_MAX - 4, SIZE_MAX};
+    for (size_t i = 0; i < 260 + sizeof longer / sizeof *longer; i++) {
+        const size_t length = i < 260 ? i : longer[i - 260], kept = length < 253 ? length : 253, shift = i % 8;
+        uint8_t *memory = malloc(shift + kept + 1);
+        expect(memory != NULL, "no memory");
+        memset(memory, 'x', shift + kept);
+        memory[shift + kept] = 0;
+        tillerclover_record r =
+            tillerclover_request_text(TILLERCLOVER_UPDATE, TILLERCLOVER_TARE, 7, (char *)memory + shift);
+        expect(r.length == 4 + kept, "a text");
+        memory = realloc(memory, shift + kept + (kept == 0));
+        r = tillerclover_request(TILLERCLOVER_UPDATE, TILLERCLOVER_TARE, 7, kept == 0 ? NULL : memory + shift, length);
+        expect(r.length == 4 + kept && (kept == 0 || r.bytes[3 + kept] == 'x'), "a body");
+        expect(kept == 253 || r.bytes[4 + kept] == 0, "a byte behind the record");
+        free(memory);
     }
+}
+
+/* A row whose UUID lies in the bytes that it is packed into, wherever in them: as with a UUID elsewhere. */
+static void places(void)
+{
+    uint8_t bytes[TILLERCLOVER_ACE_LENGTH], other[TILLERCLOVER_ACE_LENGTH];
+    for (size_t at = 0; at + sizeof UUID <= sizeof bytes; at++) {
+        tillerclover_ace ace = {
+            .number = 9, .kind = TILLERCLOVER_SUBJECT_UUID, .uuid = UUID, .permission = 31, .last = 5};
+        tillerclover_pack_ace(other, &ace);
+        ace.uuid = memcpy(bytes + at, UUID, sizeof UUID);
+        tillerclover_pack_ace(bytes, &ace);
+        expect(memcmp(bytes, other, TILLERCLOVER_ACE_LENGTH) == 0, "an access row in its place");
+        tillerclover_cred cred = {9, UUID, 1, 2, 4};
+        tillerclover_pack_cred(other, &cred);
+        cred.subject = memcpy(bytes + at, UUID, sizeof UUID);
+        tillerclover_pack_cred(bytes, &cred);
+        expect(memcmp(bytes, other, TILLERCLOVER_CRED_LENGTH) == 0, "a credential row in its place");
+        tillerclover_old_row old = {UUID, 31, 1};
+        tillerclover_pack_old_row(other, &old);
+        old.subject = memcpy(bytes + at, UUID, sizeof UUID);
+        tillerclover_pack_old_row(bytes, &old);
+        expect(memcmp(bytes, other, TILLERCLOVER_OLD_ROW_LENGTH) == 0, "an old row in its place");
+    }
+}
+
+/* A field keeps the bits that it has room for, and no field spills into another. */
+static void large_numbers(void)
+{
+    const unsigned most = UINT_MAX;
+    const tillerclover_cred cred = {most, UUID, most, most, most};
+    const tillerclover_ace ace = {
+        .number = most, .kind = (enum tillerclover_subject)3, .permission = most, .wildcards = most};
+    const tillerclover_role role = {most, most, UINT32_MAX};
+    expect_record(tillerclover_store_cred(0x10000, &cred),
+                  "50800000"
+                  "ffff" UUID_TEXT "ffff"
+                  "ffff"
+                  "fc",
+                  "a credential row of large numbers");
+    expect_record(tillerclover_store_ace(most, &ace),
+                  "50c0ffffffffffc0"
+                  "0000000000000000" NIL_TEXT "0000000000000000",
+                  "an access row of large numbers");
+    expect_record(tillerclover_assert_role(0x20007, &role), "51000007ffffffffffffffff", "a role of large numbers");
+    expect_record(tillerclover_set_state(7, (enum tillerclover_state)most), "50400007e0", "a state of large numbers");
+    expect_record(tillerclover_delete_row((enum tillerclover_resource)most, 7, most), "7fc00007ffff",
+                  "a row of a large number");
 }
 
 /* The words of an answer that the compiler does not know beforehand. */
@@ -168,6 +229,8 @@ int main(void)
     rows();
     records();
     lengths();
+    places();
+    large_numbers();
     words();
     return 0;
 }

@@ -52,7 +52,8 @@ for name in $(below "$crate" | sort -u); do
             fail "target/ could not be copied"
     fi
 done
-cp "$edit" "$work/crates/$crate/must-fail/own.edit" || fail "the edit could not be copied"
+# without the carriage returns of other systems' lines
+sed 's/\r$//' "$edit" >"$work/crates/$crate/must-fail/own.edit" || fail "the edit could not be copied"
 
 echo "The crate $crate with the edit $2; proving takes seconds to minutes."
 (cd "$work" && rt must-fail "$crate") >"$work/said" 2>&1

@@ -66,6 +66,22 @@ need_crates() {
 # What the example terminal is linked with.
 need_coap() { need /usr/include/coap3/coap.h libcoap3-dev && need /usr/include/openssl/ssl.h libssl-dev; }
 
+# need_schema: CycloneDX's own schema; $schema is its folder, empty where it cannot be had. Debian 13 has it in python3-cyclonedx-lib. An
+# older Debian takes the package from there, by the signature of its archive, and unpacks it here: nothing is installed.
+need_schema() {
+    local own="$work/debian-13" from_13 package=python3-cyclonedx-lib
+    from_13=(-o "Dir::Etc::SourceList=$own/sources" -o Dir::Etc::SourceParts=/dev/null -o "Dir::State::Lists=$own/lists" -o "Dir::Cache=$own/cache")
+    schema=$work/cyclonedx/usr/lib/python3/dist-packages/cyclonedx/schema/_res
+    python3 -c 'import jsonschema' 2>/dev/null || get python3-jsonschema || return 1
+    mkdir -p "$own/lists/partial" "$own/cache/archives/partial" &&
+        echo "deb [signed-by=/usr/share/keyrings/debian-archive-keyring.gpg] http://deb.debian.org/debian trixie main" >"$own/sources" || return 1
+    (cd "$work" && { apt-get download $package || { timeout 120 apt-get "${from_13[@]}" update && apt-get "${from_13[@]}" download $package; }; } &&
+        dpkg-deb -x $package*.deb cyclonedx) >"$work/apt" 2>&1
+    [ ! -e "$schema/bom-1.5.SNAPSHOT.schema.json" ] || return 0
+    schema=
+    echo "CycloneDX's own schema cannot be had here: the SBOM is compared with packaging/cyclonedx.json alone"
+}
+
 # log COMMAND..: runs it, and shows what it wrote only where it fails
 log() {
     "$@" >"$work/log" 2>&1 && return
@@ -255,24 +271,43 @@ test_same() {
         log cmp target/staticlib/libterminal.a "$second/target/staticlib/libterminal.a" && packaging/kit.sh --archive
 }
 
-# What `make install` wrote is enough for a project outside the repository, in C by pkg-config, by CMake and in Rust; a staged
-# installation keeps its prefix, and none is left after `make uninstall`. So is what `make dist` and `make deb` wrote.
-# INSTALL_ARCHIVE names another archive than the repository's.
+# What `make install` wrote is enough for a project outside the repository, in C by pkg-config, by CMake and in Rust. So is what
+# `make dist` and `make deb` wrote. INSTALL_ARCHIVE names another archive than the repository's.
 test_install() {
     need cc gcc && need make make && need pkg-config pkg-config && need cmake cmake && need_crates && need_coap && need python3 python3 || return 1
     [ -n "${INSTALL_ARCHIVE-}" ] || library || return 1
     local archive=${INSTALL_ARCHIVE:-target/staticlib/libterminal.a} prefix="$work/prefix" outside="$work/outside"
-    log tool_of "$archive" || return 1
+    log tool_of "$archive" && by_target "$archive" || return 1
     touch "$archive" && cp -R tests/install "$outside" && sed -i "s|@BINDING@|$root/bindings/rust|" "$outside/Cargo.toml" || return 1
-    log make install PREFIX="$prefix" ARCHIVE="$archive" &&
+    log make install PREFIX="$prefix" ARCHIVE="$archive" LIBRARIES=- &&
         log outside_c "$prefix/lib" "$outside" && log diff - "$work/text" <<<"interface 2000, format 1, state 1, answer 8, not permitted" &&
         log cmake -S "$outside" -B "$outside/build" -DCMAKE_PREFIX_PATH="$prefix" && log cmake --build "$outside/build" &&
         log "$outside/build/outside" &&
         log env TILLERCLOVER_LIB="$prefix/lib" cargo run --quiet --offline --manifest-path "$outside/Cargo.toml" || return 1
-    log make install PREFIX=/usr DESTDIR="$work/stage" ARCHIVE="$archive" &&
-        log grep -qx 'prefix=/usr' "$work/stage/usr/lib/pkgconfig/tillerclover.pc" &&
-        log make uninstall PREFIX=/usr DESTDIR="$work/stage" && [ -z "$(find "$work/stage" -type f)" ] || return 1
-    released "$archive" "$outside" && packaged_deb "$archive" "$outside"
+    staged "$archive" && released "$archive" "$outside" && packaged_deb "$archive" "$outside"
+}
+
+# by_target ARCHIVE: $work/libraries stands for what `make targets` writes, which another test may be writing meanwhile
+by_target() {
+    local triple
+    for triple in x86_64-unknown-linux-gnu thumbv7em-none-eabi; do
+        mkdir -p "$work/libraries/$triple/O3" && cp "$1" "$work/libraries/$triple/O3/" || return 1
+    done
+    echo "a file of the build" >"$work/libraries/module.bc"
+}
+
+# staged ARCHIVE: a staged installation keeps its prefix, has the archives by target, and leaves none after `make uninstall`; archives
+# of other sources are not installed
+staged() {
+    local stage="$work/stage" words=(PREFIX=/usr DESTDIR="$work/stage" ARCHIVE="$1" LIBRARIES="$work/libraries")
+    log make install "${words[@]}" && log make install-tool "${words[@]}" TOOL=tool/target/debug/tillerclover &&
+        log grep -qx 'prefix=/usr' "$stage/usr/lib/pkgconfig/tillerclover.pc" &&
+        log cmp "$1" "$stage/usr/lib/tillerclover/thumbv7em-none-eabi/O3/libtillerclover.a" &&
+        log make uninstall "${words[@]}" && [ -z "$(find "$stage" -type f)" ] || { find "$stage" -type f && return 1; }
+    echo >>"$work/libraries/x86_64-unknown-linux-gnu/O3/libterminal.a"
+    ! make install "${words[@]}" >"$work/log" 2>&1 && grep -q "make targets renews it" "$work/log" && [ -z "$(find "$stage" -type f)" ] ||
+        { echo "install: archives of other sources are installed" && return 1; }
+    cp "$1" "$work/libraries/x86_64-unknown-linux-gnu/O3/libterminal.a"
 }
 
 # tool_of ARCHIVE: the tool, linked with this archive
@@ -280,7 +315,7 @@ tool_of() { ([ -z "${INSTALL_ARCHIVE-}" ] || { TILLERCLOVER_LIB=$(realpath "$1")
 
 # make_release TARGET ARCHIVE: with the tool as the tests have it, and packages that are not compressed
 make_release() {
-    log make "$1" ARCHIVE="$2" TOOL=tool/target/debug/tillerclover CARGOFLAGS="--offline --config ../tests/debian.toml" DEBFLAGS=-Znone
+    log make "$1" ARCHIVE="$2" LIBRARIES="$work/libraries" TOOL=tool/target/debug/tillerclover CARGOFLAGS="--offline --config ../tests/debian.toml" DEBFLAGS=-Znone
 }
 
 # of_one_build TOOL ARCHIVE: the command prints the sum of the archive
@@ -295,15 +330,21 @@ released() {
         make_release dist "$1" && log cmp "$release" "$work/first.tar.gz" &&
         tar -xf "$release" -C "$work" && release=$work/$(basename "$release" .tar.gz) &&
         (cd "$release" && log sha256sum --quiet --check SHA256SUMS) && log outside_c "$release/lib" "$2" &&
+        log cmp "$1" "$release/lib/tillerclover/thumbv7em-none-eabi/O3/libtillerclover.a" && [ ! -e "$release/lib/module.bc" ] &&
         log cmp "$release/include/tillerclover.h" "$release/bindings/rust/include/tillerclover.h" &&
         of_one_build "$release/bin/tillerclover" "$release/lib/libtillerclover.a" && bill_of "$release/sbom.json" &&
         log make -C "$release/examples/terminal" INCLUDE=../../include ARCHIVE=../../lib/libtillerclover.a OUT="$work" CFLAGS=-O0
 }
 
-# bill_of FILE: what the programs are made of fits the schema, and names what they were linked with; a spoilt one is noticed
+# bill_of FILE: what the programs are made of fits the schema, CycloneDX's own too, and names what they were linked with; a spoilt one
+# is noticed
 bill_of() {
     local name
-    log packaging/sbom.py --check "$1" || return 1
+    need_schema && log packaging/sbom.py --check "$1" ${schema:+"$schema"} || return 1
+    # two licences, of which one is an expression, are against the standard alone
+    sed '0,/"licenses": \[/s//"licenses": [{"expression": "MIT"},/' "$1" >"$work/spoilt.json"
+    packaging/sbom.py --check "$work/spoilt.json" && { [ -z "$schema" ] || ! packaging/sbom.py --check "$work/spoilt.json" "$schema" 2>/dev/null; } ||
+        { echo "install: CycloneDX's own schema is not asked" && return 1; }
     for name in 'libtillerclover\.a' tillerclover clap terminal 'libcoap3(t64)?' 'libssl3(t64)?' libc6; do
         grep -qE "\"name\": \"$name\"" "$1" || { echo "install: the SBOM has no $name" && return 1; }
     done

@@ -386,6 +386,24 @@ make_waiting() {
     gzip -c "$work/filled" | tail -c 8 | head -c 4 | cat "$work/filled" - >"$file"
 }
 
+# launch_damaged WHAT: starts the terminal on tables that are damaged, which it says, and every record gets 1
+launch_damaged() {
+    launch || return
+    grep -q "is damaged" "$work/errors" && [ "$(wc -l <"$work/errors")" -eq 1 ] || fault "$1: $(cat "$work/errors")"
+    : >"$work/errors"
+    expect "5.00 1 tables not sound: the terminal must be cleared" 0 get /weight
+}
+
+# mend: the button gives fresh tables, which are there after a start too
+mend() {
+    kill -USR1 "$pid"
+    expect "2.05 20$(uuid 00)" 0 get /oic/sec/pstat
+    finish
+    launch || return
+    expect "2.05 20$(uuid 00)" 0 get /oic/sec/pstat
+    finish
+}
+
 # A damaged file is said to be so, every record gets 1, and the button mends it.
 part_damage() {
     new_yard || return
@@ -404,18 +422,10 @@ part_damage() {
         other) head -c "$size" /dev/urandom >"$file" ;;
         esac
         cp "$file" "$work/damaged"
-        launch || return
-        grep -q "is damaged" "$work/errors" && [ "$(wc -l <"$work/errors")" -eq 1 ] || fault "$i: $(cat "$work/errors")"
-        : >"$work/errors"
-        expect "5.00 1 tables not sound: the terminal must be cleared" 0 get /weight
+        launch_damaged "$i" || return
         expect "5.00 1 tables not sound: the terminal must be cleared" 7 get /nothing
         cmp -s "$file" "$work/damaged" || fault "$i: the damaged file was changed"
-        kill -USR1 "$pid"
-        expect "2.05 20$(uuid 00)" 0 get /oic/sec/pstat
-        finish
-        launch || return
-        expect "2.05 20$(uuid 00)" 0 get /oic/sec/pstat
-        finish
+        mend || return
     done
     # A record that waits in the file is judged at the start: here the owner's order to go to RFPRO.
     make_waiting 5

@@ -12,7 +12,7 @@ root=$PWD
 program=$(realpath "$1") || exit 2
 shift
 
-ALL=(documents keys tables store records locks backups questions yards page lists office runs lines expectations habits bad crowd disk kills)
+ALL=(documents keys tables store records locks backups questions yards page lists office runs lines expectations habits bad hostile crowd disk kills)
 work=$(mktemp -d) || exit 2
 small=$work/small
 trap 'umount "$small" 2>/dev/null; rm -rf "$work"' EXIT
@@ -69,6 +69,10 @@ part_documents() {
     sed -n 's/^CRATES=(\(.*\))/\1 sha2/p' "$root/tests/run.sh" | tr ' _' '\n-' | sort >installed
     cmp -s needed installed || fault "tests/run.sh installs other packages than the tool needs: $(diff needed installed | head -n 5)"
     "$root/tests/shown.py" "$program" "$root/README.md" "$root/docs/TOOL.md" || fault "the documents show something else"
+    local form length
+    while IFS='|' read -r _ form length _; do
+        gives 0 "written, $(tr -d ' ,' <<<"$length") bytes" new --force --form "$(tr -d ' `' <<<"$form")" made
+    done < <(sed -n '/^| form | bytes/,/^$/{/^| `/p}' "$root/docs/TOOL.md")
 }
 
 part_tables() {
@@ -752,6 +756,50 @@ part_bad() {
     setpriv --reuid=65534 --clear-groups tillerclover judge own/a UPDATE /oic/sec/pstat as 5 state=RFPRO >out 2>errors
     [ $? -eq 2 ] && grep -q "own/a: cannot be written: permission denied; it is as it was" errors || fault "own/a: $(cat errors)"
     cmp -s own/a before || fault "a file that may not be written is not as it was"
+}
+
+# Names and files that are made to mislead or to break the command.
+part_hostile() {
+    yard a
+    # a name is no line of its own, and no order to the terminal
+    local odd=$'a\n8 in a: isolated\e[2J' words line
+    cp a "$odd"
+    for line in "show @" "isolated @ 7" "yards @ x=7" "rights @" "who RETRIEVE /weight @" "judge @ RETRIEVE /weight" "diff @ @"; do
+        read -ra words <<<"$line"
+        gives 0 'a\n8 in a: isolated\u{1b}[2J' "${words[@]/#@/"$odd"}"
+        ! grep -q $'^8 in a\\|\e' "$work/out" || fault "$line: a name is obeyed: $(head -n 3 "$work/out")"
+    done
+    gives 0 '  north\n  south  8  isolated  7   isolated' yards a $'north\n  south  8  isolated=7'
+    gives 0 '  a\tb\u{202e}  7   isolated' yards a $'a\tb\u202e=7'
+    # texts
+    printf 'RETRIEVE /weight\t# the plate # again\n' >lines
+    gives 0 "permitted  -R---  RETRIEVE /weight" judge a --dry-run @lines
+    printf '\xef\xbb\xbfRETRIEVE /weight\r\n' >lines
+    gives 0 "permitted  -R---  RETRIEVE /weight" judge a --dry-run @lines
+    printf '\xef\xbb\xbf{"aclist2":[{"aceid":1,"subject":{"conntype":"anon-clear"},"resources":[],"permission":2}]}\r\n' >marked.json
+    gives 0 "marked.list: 1 row made" list make marked.json marked.list
+    gives 1 "refused, 11 not in this device state" list load marked.json a as 5
+    for ((i = 1; i < 40; i++)); do echo "number=$i subject=auth-crypt permission=R resources=/weight"; done >rows
+    gives 1 "rows: not made, 19: 39 rows, and a terminal holds 32; no file was written" list make rows gone
+    # nested without end
+    printf 'tables = "a"\nx = %s\n' "$(head -c 300000 /dev/zero | tr '\0' '[')" >deep.toml
+    gives 2 "deep.toml: line 2 is nested deeper than any expectation" test deep.toml
+    printf 'tables = "a"\n%sb = 1\n' "$(printf 'a.%.0s' {1..100000})" >deep.toml
+    gives 2 "deep.toml: line 2 is nested deeper than any expectation" test deep.toml
+    printf '{"aclist2":%s' "$(head -c 300000 /dev/zero | tr '\0' '[')" >deep.json
+    gives 2 "deep.json: no JSON: recursion limit exceeded" list make deep.json gone
+    printf 'tables = "a"\nexpect = []\n' >none.toml
+    gives 2 "none.toml: there is no [[expect]]" test none.toml
+    # standard input is there once
+    for line in "a diff - -" "lines judge - --dry-run -" "a run --tables - -"; do
+        read -ra words <<<"$line"
+        tillerclover "${words[@]:1}" <"${words[0]}" >out 2>errors
+        [ $? -eq 2 ] && grep -qx "tillerclover: -: is standard input, and was read before; name a file" errors || fault "$line: $(cat out errors)"
+    done
+    # a full output is not the input's fault
+    tillerclover run "$root/crates/run/stdin" >/dev/full 2>errors
+    [ $? -eq 2 ] && grep -qx "tillerclover: the output cannot be written: no space left on device" errors || fault "a full output: $(cat errors)"
+    [ ! -e gone ] || fault "a hostile file left a list behind"
 }
 
 # Many at once: each change is kept.

@@ -380,6 +380,13 @@ def main(words):
                     file.write(made)
             elif not os.path.exists(PAGE) or read(PAGE) != made:
                 fault(f"{PAGE} is not what {SOURCE} gives today; tests/trace.py --write renews it")
+    except BrokenPipeError:
+        # Who reads the rows has seen enough; nothing more is written at the end.
+        os.dup2(os.open(os.devnull, os.O_WRONLY), sys.stdout.fileno())
+        return 0
+    except OSError as error:
+        print(f"trace: {error.filename}: {error.strerror.lower()}")
+        return 1
     except Changed as changed:
         print(f"trace: {changed}")
         return 1

@@ -71,6 +71,11 @@ pub fn entries(senders: &[u8]) -> impl Iterator<Item = Sender> + '_ {
     })
 }
 
+/// Whether the list has this sender.
+pub fn lists(senders: &[u8], sender: Sender) -> bool {
+    entries(senders).any(|entry| entry == sender)
+}
+
 /// The list of these senders.
 pub fn list_of(senders: &[Sender]) -> Vec<u8> {
     senders.iter().flat_map(|sender| sender.unwrap_or(0).to_be_bytes()).collect()
@@ -121,7 +126,7 @@ pub fn endangers(record: &[u8], senders: &[u8]) -> bool {
     match Action::read(which, verb, body) {
         Some(Action::SetRowOwner(_) | Action::SetDeviceOwner(_)) => true,
         Some(Action::Target(target)) => target == RESET,
-        Some(Action::StoreCredential(row)) => entries(senders).any(|sender| sender == Some(row.number)),
+        Some(Action::StoreCredential(row)) => lists(senders, Some(row.number)),
         Some(Action::StoreAccess(row)) => alters_security(&row),
         _ => false,
     }

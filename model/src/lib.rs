@@ -26,6 +26,7 @@ pub mod examples;
 pub mod files;
 pub mod generate;
 pub mod lists;
+pub mod others;
 pub mod queries;
 pub mod questions;
 pub mod random;

@@ -51,6 +51,16 @@ impl Random {
         items[self.below(items.len())]
     }
 
+    /// What is drawn, again and again until it holds.
+    pub fn until<T>(&mut self, draw: impl Fn(&mut Random) -> T, holds: impl Fn(&T) -> bool) -> T {
+        loop {
+            let drawn = draw(self);
+            if holds(&drawn) {
+                return drawn;
+            }
+        }
+    }
+
     /// One of the items, each as often as its weight says.
     pub fn weighted<T: Copy>(&mut self, items: &[(usize, T)]) -> T {
         let total = items.iter().map(|(weight, _)| weight).sum();

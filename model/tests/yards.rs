@@ -6,7 +6,8 @@
 
 use model::call::Case;
 use model::generate::{any_sound, clock, defaults, record, Style};
-use model::isolation::{ask, endangers, entries, list_of, sender_of, Sender};
+use model::isolation::{ask, endangers, list_of, lists, sender_of, Sender};
+use model::others::compared;
 use model::random::Random;
 use model::rules::{judge, Outcome};
 use model::tables::{TableBytes, Tables, SIZE};
@@ -17,10 +18,6 @@ const RECORDS: usize = 40;
 
 fn isolated(tables: &TableBytes, senders: &[u8]) -> bool {
     ask(tables, senders).reason == 0
-}
-
-fn lists(senders: &[u8], sender: Sender) -> bool {
-    entries(senders).any(|entry| entry == sender)
 }
 
 /// Owned tables, and of their partners, and the unauthenticated, those who are
@@ -84,14 +81,6 @@ fn told_to(told: &[Told], senders: &[u8]) -> Vec<Told> {
     told.iter().filter(|(record, _)| lists(senders, sender_of(record))).cloned().collect()
 }
 
-/// The tables without the roles that these partners asserted.
-fn without_roles(stored: &TableBytes, senders: &[u8]) -> Tables {
-    let mut tables = Tables::read(stored).expect("sound tables stay sound");
-    let theirs = tables.credentials.iter_mut().filter(|row| lists(senders, Some(row.number)));
-    theirs.for_each(|row| row.asserted.clear());
-    tables
-}
-
 #[test]
 fn each_yard_has_its_own_run() {
     let mut random = Random::new(SEED + 1);
@@ -121,7 +110,7 @@ fn each_yard_has_its_own_run() {
             let fed: Vec<Case> = cases.iter().filter(|case| !lists(theirs, sender_of(&case.record))).cloned().collect();
             let (alone, book) = run(&start, &fed);
             assert_eq!(told_to(&told, ours), told_to(&alone, ours));
-            assert_eq!(without_roles(&end, theirs), without_roles(&book, theirs));
+            assert_eq!(compared(&end, theirs), compared(&book, theirs));
             sent += cases.len() - fed.len();
         }
     }

@@ -7,6 +7,7 @@ use std::path::Path;
 use serde_json::{json, Value};
 use tillerclover::{Ace, Asserted, Cred, Resource, Slot, Terminal, Waiting};
 
+use crate::error::name;
 use crate::report::{many, Report, Status};
 use crate::store::Stored;
 use crate::{hex, times, words};
@@ -287,15 +288,15 @@ fn unnamed(from: &Terminal, to: &Terminal) -> Option<Change> {
 /// Two files of tables compared: status 0 where they hold the same.
 pub fn report(names: [&Path; 2], stored: [&Stored; 2]) -> Report {
     let changes = changes(&stored[0].terminal, &stored[1].terminal);
-    let [one, other] = names.map(|name| name.display().to_string());
+    let [one, other] = names.map(name);
     let mut text = match changes.len() {
         0 => format!("{one} and {other} hold the same\n"),
         count => format!("from {one} to {other}: {}\n", many(count, "difference")),
     };
     text += &changes.iter().map(|change| format!("  {}\n", change.text())).collect::<String>();
     let json = json!({
-        "from": one,
-        "to": other,
+        "from": names[0].display().to_string(),
+        "to": names[1].display().to_string(),
         "same": changes.is_empty(),
         "changes": changes.iter().map(Change::json).collect::<Vec<_>>(),
     });

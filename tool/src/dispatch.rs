@@ -6,7 +6,7 @@ use clap::ArgMatches;
 use serde_json::json;
 
 use crate::arguments::{clock, defaults, file, force, records, tables, text, texts, wait};
-use crate::error::Error;
+use crate::error::{name, Error};
 use crate::plan::{self, Plan};
 use crate::report::{Report, Status};
 use crate::steps::Act;
@@ -109,7 +109,7 @@ fn write_page(page: &Path, text: String, replace: Option<Care>) -> Result<Report
         return Ok(Report::new(text, json, Status::Yes));
     }
     store::write(page, text.as_bytes(), replace)?;
-    let text = format!("{}: written\n", page.display());
+    let text = format!("{}: written\n", name(page));
     Ok(Report::new(text, json, Status::Yes).after_change(page))
 }
 

@@ -83,7 +83,7 @@ impl std::error::Error for Error {}
 impl fmt::Display for Error {
     fn fmt(&self, f: &mut fmt::Formatter) -> fmt::Result {
         if let Some(file) = &self.file {
-            write!(f, "{}: ", visible(&file.display().to_string()))?;
+            write!(f, "{}: ", name(file))?;
         }
         f.write_str(&visible(&self.message))
     }
@@ -91,12 +91,28 @@ impl fmt::Display for Error {
 
 /// A text without letters that a terminal would obey: what is quoted may come from anybody's file.
 pub fn visible(text: &str) -> String {
-    let letter = |letter: char| match letter {
-        '\n' | '\t' => letter.to_string(),
+    text.chars().map(|letter| if matches!(letter, '\n' | '\t') { letter.to_string() } else { seen(letter) }).collect()
+}
+
+/// The same in one line and one column: a name is no line of its own.
+pub fn one_line(text: &str) -> String {
+    text.chars().map(seen).collect()
+}
+
+/// The name of a file, in one line.
+pub fn name(path: &Path) -> String {
+    one_line(&path.display().to_string())
+}
+
+/// A letter, or how it is written where it is obeyed: those that control, and those that turn the order of others.
+fn seen(letter: char) -> String {
+    match letter {
+        '\u{200e}' | '\u{200f}' | '\u{2028}'..='\u{202e}' | '\u{2066}'..='\u{2069}' | '\u{feff}' => {
+            letter.escape_unicode().to_string()
+        }
         _ if letter.is_control() => letter.escape_default().to_string(),
         _ => letter.to_string(),
-    };
-    text.chars().map(letter).collect()
+    }
 }
 
 /// The system's words without its number.
@@ -114,5 +130,7 @@ mod tests {
     fn a_terminal_is_told_nothing_but_text() {
         let error = Error::of(Path::new("a\x1b[2J"), "unknown key \"\u{9b}31m\"");
         assert_eq!(error.to_string(), "a\\u{1b}[2J: unknown key \"\\u{9b}31m\"");
+        assert_eq!(visible("two\n\tlines\u{202e}"), "two\n\tlines\\u{202e}");
+        assert_eq!(name(Path::new("a\nb\tc: sound")), "a\\nb\\tc: sound");
     }
 }

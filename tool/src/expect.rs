@@ -9,14 +9,14 @@ use tillerclover::{Answer, Permission, Terminal};
 use toml::value::Table;
 
 use crate::colour::verdict;
-use crate::error::{visible, Error};
+use crate::error::{name, one_line, Error};
 use crate::judge::Judged;
 use crate::parse::{self, did_you_mean};
 use crate::report::{many, Report, Status};
 use crate::steps::{Act, Step};
 use crate::store::{self, Stored};
 use crate::times::{self, Day};
-use crate::words;
+use crate::{nesting, words};
 
 /// What an answer is to be.
 #[derive(Clone, Copy, Debug, PartialEq, Eq)]
@@ -63,11 +63,15 @@ impl FromStr for Suite {
     type Err = String;
 
     fn from_str(text: &str) -> Result<Suite, String> {
+        if let Some(line) = nesting::too_deep(text) {
+            return Err(format!("line {line} is nested deeper than any expectation"));
+        }
         let toml: toml::Value = text.parse().map_err(|error| format!("no TOML: {error}"))?;
         let table = table(&toml, &["tables", "clock", "sequence", "expect"])?;
         let clock = clock(table, times::now()?)?;
         let tables = string(table, "tables")?.ok_or("tables is missing: the file with the tables, beside this one")?;
-        let list = table.get("expect").and_then(toml::Value::as_array).ok_or("there is no [[expect]]")?;
+        let list = table.get("expect").and_then(toml::Value::as_array).filter(|list| !list.is_empty());
+        let list = list.ok_or("there is no [[expect]]")?;
         let one = |(place, value): (usize, &toml::Value)| {
             Expectation::read(place + 1, value, clock).map_err(|error| format!("expectation {}: {error}", place + 1))
         };
@@ -187,7 +191,7 @@ impl Checked {
     }
 
     fn text(&self) -> String {
-        let name = visible(&self.expectation.name);
+        let name = one_line(&self.expectation.name);
         match self.met() {
             true => format!("{}    {name}\n", verdict(true, "ok")),
             false => format!(
@@ -213,7 +217,7 @@ impl Checked {
 fn report(path: &Path, tables: &Path, results: &[Checked]) -> Report {
     let met = results.iter().filter(|result| result.met()).count();
     let count = many(results.len(), "expectation");
-    let summary = format!("{}: {count}, {met} met, {} not\n", path.display(), results.len() - met);
+    let summary = format!("{}: {count}, {met} met, {} not\n", name(path), results.len() - met);
     let json = json!({
         "file": path.display().to_string(),
         "tables": tables.display().to_string(),

@@ -8,7 +8,7 @@ use tillerclover::{Answer, Header, Permission, Response, Set, Terminal};
 use crate::arguments::{care, clock, defaults, file, records};
 use crate::colour::verdict;
 use crate::diff::{changes, Change};
-use crate::error::Error;
+use crate::error::{name, Error};
 use crate::lock::Locked;
 use crate::report::{many, Report, Status};
 use crate::steps::{self, Act, Make, Step};
@@ -192,7 +192,7 @@ fn on_file(arguments: &ArgMatches, clock: u32, steps: Vec<Step>) -> Result<Repor
         (true, false) => "not written, since this is a dry run",
     };
     let report = Report::new(
-        judged.iter().map(Judged::text).collect::<String>() + &format!("{}: {last}\n", path.display()),
+        judged.iter().map(Judged::text).collect::<String>() + &format!("{}: {last}\n", name(path)),
         json!({
             "file": path.display().to_string(),
             "clock": clock,

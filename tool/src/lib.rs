@@ -6,6 +6,7 @@
 // What people write and read.
 pub mod colour;
 pub mod hex;
+pub mod nesting;
 pub mod parse;
 pub mod steps;
 pub mod times;

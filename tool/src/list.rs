@@ -9,7 +9,7 @@ use serde_json::{json, Value};
 use tillerclover::{doxm_body, pstat_body, record, Ace, Answer, Cred, OldRow, Period, Resource, State, Tested};
 use tillerclover::{Permission, Subject, Terminal, Uuid, Verb, ANYONE};
 
-use crate::error::Error;
+use crate::error::{name, Error};
 use crate::report::{columns, many, Report, Status};
 use crate::soundness::{ace_faults, unknown};
 use crate::store::{self, Care, Form, Stored};
@@ -33,11 +33,11 @@ pub fn check(path: &Path, list: &[u8]) -> Report {
     let mut text = match &reason {
         None => {
             let accepted = colour::verdict(true, "accepted");
-            format!("{}: {accepted}, {}\n", path.display(), many(rows(list).len(), "row"))
+            format!("{}: {accepted}, {}\n", name(path), many(rows(list).len(), "row"))
         }
         Some(reason) => {
             let refused = colour::verdict(false, "not accepted");
-            format!("{}: {refused}, {}:{place} {reason}\n", path.display(), answer.number())
+            format!("{}: {refused}, {}:{place} {reason}\n", name(path), answer.number())
         }
     };
     // What has another size may be no list at all.
@@ -116,7 +116,7 @@ pub fn convert(old: &Path, new: &Path, force: Option<Care>) -> Result<Report, Er
     store::write(new, &made, force)?;
     let tested = Terminal::test_list(&made);
     let from = many(file.len() / OldRow::LENGTH, "row");
-    let mut text = format!("{}: {} made of {from}\n", new.display(), many(rows(&made).len(), "row"));
+    let mut text = format!("{}: {} made of {from}\n", name(new), many(rows(&made).len(), "row"));
     let warning = warning(&made, tested);
     if let Some(warning) = &warning {
         text += &format!("warning: {warning}\n");
@@ -153,7 +153,7 @@ fn not_converted(old: &Path, file: &[u8], answer: Answer) -> Report {
         _ => format!("it becomes more than the {} rows that a terminal holds", Ace::CAPACITY),
     };
     Report::new(
-        format!("{}: not converted, {}: {reason}; no file was written\n", old.display(), answer.number()),
+        format!("{}: not converted, {}: {reason}; no file was written\n", name(old), answer.number()),
         json!({
             "file": old.display().to_string(),
             "answer": words::answer_json(answer),
@@ -207,11 +207,8 @@ pub fn text(path: &Path, seasons: bool) -> Result<Report, Error> {
         left_out.clear();
     }
     let numbers: Vec<String> = left_out.iter().map(u16::to_string).collect();
-    let notice = format!(
-        "{}: rows with a season are left out: {}; --seasons writes them too",
-        path.display(),
-        numbers.join(", ")
-    );
+    let notice =
+        format!("{}: rows with a season are left out: {}; --seasons writes them too", name(path), numbers.join(", "));
     let list: Value = serde_json::from_str(&text).unwrap_or(Value::Null);
     let json = json!({ "file": path.display().to_string(), "list": list, "left_out": left_out });
     let mut report = Report::new(text + "\n", json, Status::Yes);
@@ -221,7 +218,7 @@ pub fn text(path: &Path, seasons: bool) -> Result<Report, Error> {
 
 fn no_text(path: &Path, answer: Answer) -> Report {
     Report::new(
-        format!("{}: {}, {answer}; 'show' says why\n", path.display(), answer.number()),
+        format!("{}: {}, {answer}; 'show' says why\n", name(path), answer.number()),
         json!({ "file": path.display().to_string(), "answer": words::answer_json(answer) }),
         Status::No,
     )

@@ -9,7 +9,7 @@ use tillerclover::{record, Ace, Answer, Resource, Terminal, Verb};
 
 use crate::arguments::{care, clock, defaults, file, force};
 use crate::diff::{changes, Change};
-use crate::error::Error;
+use crate::error::{name, Error};
 use crate::list::{self, refusal, rows};
 use crate::lock::Locked;
 use crate::report::{many, Report, Status};
@@ -54,13 +54,14 @@ pub fn make(arguments: &ArgMatches) -> Result<Report, Error> {
     let list = made.list();
     let tested = Terminal::test_list(&list);
     if matches!(tested.answer, Answer::TEST_BAD_SIZE | Answer::TEST_NOT_STORABLE) {
-        let reason = format!("row {}: {}", tested.row, refusal(&list, tested));
-        let text = format!("{}: not made, {}: {reason}; no file was written\n", from.display(), tested.answer.number());
+        let row = if tested.row == 0 { String::new() } else { format!("row {}: ", tested.row) };
+        let reason = format!("{row}{}", refusal(&list, tested));
+        let text = format!("{}: not made, {}: {reason}; no file was written\n", name(from), tested.answer.number());
         let json = json!({ "file": from.display().to_string(), "answer": words::answer_json(tested.answer), "reason": reason });
         return Ok(Report::new(text, json, Status::No));
     }
     store::write(new, &list, force(arguments))?;
-    let mut text = format!("{}: {} made\n", new.display(), many(made.rows.len(), "row"));
+    let mut text = format!("{}: {} made\n", name(new), many(made.rows.len(), "row"));
     if made.seasons > 0 {
         text += &format!(
             "note: {} by first and last, which are no part of the office's own form\n",
@@ -81,7 +82,7 @@ pub fn make(arguments: &ArgMatches) -> Result<Report, Error> {
 /// The bytes of a list, which may also be the office's JSON.
 fn list_bytes(path: &Path) -> Result<Vec<u8>, Error> {
     let bytes = store::read(path)?;
-    match std::str::from_utf8(&bytes) {
+    match std::str::from_utf8(store::without_mark(&bytes)) {
         Ok(text) if text.trim_start().starts_with('{') && text.trim_end().ends_with('}') => {
             Ok(read(path, text)?.list())
         }
@@ -97,7 +98,7 @@ pub fn load(arguments: &ArgMatches) -> Result<Report, Error> {
     let list = list_bytes(path)?;
     if !Terminal::test_list(&list).answer.is_permitted() {
         let mut report = list::check(path, &list);
-        report.text += &format!("{}: unchanged\n", tables.display());
+        report.text += &format!("{}: unchanged\n", name(tables));
         return Ok(report);
     }
     let given = defaults(arguments)?;
@@ -141,7 +142,7 @@ fn not_loaded(tables: &Path, refused: Refused) -> Report {
         "{refused}, {} {answer}: {}\n{}: unchanged; 'why' says more\n",
         answer.number(),
         words::record(&record),
-        tables.display()
+        name(tables)
     );
     let json = json!({
         "file": tables.display().to_string(),
@@ -162,7 +163,7 @@ fn loaded(tables: &Path, changes: &[Change], count: usize, (written, dry): (bool
     let text = format!(
         "{} loaded, each as a record that was permitted\n{lines}{}: {last}\n",
         many(count, "row"),
-        tables.display()
+        name(tables)
     );
     let json = json!({
         "file": tables.display().to_string(),

@@ -8,7 +8,7 @@ use std::path::{Path, PathBuf};
 use std::thread;
 use std::time::{Duration, Instant};
 
-use crate::error::{plain, Error, Kind};
+use crate::error::{name, plain, Error, Kind};
 use crate::store::not_standard;
 use crate::system::{lock_among_tools, lock_record, record_holder, Lock};
 
@@ -82,7 +82,7 @@ impl Locked {
             }
             if past >= PATIENCE && !waiting.told {
                 let by = process.map_or("another tillerclover".into(), |number| format!("process {number}"));
-                let _ = writeln!(io::stderr(), "tillerclover: {}: waiting for {by}", self.path.display());
+                let _ = writeln!(io::stderr(), "tillerclover: {}: waiting for {by}", name(&self.path));
                 waiting.told = true;
             }
             thread::sleep(PAUSE);

@@ -6,6 +6,7 @@ use std::path::Path;
 use serde_json::{json, Map, Value};
 use tillerclover::{Ace, Answer, Header, Permission, Resource, Tables, Terminal, Verb};
 
+use crate::error::name;
 use crate::report::{columns, Report, Status};
 use crate::rights::{held, Probe};
 use crate::senders::Sender;
@@ -125,7 +126,7 @@ pub fn report(path: &Path, stored: &Stored, clock: u32) -> Report {
         let cells: Vec<String> = line.cells.iter().map(Cell::text).collect();
         format!("{}\t{}", line.sender.columns(), cells.join("\t"))
     }));
-    let head = format!("{} at {}, state {state}", path.display(), times::word(clock));
+    let head = format!("{} at {}, state {state}", name(path), times::word(clock));
     let text = format!("{head}\n\n{}\n{LEGEND}", columns(&rows));
     let json = json!({
         "file": path.display().to_string(),

@@ -5,7 +5,7 @@ use std::path::Path;
 use serde_json::json;
 use tillerclover::{Given, Terminal};
 
-use crate::error::Error;
+use crate::error::{name, Error};
 use crate::report::{Report, Status};
 use crate::store::{self, Care, Form, Stored};
 
@@ -14,7 +14,7 @@ pub fn new(path: &Path, form: Option<&str>, defaults: Given, replace: Option<Car
     let form = Form::ALL.into_iter().find(|known| Some(known.name()) == form).unwrap_or(Form::Terminal);
     let stored = Stored { form, terminal: Terminal::with_defaults(defaults), damage: None };
     store::write(path, &stored.bytes(), replace)?;
-    let text = format!("{}: written, {} bytes, a new terminal that nobody owns\n", path.display(), form.length());
+    let text = format!("{}: written, {} bytes, a new terminal that nobody owns\n", name(path), form.length());
     let json = json!({ "file": path.display().to_string(), "form": form.name(), "bytes": form.length() });
     Ok(Report::new(text, json, Status::Yes).after_change(path))
 }

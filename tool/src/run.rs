@@ -103,18 +103,34 @@ pub fn file(arguments: &ArgMatches, json: bool) -> Result<Status, Error> {
     };
     match run_from(source, terminal, &Shown { json, length }, out) {
         Ok(status) => Ok(status),
-        Err(error) if error.kind() == io::ErrorKind::BrokenPipe => Ok(Status::Yes),
-        Err(error) => Err(Error::of(name, plain(&error))),
+        Err(Fault::Output(error)) if error.kind() == io::ErrorKind::BrokenPipe => Ok(Status::Yes),
+        Err(Fault::Output(error)) => Err(Error::new(format!("the output cannot be written: {}", plain(&error)))),
+        Err(Fault::Input(error)) => Err(Error::unreadable(name, &error)),
+    }
+}
+
+/// What keeps a run from its end.
+#[derive(Debug)]
+pub enum Fault {
+    /// It cannot be read on.
+    Input(io::Error),
+    /// What came of it cannot be told.
+    Output(io::Error),
+}
+
+impl From<io::Error> for Fault {
+    fn from(error: io::Error) -> Fault {
+        Fault::Output(error)
     }
 }
 
 fn source(name: &Path, arguments: &ArgMatches) -> Result<(Source<impl Read>, Option<u64>), Error> {
-    let (mut reader, mut length) = opened(name)?;
     if arguments.get_flag("lines") {
         let text = store::read_text(name)?;
         let steps = steps::of_lines(&text, arguments::clock(arguments)?, Act::Judge);
         return Ok((Source::Steps(steps.map_err(|error| Error::of(name, error))?.into_iter()), None));
     }
+    let (mut reader, mut length) = opened(name)?;
     if !arguments.get_flag("whole") {
         reader = Box::new(reader.take(LIMIT));
         length = length.map(|length| length.min(LIMIT));
@@ -125,7 +141,7 @@ fn source(name: &Path, arguments: &ArgMatches) -> Result<(Source<impl Read>, Opt
 /// A file or standard input, with its length where that is known.
 fn opened(name: &Path) -> Result<(Box<dyn Read>, Option<u64>), Error> {
     if is_standard(name) {
-        return Ok((Box::new(io::stdin()), None));
+        return Ok((Box::new(store::standard()?), None));
     }
     let unreadable = |error: io::Error| Error::unreadable(name, &error);
     let file = File::open(name).map_err(unreadable)?;
@@ -145,7 +161,7 @@ pub struct Shown {
 }
 
 /// Runs the records; fails where input or output does.
-pub fn run(reader: impl Read, terminal: Terminal, shown: &Shown, out: impl Write) -> io::Result<Status> {
+pub fn run(reader: impl Read, terminal: Terminal, shown: &Shown, out: impl Write) -> Result<Status, Fault> {
     run_from(Source::Bytes(Input { reader, at: 0 }), terminal, shown, out)
 }
 
@@ -154,13 +170,13 @@ fn run_from<R: Read>(
     mut terminal: Terminal,
     shown: &Shown,
     out: impl Write,
-) -> io::Result<Status> {
+) -> Result<Status, Fault> {
     let mut out = Output { out, meter: Meter::new(shown.length) };
     if !shown.json {
         out.line("n answer perm state")?;
     }
     for n in 1u64.. {
-        match source.next()? {
+        match source.next().map_err(Fault::Input)? {
             Next::End => break,
             Next::Cut { begin, end } => {
                 out.line(&cut(shown.json, begin, end))?;

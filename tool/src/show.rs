@@ -6,6 +6,7 @@ use serde_json::{json, Value};
 use tillerclover::{Ace, Cred, Resource, Tables, Terminal, Uuid, Waiting};
 
 use crate::colour::{paint, Tone};
+use crate::error::name;
 use crate::marks::{self, Mark};
 use crate::report::{columns, Report, Status};
 use crate::soundness::{findings, Finding};
@@ -39,13 +40,13 @@ fn text(path: &Path, stored: &Stored, found: &[Finding]) -> String {
     let Stored { form, damage, .. } = stored;
     let mut text = String::new();
     if let Some(damage) = damage {
-        text += &format!("{}: {damage}\n", path.display());
+        text += &format!("{}: {damage}\n", name(path));
     }
     if found.is_empty() {
-        text += &format!("{}: {}\n", path.display(), paint(Tone::Good, "sound"));
+        text += &format!("{}: {}\n", name(path), paint(Tone::Good, "sound"));
     } else {
         let unsound = paint(Tone::Bad, "NOT SOUND");
-        text += &format!("{}: {unsound}, every record gets 1 until the terminal is cleared\n", path.display());
+        text += &format!("{}: {unsound}, every record gets 1 until the terminal is cleared\n", name(path));
         for Finding { place, byte, what } in found {
             text += &format!("  {place}, at byte {}: {what}\n", form.start() + byte);
         }

@@ -84,7 +84,7 @@ pub fn of_lines(text: &str, mut clock: u32, make: Make) -> Result<Vec<Step>, Str
 
 /// A line without its comment and the space around it. A comment begins the line, or follows a space.
 pub fn without_comment(line: &str) -> &str {
-    let end = line.find(" #").or_else(|| line.find("\t#")).unwrap_or(line.len());
+    let end = line.find(" #").into_iter().chain(line.find("\t#")).min().unwrap_or(line.len());
     let line = if line.starts_with('#') { "" } else { &line[..end] };
     line.trim()
 }
@@ -133,6 +133,9 @@ mod tests {
         assert_eq!(steps[1], Step { clock: 100, act: Act::HandIn(weight) });
         assert_eq!(steps[2], Step { clock: 100, act: Act::Take });
         assert_eq!(steps[3], Step { clock: 100, act: Act::Judge(b"\x52\x40\0\x07a#b".to_vec()) });
+        assert_eq!(without_comment("a\t# b # c"), "a");
+        assert_eq!(without_comment("a b\t#"), "a b");
+        assert_eq!(without_comment("\t# a"), "");
         let error = of_lines("RETRIEVE /weight\n\ngive /tare", 0, Act::Judge).unwrap_err();
         assert!(error.starts_with("line 3: unknown word 'give'") && error.ends_with("take or at TIME"), "{error}");
     }

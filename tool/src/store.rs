@@ -2,16 +2,18 @@
 //! file, so that a power cut leaves the old file or the new one.
 
 use std::fs::{self, File, Metadata};
-use std::io::{self, Read, Write};
+use std::io::{self, Read, Stdin, Write};
 use std::os::unix::fs::{fchown, MetadataExt};
 use std::path::{Path, PathBuf};
 use std::process;
+use std::str::Utf8Error;
+use std::sync::atomic::{AtomicBool, Ordering};
 use std::time::Duration;
 
 use tempfile::NamedTempFile;
 use tillerclover::{Given, Tables, Terminal, Waiting, FORMAT};
 
-use crate::error::{plain, Error, Kind};
+use crate::error::{name, plain, Error, Kind};
 use crate::lock::Locked;
 
 /// What a file of tables holds, told by its length.
@@ -179,15 +181,30 @@ pub fn read_text(path: &Path) -> Result<String, Error> {
     if bytes.len() as u64 > MOST {
         return Err(Error::of(path, format!("has more than {MOST} bytes")));
     }
-    String::from_utf8(bytes)
-        .map_err(|error| Error::of(path, format!("is no text: byte {} is not UTF-8", error.utf8_error().valid_up_to())))
+    let text = std::str::from_utf8(without_mark(&bytes));
+    let no_text = |error: Utf8Error| format!("is no text: byte {} is not UTF-8", error.valid_up_to());
+    text.map(String::from).map_err(|error| Error::of(path, no_text(error)))
+}
+
+/// A text without the mark that some editors put before it.
+pub fn without_mark(text: &[u8]) -> &[u8] {
+    text.strip_prefix("\u{feff}".as_bytes()).unwrap_or(text)
+}
+
+/// Standard input, which is there once.
+pub fn standard() -> Result<Stdin, Error> {
+    static READ: AtomicBool = AtomicBool::new(false);
+    match READ.swap(true, Ordering::Relaxed) {
+        true => Err(Error::of(Path::new("-"), "is standard input, and was read before; name a file")),
+        false => Ok(io::stdin()),
+    }
 }
 
 /// A file, or standard input, up to one byte more than so many.
 fn read_up_to(path: &Path, most: u64) -> Result<Vec<u8>, Error> {
     let mut bytes = Vec::new();
     let done = if is_standard(path) {
-        io::stdin().take(most + 1).read_to_end(&mut bytes)
+        standard()?.take(most + 1).read_to_end(&mut bytes)
     } else {
         File::open(path).and_then(|file| file.take(most + 1).read_to_end(&mut bytes))
     };
@@ -253,11 +270,7 @@ impl Locked {
         if backup {
             // The old file is safe under its second name before the new one takes its place.
             keep(&target, &self).and_then(|()| sync_folder(&target)).map_err(|error| {
-                unwritten(format!(
-                    "the old file cannot be kept as {}: {}",
-                    backup_path(&target).display(),
-                    plain(&error)
-                ))
+                unwritten(format!("the old file cannot be kept as {}: {}", name(&backup_path(&target)), plain(&error)))
             })?;
         }
         file.persist(&target).map_err(|error| unwritten(plain(&error.error)))?;

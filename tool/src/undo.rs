@@ -7,7 +7,7 @@ use serde_json::json;
 use tillerclover::Given;
 
 use crate::diff::{changes, Change};
-use crate::error::Error;
+use crate::error::{name, Error};
 use crate::lock::Locked;
 use crate::report::{many, Report, Status};
 use crate::store::{self, backup_path, Stored};
@@ -17,7 +17,7 @@ pub fn undo(path: &Path, wait: Duration) -> Result<Report, Error> {
     let locked = Locked::open(path, wait)?;
     let kept = backup_path(path);
     if !kept.exists() {
-        return Err(Error::of(path, format!("{} is not there: no earlier file is kept", kept.display())));
+        return Err(Error::of(path, format!("{} is not there: no earlier file is kept", name(&kept))));
     }
     let (now, before) = (locked.read()?, store::read(&kept)?);
     let changed = told(&now, &before);
@@ -26,7 +26,7 @@ pub fn undo(path: &Path, wait: Duration) -> Result<Report, Error> {
     }
     let last = if now == before { "is as it was before" } else { "is as it was before; undo again takes this back" };
     let mut text: String = changed.iter().map(|(text, _)| format!("  {text}\n")).collect();
-    text = format!("{}: {last}\n{text}", path.display());
+    text = format!("{}: {last}\n{text}", name(path));
     let report = Report::new(
         text,
         json!({

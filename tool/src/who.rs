@@ -6,6 +6,7 @@ use std::path::Path;
 use serde_json::{json, Value};
 use tillerclover::{Answer, Asserted, Body, Cred, Permission, Resource, Role, State, Terminal, Verb};
 
+use crate::error::name;
 use crate::report::{columns, Report, Status};
 use crate::rights::{rights, Rights};
 use crate::senders::{roles, Sender};
@@ -173,7 +174,7 @@ pub fn report(path: &Path, stored: &Stored, question: Question) -> Report {
 fn text(path: &Path, stored: &Stored, question: Question, answers: &Answers) -> String {
     let state = stored.terminal.tables.state();
     let at = times::word(question.clock);
-    let mut text = format!("{} in {} at {at}: needs {}\n", question.words(), path.display(), answers.needed);
+    let mut text = format!("{} in {} at {at}: needs {}\n", question.words(), name(path), answers.needed);
     match answers.refusal {
         Some(Answer::NOT_OFFERED) => {
             text += &format!("nobody: {} does not offer {}, 9\n", question.resource, question.verb)

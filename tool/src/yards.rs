@@ -10,7 +10,7 @@ use tillerclover::{Permission, Resource, Set, Subject, Tables, Terminal, Uuid, A
 
 use crate::arguments::{file, text, texts};
 use crate::colour::{paint, Tone};
-use crate::error::{visible, Error};
+use crate::error::{name, one_line, Error};
 use crate::report::{columns, Report, Status};
 use crate::senders::Sender;
 use crate::store::Stored;
@@ -262,7 +262,7 @@ pub fn isolated(arguments: &ArgMatches) -> Result<Report, Error> {
     };
     let (path, terminal) = (file(arguments, "FILE"), &stored.terminal);
     let finding = yard.ask(terminal);
-    let mut text = format!("{} in {}: {}\n", yard.list(), path.display(), answer(terminal, &finding));
+    let mut text = format!("{} in {}: {}\n", yard.list(), name(path), answer(terminal, &finding));
     if by_role(terminal, &finding) {
         text += &format!("{ROLES_ARE_OPEN}\n");
     }
@@ -294,8 +294,8 @@ fn report(path: &Path, terminal: &Terminal, yards: &[Yard]) -> Report {
     let all = findings.iter().all(|finding| finding.isolation.is_isolated());
     let lines = yards.iter().zip(&findings);
     let lines = lines
-        .map(|(yard, finding)| format!("  {}\t{}\t{}", visible(&yard.name), yard.list(), answer(terminal, finding)));
-    let mut text = format!("yards in {}\n{}", path.display(), columns(&lines.collect::<Vec<_>>()));
+        .map(|(yard, finding)| format!("  {}\t{}\t{}", one_line(&yard.name), yard.list(), answer(terminal, finding)));
+    let mut text = format!("yards in {}\n{}", name(path), columns(&lines.collect::<Vec<_>>()));
     let (could, could_not): (Vec<Other>, Vec<Other>) =
         others(terminal, yards).into_iter().partition(|other| !other.finding.isolation.is_isolated());
     let ends = |other: &Other| {

@@ -1,5 +1,5 @@
 //! The functions of include/tillerclover.h, one by one, over slices: tables and
-//! what waits are changed in place. This is the one module that calls the library.
+//! what waits are changed in place. Beside it `store` and `yards` alone call the library.
 
 use core::mem::offset_of;
 
@@ -207,22 +207,22 @@ extern "C" {
 // The library takes any bytes, keeps no pointer and reads and writes within the lengths alone. Each pointer and length
 // below is that of a living slice or reference, and what is written to is borrowed for the call alone.
 
-/// The five parts of tables, for a call: the first is state, owned and the two counts.
+/// Where the five parts of tables begin, for a call: the first is state, owned and the two counts.
+const PARTS: [usize; 5] =
+    [0, offset_of!(Tables, devowner), offset_of!(Tables, rowners), offset_of!(Tables, creds), offset_of!(Tables, aces)];
+
+/// These parts of tables that the call reads.
 #[inline(always)]
 pub(crate) fn parts(tables: &Tables) -> [*const u8; 5] {
     let all: *const Tables = tables;
-    let at = |offset| all.cast::<u8>().wrapping_add(offset);
-    [0, offset_of!(Tables, devowner), offset_of!(Tables, rowners), offset_of!(Tables, creds), offset_of!(Tables, aces)]
-        .map(at)
+    PARTS.map(|part| all.cast::<u8>().wrapping_add(part))
 }
 
 /// The same of tables that the call changes.
 #[inline(always)]
 pub(crate) fn parts_mut(tables: &mut Tables) -> [*mut u8; 5] {
     let all: *mut Tables = tables;
-    let at = |offset| all.cast::<u8>().wrapping_add(offset);
-    [0, offset_of!(Tables, devowner), offset_of!(Tables, rowners), offset_of!(Tables, creds), offset_of!(Tables, aces)]
-        .map(at)
+    PARTS.map(|part| all.cast::<u8>().wrapping_add(part))
 }
 
 impl Outcome {

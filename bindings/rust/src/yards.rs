@@ -20,6 +20,7 @@
 use alloc::vec::Vec;
 use core::fmt;
 
+use crate::interface::parts;
 use crate::tables::Tables;
 #[cfg(feature = "alloc")]
 use crate::terminal::Terminal;
@@ -120,26 +121,14 @@ extern "C" {
     fn tillerclover_identity() -> u64;
 }
 
-// The library takes any bytes, keeps no pointer and reads within the lengths alone. Each pointer below is that of a living array
-// of the length that the library reads, or of a slice with its own length; the three words are a local of the call.
+// The library takes any bytes, keeps no pointer and reads within the lengths alone. Each pointer below is that of a part of living
+// tables, of the length that the library reads, or of a slice with its own length; the three words are a local of the call.
 
 /// Whether the senders of a list are isolated in these tables. An entry is two bytes, a credential number with its most
 /// significant byte first; 0 is everybody without one. Any bytes are allowed.
 pub fn isolated(tables: &Tables, senders: &[u8]) -> Isolation {
-    let counts = [tables.state, tables.owned, tables.ncreds, tables.naces];
-    let mut said = [0; 3];
-    unsafe {
-        tillerclover_isolated_at(
-            counts.as_ptr(),
-            tables.devowner.as_ptr(),
-            tables.rowners.as_ptr(),
-            tables.creds.as_ptr(),
-            tables.aces.as_ptr(),
-            senders.as_ptr(),
-            senders.len() as u64,
-            said.as_mut_ptr(),
-        );
-    }
+    let ([t0, t1, t2, t3, t4], length, mut said) = (parts(tables), senders.len() as u64, [0; 3]);
+    unsafe { tillerclover_isolated_at(t0, t1, t2, t3, t4, senders.as_ptr(), length, said.as_mut_ptr()) }
     let [reason, entry, row] = said;
     Isolation::from_words(reason, entry as usize, row as usize).expect("a reason of the library's")
 }

@@ -1,4 +1,5 @@
-//! Compares the proved library with the model on the question whether senders are isolated.
+//! Compares the proved library with the model on the question whether senders are isolated, and holds runs of the library to
+//! the book of demand 3.
 
 #![forbid(unsafe_code)]
 
@@ -6,7 +7,9 @@ use std::process::exit;
 
 use model::hex;
 use model::isolation::{ask, Isolation};
+use model::library;
 use model::options::Program;
+use model::others;
 use model::questions::{cases, random_question, shrink, Counts};
 use model::random::Random;
 use model::tables::TableBytes;
@@ -16,19 +19,22 @@ use tillerclover::Tables;
 const PROGRAM: Program = Program {
     name: "yards",
     help: "\
-yards [--questions N] [--seed S]
+yards [--questions N] [--runs N] [--seed S]
 
 Asks the library and the model whether the senders of a list are isolated, of
 tables and lists by enumeration and at random, good and spoilt, and compares
-reason, entry and row.
+reason, entry and row. Then runs of hand-ins, takes and records judged at once
+are made by the library, and the others than some chosen senders must be told
+what the model says that is fed their records alone.
 
   --questions N   so many at random beside the rest (default 100000)
+  --runs N        so many runs (default 2000)
   --seed S        another choice of questions (default 1)
   --help          this text
 
 Ends with 0 when all are equal, with 1 when one is not.
 ",
-    valued: &["--questions", "--seed"],
+    valued: &["--questions", "--runs", "--seed"],
     flags: &[],
     free: 0,
 };
@@ -54,6 +60,21 @@ fn show(tables: &TableBytes, senders: Vec<u8>) {
     println!("model {:?}, library {:?}", ask(tables, &senders), by_library(tables, &senders));
 }
 
+/// Runs in which the others are told something else than the book; the first is shown.
+fn noticed(runs: u64, seed: u64) -> (u64, others::Counts) {
+    let mut random = Random::part(seed, 11);
+    let (mut counts, mut differences) = (others::Counts::default(), 0);
+    for _ in 0..runs {
+        if let Err(fault) = others::random_run(&mut random, library::judge, true, &mut counts) {
+            differences += 1;
+            if differences == 1 {
+                println!("{fault}");
+            }
+        }
+    }
+    (differences, counts)
+}
+
 fn main() {
     let options = PROGRAM.options();
     let (questions, seed) = (PROGRAM.number(&options, "--questions", 100_000), PROGRAM.number(&options, "--seed", 1));
@@ -69,6 +90,12 @@ fn main() {
         }
     }
     println!("{counts}");
-    println!("yards: {} questions, {differences} differences", counts.total());
+    let (noticed, runs) = noticed(PROGRAM.number(&options, "--runs", 2000), seed);
+    println!(
+        "{} runs, {} of them not sound: {} records of the others, {} of the chosen, {} of them taken",
+        runs.runs, runs.unsound, runs.others, runs.chosen, runs.taken
+    );
+    let differences = differences + noticed;
+    println!("yards: {} questions, {} runs, {differences} differences", counts.total(), runs.runs);
     exit(i32::from(differences > 0));
 }

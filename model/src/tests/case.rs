@@ -45,15 +45,12 @@ fn default_lists_shrink() {
         shorter.expected()
     };
     let differs = |case: &Case| !wrong(case).same(&case.expected());
-    let mut random = Random::new(9);
-    let found = loop {
-        let tables = generate::any_sound(&mut random).bytes();
-        let record = generate::record(&mut random, Style::Purposeful, &tables, 0);
-        let case = Case { defaults: generate::defaults(&mut random), ..Case::new(&tables, &record) };
-        if differs(&case) {
-            break case;
-        }
+    let draw = |random: &mut Random| {
+        let tables = generate::any_sound(random).bytes();
+        let record = generate::record(random, Style::Purposeful, &tables, 0);
+        Case { defaults: generate::defaults(random), ..Case::new(&tables, &record) }
     };
+    let found = Random::new(9).until(draw, |case| differs(case));
     let small = shrink(found, differs);
     assert_eq!(small.record.len(), 5);
     assert_eq!(small.defaults.default_creds.len(), 47);
@@ -86,15 +83,12 @@ fn a_written_byte_too_many_shrinks_to_little() {
         seen
     };
     let differs = |case: &Case| !wrong(case).same(&case.expected());
-    let mut random = Random::new(8);
-    let found = loop {
-        let tables = generate::any_sound(&mut random).bytes();
-        let record = generate::record(&mut random, Style::Purposeful, &tables, 0);
-        let case = Case { capacity: 1500, ..Case::new(&tables, &record) };
-        if differs(&case) {
-            break case;
-        }
+    let draw = |random: &mut Random| {
+        let tables = generate::any_sound(random).bytes();
+        let record = generate::record(random, Style::Purposeful, &tables, 0);
+        Case { capacity: 1500, ..Case::new(&tables, &record) }
     };
+    let found = Random::new(8).until(draw, |case| differs(case));
     let small = shrink(found, differs);
     assert_eq!(small.record.len(), 4);
     assert!(small.capacity <= 33);
@@ -112,14 +106,12 @@ fn a_difference_shrinks_to_little() {
         seen
     };
     let differs = |case: &Case| !wrong(case).same(&case.expected());
-    let mut random = Random::new(6);
-    let found = loop {
-        let tables = generate::any_sound(&mut random).bytes();
-        let case = Case::new(&tables, &generate::record(&mut random, Style::Purposeful, &tables, 0));
-        if case.tables[CREDENTIAL_COUNT] > 5 && case.record.len() > 25 && differs(&case) {
-            break case;
-        }
+    let draw = |random: &mut Random| {
+        let tables = generate::any_sound(random).bytes();
+        Case::new(&tables, &generate::record(random, Style::Purposeful, &tables, 0))
     };
+    let found =
+        Random::new(6).until(draw, |case| case.tables[CREDENTIAL_COUNT] > 5 && case.record.len() > 25 && differs(case));
     let small = shrink(found, differs);
     assert!((20..=21).contains(&small.tables[ACCESS_COUNT]));
     assert!(small.tables[CREDENTIAL_COUNT] <= 1);
@@ -135,16 +127,13 @@ fn a_clock_shrinks_to_the_border() {
         _ => Case { clock: case.clock - 1, ..case.clone() }.expected(),
     };
     let differs = |case: &Case| wrong(case).permission > case.expected().permission;
-    let mut random = Random::new(10);
-    let found = loop {
-        let tables = generate::any_sound(&mut random).bytes();
-        let clock = generate::clock(&mut random, &tables);
-        let record = generate::record(&mut random, Style::Purposeful, &tables, clock.saturating_sub(1));
-        let case = Case { clock, ..Case::new(&tables, &record) };
-        if clock > 1000 && differs(&case) {
-            break case;
-        }
+    let draw = |random: &mut Random| {
+        let tables = generate::any_sound(random).bytes();
+        let clock = generate::clock(random, &tables);
+        let record = generate::record(random, Style::Purposeful, &tables, clock.saturating_sub(1));
+        Case { clock, ..Case::new(&tables, &record) }
     };
+    let found = Random::new(10).until(draw, |case| case.clock > 1000 && differs(case));
     let small = shrink(found, differs);
     assert_eq!(small.clock, 1);
     assert_eq!(small.tables[ACCESS_COUNT], 1);
@@ -163,16 +152,14 @@ fn asserted_roles_shrink_to_one() {
         Err(_) => case.expected(),
     };
     let differs = |case: &Case| wrong(case).permission > case.expected().permission;
-    let mut random = Random::new(11);
-    let found = loop {
-        let tables = generate::any_sound(&mut random).bytes();
-        let clock = generate::clock(&mut random, &tables);
-        let record = generate::record(&mut random, Style::Purposeful, &tables, clock.saturating_sub(1));
-        let case = Case { clock, ..Case::new(&tables, &record) };
-        if clock > 900 && case.tables[CREDENTIAL_COUNT] > 5 && differs(&case) {
-            break case;
-        }
+    let draw = |random: &mut Random| {
+        let tables = generate::any_sound(random).bytes();
+        let clock = generate::clock(random, &tables);
+        let record = generate::record(random, Style::Purposeful, &tables, clock.saturating_sub(1));
+        Case { clock, ..Case::new(&tables, &record) }
     };
+    let found =
+        Random::new(11).until(draw, |case| case.clock > 900 && case.tables[CREDENTIAL_COUNT] > 5 && differs(case));
     let small = shrink(found, differs);
     let tables = Tables::read(&small.tables).expect("sound");
     assert_eq!((small.clock, tables.credentials.len(), tables.accesses.len()), (1, 1, 1));
@@ -192,15 +179,12 @@ fn a_queue_shrinks_to_one_record() {
         seen
     };
     let differs = |case: &Case| !wrong(case).same(&case.expected());
-    let mut random = Random::new(12);
-    let found = loop {
-        let tables = generate::any_sound(&mut random);
-        let queue = generate::queue(&mut random, &tables).bytes();
-        let case = Case { call: Call::Take, queue, ..Case::new(&tables.bytes(), &[]) };
-        if case.queue.whole()[COUNT] > 8 && differs(&case) {
-            break case;
-        }
+    let draw = |random: &mut Random| {
+        let tables = generate::any_sound(random);
+        let queue = generate::queue(random, &tables).bytes();
+        Case { call: Call::Take, queue, ..Case::new(&tables.bytes(), &[]) }
     };
+    let found = Random::new(12).until(draw, |case| case.queue.whole()[COUNT] > 8 && differs(case));
     let small = shrink(found, differs);
     assert_eq!(small.queue.whole()[..SLOTS.start], [1, 0, 0, 0]);
     assert!(small.queue.trimmed().len() <= SLOTS.start + 8);

@@ -4,6 +4,7 @@ use super::*;
 use std::collections::BTreeSet;
 
 use crate::answers::CONVERT_TOO_MANY;
+
 #[test]
 fn every_length_and_every_answer() {
     let mut counts = Counts::default();
@@ -44,13 +45,7 @@ fn a_difference_shrinks_to_little() {
         converted
     };
     let differs = |file: &File| wrong(file) != Converted::expected(file);
-    let mut random = Random::new(73);
-    let found = loop {
-        let file = random_file(&mut random);
-        if file.bytes.len() > 10 * ROW && differs(&file) {
-            break file;
-        }
-    };
+    let found = Random::new(73).until(random_file, |file| file.bytes.len() > 10 * ROW && differs(file));
     let small = shrink(found, differs);
     assert_eq!(small, File { bytes: vec![0; ROW], capacity: 2 * Access::BODY_SIZE });
 }
@@ -65,13 +60,7 @@ fn the_wrong_order_of_checks_shrinks_to_the_border() {
         converted => converted,
     };
     let differs = |file: &File| wrong(file) != Converted::expected(file);
-    let mut random = Random::new(74);
-    let found = loop {
-        let file = random_file(&mut random);
-        if file.bytes.len() > 30 * ROW && differs(&file) {
-            break file;
-        }
-    };
+    let found = Random::new(74).until(random_file, |file| file.bytes.len() > 30 * ROW && differs(file));
     let small = shrink(found, differs);
     assert_eq!((small.bytes.len(), small.capacity), (17 * ROW, 0));
 }

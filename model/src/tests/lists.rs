@@ -5,6 +5,7 @@ use std::collections::BTreeSet;
 
 use crate::answers::TEST_NOT_STORABLE;
 use crate::provisioning::test;
+
 #[test]
 fn every_length_and_every_answer() {
     let mut counts = Counts::default();
@@ -40,13 +41,8 @@ fn a_difference_shrinks_to_little() {
         right => right,
     };
     let differs = |list: &[u8]| wrong(list) != test(list);
-    let mut random = Random::new(61);
-    let found = loop {
-        let list = random_list(&mut random);
-        if list.len() > 20 * ROW && test(&list).row > 10 && differs(&list) {
-            break list;
-        }
-    };
+    let long = |list: &Vec<u8>| list.len() > 20 * ROW && test(list).row > 10 && differs(list);
+    let found = Random::new(61).until(random_list, long);
     let small = shrink(found, differs);
     assert_eq!(small.len(), ROW);
     assert!(small.iter().filter(|&&byte| byte != 0).count() <= 8);
@@ -67,12 +63,6 @@ fn a_pair_of_rows_shrinks_to_both() {
             && Access::read(&list[(test(list).row - 1) * ROW..][..ROW]).is_some();
         twice && wrong(list) != test(list)
     };
-    let mut random = Random::new(62);
-    let found = loop {
-        let list = random_list(&mut random);
-        if list.len() > 20 * ROW && differs(&list) {
-            break list;
-        }
-    };
+    let found = Random::new(62).until(random_list, |list| list.len() > 20 * ROW && differs(list));
     assert_eq!(shrink(found, differs).len(), 3 * ROW);
 }

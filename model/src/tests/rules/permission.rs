@@ -106,3 +106,33 @@ fn wildcards_reach() {
     assert_eq!(reached(2), [8, 12, 14]);
     assert_eq!(reached(6), [8, 9, 10, 11, 12, 14, 16]);
 }
+
+#[test]
+fn the_type_decides_nothing() {
+    let mut random = Random::new(19);
+    // Each row with one of these types.
+    let retyped = |stored: &TableBytes, random: &mut Random, kinds: &[u8]| {
+        let mut tables = Tables::read(stored).expect("sound tables stay sound");
+        tables.credentials.iter_mut().for_each(|row| row.kind = random.pick(kinds));
+        tables.bytes()
+    };
+    let without = |stored: &TableBytes| retyped(stored, &mut Random::new(0), &[0]);
+    let mut shown = 0;
+    for _ in 0..2000 {
+        let one = generate::any_sound(&mut random).bytes();
+        let other = retyped(&one, &mut random, &[0, 1, 2, 4, 8, 16, 32]);
+        let clock = generate::clock(&mut random, &one);
+        let record = generate::record(&mut random, generate::Style::Mixed, &one, clock);
+        let [one, other] = [one, other].map(|tables| judge(&Case { clock, ..Case::new(&tables, &record) }));
+        // The reply of cred shows what is stored, and so do the tables.
+        let listed = one.response.reply != other.response.reply;
+        assert!(
+            !listed || Header::read(&record).resource == CRED && one.response.reply.len() == other.response.reply.len()
+        );
+        let told = |outcome: &Outcome| Response { reply: Vec::new(), ..outcome.response.clone() };
+        assert_eq!(told(&one), told(&other));
+        assert_eq!(without(&one.tables), without(&other.tables));
+        shown += usize::from(listed);
+    }
+    assert!(shown > 10, "{shown} replies show types");
+}
