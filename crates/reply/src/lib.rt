@@ -19,7 +19,7 @@ use rules::Head;
 use rules::Header;
 use rules::Resource;
 use rules::Verb;
-use text::put;
+use text::direct::put;
 use text::put_byte;
 ghost use mathlib.Core.Path.{_≡_};
 ghost use mathlib.Core.List.{map};

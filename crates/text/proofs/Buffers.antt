@@ -1,10 +1,10 @@
 -- Laws of texts put into a buffer one after the other, and how much of it is written.
 -- A writer's proof composes what its calls ensure by `puts-then`; a loop's keeps `Writing`.
-use mathlib.Core.Path.{_≡_, refl, ap, sym, _∙_}
+use mathlib.Core.Path.{_≡_, refl, ap, sym, subst, _∙_}
 use mathlib.Core.List.{List, [], _∷_, _++_, append-assoc, append-nil}
-use Prim.Native.Nat.{ℕ, zero, suc, _+_, _≤_, _<_, min}
+use Prim.Native.Nat.{ℕ, zero, suc, _+_, _-_, _≤_, _<_, min}
 use native.Mathlib.Omega.{arith}
-use lib.ListN.{length, drop, set, length-append}
+use lib.ListN.{length, take, drop, set, length-append, length-drop, take-append-drop}
 use lib.Seq.{set-out, length-take-le}
 use Rattle.text.specs.Buffer.{written, largest, Puts, Counts}
 
@@ -78,6 +78,15 @@ puts-then {o} {s} {t} {o₁} {o₂} {at} {r₁} {r₂} h p q = record {
 
 pub puts-length : {o s o′ : List ℕ} {at r : ℕ} → Puts o at s o′ r → length o′ ≡ length o
 puts-length {o} {s} {o′} {at} p = ap length (p .buffer) ∙ written-length o at s
+
+-- the part of a text that fits, and the rest past the end
+pub puts-over : {o o₁ : List ℕ} {at p r : ℕ} (n : ℕ) (t : List ℕ) → length o ≤ largest → n ≤ length t → length o ≤ at + n → Puts o at (take n t) o₁ p
+    → r ≡ min (p + (length t - n)) largest → Puts o at t o₁ r
+puts-over {o} {o₁} {at} {p} {r} n t b h f q e =
+    let l = length-take-le n t h in
+    let past : length o₁ ≤ p = omega (arith, puts-length q, q .next, l, b, f) in
+    let rest : r ≡ min (p + length (drop n t)) largest = omega (arith, length-drop n t, e) in
+    subst (λ (w : List ℕ). Puts o at w o₁ r) (take-append-drop n t) (puts-then b q (puts-beyond o₁ p (drop n t) past rest))
 
 pub counts : (r : ℕ) (o : List ℕ) → r ≤ length o → Counts r o
 counts r o h = (h, sym (length-take-le r o h))

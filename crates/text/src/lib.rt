@@ -1,5 +1,7 @@
 // Writing bytes, fixed texts and decimal numbers into a lent buffer at a position.
 // No function has a `requires`: a byte past the buffer's end is not written, and the position goes on, so an empty buffer measures.
+pub mod direct;
+
 ghost use mathlib.Core.Path.{_≡_};
 ghost use mathlib.Core.List.{[], _∷_};
 ghost use Prim.Native.Nat.{min, _+_, _≤_};
@@ -45,20 +47,8 @@ fn advance(at: usize, count: usize) -> usize
     }
 }
 
-// A text over the buffer's end, byte by byte.
-fn put_bytes(out: &mut [u8], at: usize, text: &[u8]) -> usize
-    ensures { λ r. ⌜ Puts (now (out .entry)) at (now (text .entry)) (now (out .exit)) r ⌝ }
-{
-    let mut p = at;
-    let mut i = 0;
-    while i < text.len() {
-        p = put_byte(out, p, text[i]);
-        i += 1;
-    }
-    p
-}
-
-// A text. Past the buffer's end nothing is written; a text that fits is copied.
+// A text. Past the buffer's end nothing is written; of a text over the end the part that fits is put, and the position goes on.
+// It calls itself, one deep, so it stands in the code once: crate `reply`, which must be fast, has `direct::put`.
 // Rules out: a text cut one byte early; bytes before the position touched.
 pub fn put(out: &mut [u8], at: usize, text: &[u8]) -> usize
     ensures { λ r. ⌜ Puts (now (out .entry)) at (now (text .entry)) (now (out .exit)) r ⌝ }
@@ -67,10 +57,12 @@ pub fn put(out: &mut [u8], at: usize, text: &[u8]) -> usize
     if size <= at {
         return advance(at, text.len());
     }
-    if text.len() <= size - at {
+    let room = size - at;
+    if text.len() <= room {
         return copy(out, at, text);
     }
-    put_bytes(out, at, text)
+    let p = put(out, at, &text[..room]);
+    advance(p, text.len() - room)
 }
 
 // A number in decimal: the digits of its tenth, and then its last digit.
