@@ -57,12 +57,12 @@ pub fn put(out: &mut [u8], at: usize, text: &[u8]) -> usize
     if size <= at {
         return advance(at, text.len());
     }
-    let room = size - at;
-    if text.len() <= room {
+    let left = size - at;
+    if text.len() <= left {
         return copy(out, at, text);
     }
-    let p = put(out, at, &text[..room]);
-    advance(p, text.len() - room)
+    let p = put(out, at, &text[..left]);
+    advance(p, text.len() - left)
 }
 
 // A number in decimal: the digits of its tenth, and then its last digit.
