@@ -1,68 +1,68 @@
 #!/usr/bin/env bash
-# Counts the instructions of one decision, of the library, of the model, and in C by hand where the yardstick has the case:
-# counts do not depend on how busy the machine is.
-# A count is the difference of two runs, one with calls and one without, so that what the program does before them drops out.
+# Counts the instructions of each case of `bench`, of the library and in C by hand: counts do not depend on how busy the machine is.
+# A count is of one call, from the first instruction of the C function to its return.
 #
-#     bench/callgrind.sh                 all cases
-#     bench/callgrind.sh read full       one case
-#
-# Then, to see where they go:
-#     valgrind --tool=callgrind --dump-instr=yes --toggle-collect=tillerclover_judge --callgrind-out-file=target/callgrind.out \
-#         model/target/release/bench --only read --rows full --side library && callgrind_annotate target/callgrind.out
+#     bench/callgrind.sh                          all cases, a line for each
+#     bench/callgrind.sh CASE TABLES [SIDE]       one case by function, of the library or by hand; as serve full, take25 full hand
+#     bench/callgrind.sh --again CASE ..          the same of what was counted last
 set -euo pipefail
 cd "$(dirname "$0")/.."
 
-CALLS=200
+out=target/bench/callgrind
 
-if [ $# -ne 0 ] && [ $# -ne 2 ]; then
-    echo "usage: bench/callgrind.sh [CASE empty|few|half|full]" >&2
-    exit 2
-fi
-if ! command -v valgrind >/dev/null; then
-    echo "callgrind.sh: valgrind is not installed" >&2
-    exit 2
-fi
-[ -f target/staticlib/libterminal.a ] || rt staticlib terminal >/dev/null
-(cd model && cargo build --quiet --release --features yardstick --bin bench)
-
-# instructions CASE ROWS SIDE CALLS
-instructions() {
-    local log
-    log=$(mktemp -p target)
-    if ! valgrind --tool=callgrind --callgrind-out-file=/dev/null model/target/release/bench \
-        --only "$1" --rows "$2" --side "$3" --calls "$4" >"$log" 2>&1; then
-        cat "$log" >&2
-        rm -f "$log"
-        exit 2
-    fi
-    sed -nE 's/.*Collected : ([0-9]+).*/\1/p' "$log"
-    rm -f "$log"
+# The instructions between two marks are one file. Each case has two on each side: a first call, and the one that counts.
+count() {
+    [ -f target/staticlib/libterminal.a ] || rt staticlib terminal >/dev/null
+    (cd model && cargo build --quiet --release --features yardstick --bin bench)
+    rm -rf "$out" && mkdir -p "$out"
+    valgrind --tool=callgrind --callgrind-out-file="$out/part" --dump-after=measured_mark \
+        --toggle-collect='tillerclover_*_at' --toggle-collect='yardstick_*_at' \
+        "${CARGO_TARGET_DIR:-model/target}/release/bench" --count >"$out/names" 2>"$out/log" || { cat "$out/log" >&2 && exit 2; }
 }
 
-# line CASE ROWS
-line() {
-    local none library model hand="" ratio=""
-    none=$(instructions "$1" "$2" library 0)
-    library=$((($(instructions "$1" "$2" library "$CALLS") - none) / CALLS))
-    model=$((($(instructions "$1" "$2" model "$CALLS") - none) / CALLS))
-    case $1 in serve | poll | refuse1 | refuse2 | refuse8)
-        hand=$((($(instructions "$1" "$2" yardstick "$CALLS") - none) / CALLS))
-        ratio=$(ratio "$library" "$hand")
-        ;;
-    esac
-    printf '%-6s  %-8s  %7d  %7d  %s  %7s  %s\n' "$2" "$1" "$library" "$model" "$(ratio "$library" "$model")" "$hand" "$ratio"
+# part LINE: the file of that line of the names
+part() { echo "$out/part.$((2 * $1))"; }
+
+instructions() { sed -nE 's/^totals: ([0-9]+)$/\1/p' "$(part "$1")"; }
+
+# The two sides of a case stand one after the other.
+all() {
+    local line=0 name tables side library hand
+    printf '%-10s  %-11s  %8s  %8s  %s\n' case tables library 'by hand' ratio
+    while read -r name tables side; do
+        line=$((line + 1))
+        if [ "$side" = library ]; then
+            library=$(instructions "$line")
+        else
+            hand=$(instructions "$line")
+            printf '%-10s  %-11s  %8d  %8d  %5s\n' "$name" "$tables" "$library" "$hand" "$(awk "BEGIN { printf \"%.2f\", $library / $hand }")"
+        fi
+    done <"$out/names"
 }
 
-ratio() { awk "BEGIN { printf \"%5.2f\", $1 / $2 }"; }
+# one CASE TABLES SIDE: its functions, by their own instructions
+one() {
+    local line
+    line=$(grep -nFx "$1 $2 $3" "$out/names" | cut -d : -f 1) || { echo "no case '$1 $2 $3'; they are those of $out/names" >&2 && exit 2; }
+    callgrind_annotate --auto=no --threshold=100 "$(part "$line")" 2>/dev/null |
+        sed -nE 's/^ *([0-9,]+) \([0-9. ]+%\) +[^:]*:([^[]*[^ [])( \[.*)?$/\1 \2/p' |
+        awk -v total="$(instructions "$line")" '{ n = $1; gsub(",", "", n) } n + 0 < total { printf "%7d  %s\n", n, $2 }'
+}
 
-echo "tables  case      library    model  ratio  by hand  ratio"
-if [ $# -eq 2 ]; then
-    line "$1" "$2"
-    exit
+again=
+if [ "${1-}" = --again ]; then
+    again=yes
+    shift
 fi
-for rows in empty few half full; do
-    for case in read store remove serve poll refuse2 refuse7 refuse8; do
-        case "$rows $case" in "empty remove" | "empty serve" | "empty poll") continue ;; esac
-        line "$case" "$rows"
-    done
-done
+case $# in 0 | 2 | 3) ;; *)
+    echo "usage: bench/callgrind.sh [--again] [CASE TABLES [SIDE]]" >&2
+    exit 2
+    ;;
+esac
+command -v valgrind >/dev/null || { echo "callgrind.sh: valgrind is not installed" >&2 && exit 2; }
+[ -n "$again" ] || count
+if [ $# -eq 0 ]; then
+    all
+else
+    one "$1" "$2" "${3:-library}"
+fi

@@ -1,6 +1,6 @@
 #!/usr/bin/env bash
 # Runs the library on each processor that targets/build.sh builds it for, under emulation: tests/interface.c, examples/yard.c,
-# the model's vectors, and calls at random whose digest is one for all targets.
+# the model's vectors, calls at random whose digest is one for all targets, and how deep calls go into the stack.
 #
 #     targets/test.sh              all targets
 #     targets/test.sh TRIPLE..     some of them
@@ -88,14 +88,15 @@ target() {
         DIRECT=("-DVECTORS=\"$VECTORS\"" "-DCALLS=$CALLS")
         compile targets/cortex-m.c || return
     fi
-    compile tests/interface.c examples/yard.c targets/calls.c || return
+    compile tests/interface.c examples/yard.c targets/calls.c targets/stack.c || return
     for level in O3 O2; do
         archive=target/lib/$1/$level/libterminal.a
         run interface || { echo "$1 -$level: tests/interface.c" && return 1; }
         run yard >"$own/text" && diff examples/yard.expected "$own/text" || { echo "$1 -$level: examples/yard.c" && return 1; }
         run calls "$VECTORS" "$CALLS" >"$own/text" && grep '^random' "$own/text" >>"$own/digests" ||
             { cat "$own/text" && echo "$1 -$level: targets/calls.c" && return 1; }
-        printf '%-30s -%s  %s, %s bytes of code\n' "$1" "$level" "$(paste -sd ';' "$own/text" | sed 's/;/; /')" "$(size_of "$archive")"
+        run stack >>"$own/text" || { cat "$own/text" && echo "$1 -$level: targets/stack.c" && return 1; }
+        printf '%-30s -%s  %s; %s bytes of code\n' "$1" "$level" "$(paste -sd ';' "$own/text" | sed 's/;/; /g')" "$(size_of "$archive")"
     done
 }
 

@@ -239,7 +239,7 @@ def check_header_rules():
 # The crate that makes a group of checks, the definition of the group, and the one number of a group without a definition.
 GROUPS = (
     ("check_waiting", None, 1), ("check_header", "headerChecks", None), ("caller", None, 7), ("check_request", "requestChecks", None),
-    ("check_state", "stateChecks", None), ("check_rows", "rowChecks", None), ("reply", "roomChecks", None),
+    ("check_state", "stateChecks", None), ("check_rows", "rowChecks", None), ("reply", "capacityChecks", None),
 )
 
 

@@ -7,7 +7,7 @@
 README.md       the layers with crates.txt; what must be believed with what the contracts cite
 PROOFS.md       each theorem that its tables name is exported with a statement by a file named; each function stands in the file or crate;
                 each public function with a `requires` is in the table of what is asked for; each function for C is an entry point
-README.md, SECURITY.md, CHANGELOG.md, SECURITY-MODEL.md, ASSESSOR.md, ANSWERS.md, TARGETS.md, PICTURES.md
+README.md, SECURITY.md, CHANGELOG.md, SECURITY-MODEL.md, ASSESSOR.md, ANSWERS.md, TARGETS.md, BENCHMARKS.md, PICTURES.md
                 each theorem that is named before its file, as `name` (crate/proofs/File.antt), stands there, and each
                 `crate::function` is one
 CHANGELOG.md    its first heading is the interface's version, and it names the format's; the lengths of tables, rows and waiting records are today's
@@ -33,7 +33,7 @@ from answers import ANSWERS, answers, check_header_rules, order_picture, sequenc
 from sources import HEADER, Changed, asks, contracts, exports, faults, fault, found, functions_of, number, read, right_side, rows_of  # noqa: E402
 
 PAGE, MODEL = "docs/PICTURES.md", "docs/SECURITY-MODEL.md"
-CITED = ["README.md", "SECURITY.md", "CHANGELOG.md", MODEL, "docs/ASSESSOR.md", "docs/ANSWERS.md", "docs/GLOSSARY.md", "docs/TARGETS.md", PAGE]
+CITED = ["README.md", "SECURITY.md", "CHANGELOG.md", MODEL, "docs/ASSESSOR.md", "docs/ANSWERS.md", "docs/GLOSSARY.md", "docs/TARGETS.md", "docs/BENCHMARKS.md", PAGE]
 
 
 # ---- layouts
@@ -50,6 +50,7 @@ def header_field(name):
 def span(spec, name, end):
     """First bit and number of bits of a field, by its definition; `end` is where its layout ends."""
     text = header_field(name) if spec == "Record" else right_side(spec, name)
+    text = re.sub(r"\w+Size\b", lambda size: str(number("Sizes", size.group())), text)
     for pattern, bits_of in (
         (r"(?:eqb \()?bits \w+ (\d+) (\d+)(?:\) 1)?", lambda a, b: (a, b)),
         (r"eqb \(bit \w+ \((\d+) \+ n\)\) 1", lambda a: (a, 64)),
@@ -270,7 +271,7 @@ def waiting_offsets():
 
 def waiting_table():
     rounds, slots, length, record = waiting_offsets()
-    long, most, whole = (number("Slots", name) for name in ("slotLong", "slotsMost", "queueSize"))
+    long, most, whole = (number("Slots", name) for name in ("slotSize", "queueCapacity", "queueSize"))
     if slots + most * long != whole:
         raise Changed("the memory of waiting records is not its head and its slots")
     return "\n".join(
@@ -381,7 +382,7 @@ def check_header(drawn):
         "WAITING_COUNT_AT": 0,
         "WAITING_ROUND_AT": rounds,
         "WAITING_SLOTS_AT": slots,
-        "SLOT_LENGTH": number("Slots", "slotLong"),
+        "SLOT_LENGTH": number("Slots", "slotSize"),
         "SLOT_SENDER_AT": 0,
         "SLOT_LENGTH_AT": length,
         "SLOT_RECORD_AT": record,

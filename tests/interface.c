@@ -624,7 +624,7 @@ static void roles(void)
     must(three);
     put_role(&expected, 0, &two);
     put_role(&expected, 1, &three);
-    expect(holds(&expected), "a role that is over kept its place");
+    expect(holds(&expected), "an expired role kept its place");
     now = 0;
 }
 

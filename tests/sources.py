@@ -1,5 +1,6 @@
 """What the tests of documents read: files, definitions, the header. Faults are collected here."""
 import glob
+import math
 import os
 import re
 
@@ -46,6 +47,7 @@ def definitions(path):
 SPECS = {
     name: definitions(f"crates/{path}.antt")
     for name, path in {
+        "Sizes": "rules/specs/Sizes",
         "Record": "rules/specs/Record",
         "Bodies": "rules/specs/Bodies",
         "Roles": "rules/specs/Roles",
@@ -71,10 +73,18 @@ def right_side(spec, left):
 
 
 def number(spec, left):
+    """The value of a definition: a number, a name of the same file or of Sizes.antt, or a sum of products of these."""
     text = right_side(spec, left)
-    if not text.isdigit():
+
+    def value(factor):
+        if factor.isdigit():
+            return int(factor)
+        for home in (spec, "Sizes"):
+            if factor in SPECS[home]:
+                return number(home, factor)
         raise Changed(f"{spec}.antt: {left} is '{text}', and not a number")
-    return int(text)
+
+    return sum(math.prod(value(factor) for factor in term.split(" * ")) for term in text.split(" + "))
 
 
 def found(spec, left, pattern):

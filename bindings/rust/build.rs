@@ -60,7 +60,7 @@ fn yardstick(here: &Path) {
     let folder = PathBuf::from(variable("OUT_DIR"));
     let (object, archive) = (folder.join("yardstick.o"), folder.join("libyardstick.a"));
     println!("cargo:rerun-if-env-changed=CC");
-    println!("cargo:rerun-if-changed={}", source.display());
+    println!("cargo:rerun-if-changed={}", source.with_file_name("").display());
     println!("cargo:rerun-if-changed={}", headers.display());
     let mut compile = Command::new(env::var_os("CC").as_deref().unwrap_or(OsStr::new("cc")));
     compile.args(["-std=c11", "-O3", "-march=x86-64", "-Wall", "-Wextra", "-Werror", "-fPIC", "-c"]);

@@ -72,7 +72,7 @@ impl Case {
         let tables = tables.try_into().map_err(|_| format!("the tables have {SIZE} bytes, but these are {length}"))?;
         let clock = clock.parse().map_err(|_| format!("the clock is a number up to {}, not '{clock}'", u32::MAX))?;
         let capacity =
-            capacity.parse::<u16>().map_err(|_| format!("the room is a number up to 65535, not '{capacity}'"))?;
+            capacity.parse::<u16>().map_err(|_| format!("the capacity is a number up to 65535, not '{capacity}'"))?;
         Ok(Case { call, tables, queue, clock, record, capacity: capacity.into(), defaults })
     }
 

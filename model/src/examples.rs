@@ -341,14 +341,7 @@ fn roles_shown() -> Vec<Example> {
     add("a partner shows a role", &none, 0, show(6, "0002 0007 000003e8"), PERMITTED, MAY_RETRIEVE | MAY_UPDATE);
     add("the owner shows a role", &none, 0, show(5, "0002 0007 000003e8"), PERMITTED, MAY_ALL);
     add("nobody shows a role", &none, 0, show(0, "0002 0007 000003e8"), NOT_PERMITTED, 0);
-    add(
-        "a role that is over is shown",
-        &none,
-        1001,
-        show(6, "0002 0007 000003e8"),
-        PERMITTED,
-        MAY_RETRIEVE | MAY_UPDATE,
-    );
+    add("an expired role is shown", &none, 1001, show(6, "0002 0007 000003e8"), PERMITTED, MAY_RETRIEVE | MAY_UPDATE);
     for state in [State::Rfotm, State::Rfpro, State::Sreset] {
         add(
             "roles are shown in RFNOP only",
@@ -395,7 +388,7 @@ fn roles_shown() -> Vec<Example> {
     let full = with_foreman(State::Rfnop, &[asserted(2, 7, 1000), asserted(2, 8, 2000)]);
     add("a third role", &full, 1000, show(6, "0003 0007 ffffffff"), ROLES_FULL, 0);
     add(
-        "a third role, once one is over",
+        "a third role, once one has expired",
         &full,
         1001,
         show(6, "0003 0007 ffffffff"),

@@ -31,7 +31,7 @@ impl File {
         let (bytes, capacity) = line.split_once(':').ok_or("a file is FILE:ROOM, and this has no colon")?;
         let bytes = hex::read(bytes)?;
         let capacity =
-            capacity.parse::<u16>().map_err(|_| format!("the room is a number up to 65535, not '{capacity}'"))?;
+            capacity.parse::<u16>().map_err(|_| format!("the capacity is a number up to 65535, not '{capacity}'"))?;
         Ok(File { bytes, capacity: capacity.into() })
     }
 }

@@ -190,7 +190,7 @@ fn text(path: &Path, stored: &Stored, question: Question, answers: &Answers) -> 
     });
     let could = answers.could.iter().map(|Candidate { sender, role, rows, full }| {
         let by = rows_in_words(rows).unwrap_or_default();
-        let full = if *full { ", once one of the two that it asserts now is over" } else { "" };
+        let full = if *full { ", once one of the two that it asserts now has expired" } else { "" };
         format!("  {}\trole {role}, {by}{full}", sender.columns())
     });
     text += &part("may, by", may.collect());

@@ -107,7 +107,7 @@ const _: () = assert!(offset_of!(Tables, devowner) == 4 && offset_of!(Tables, ro
 const _: () = assert!(offset_of!(Tables, creds) == 84 && offset_of!(Tables, aces) == 1020);
 
 /// The numbers that the library says of a record.
-type Said = [u64; 9];
+pub(crate) type Said = [u64; 9];
 
 extern "C" {
     fn tillerclover_fresh_at(
@@ -220,7 +220,7 @@ pub(crate) fn parts(tables: &Tables) -> [*const u8; 5] {
 
 /// The same of tables that the call changes.
 #[inline(always)]
-fn parts_mut(tables: &mut Tables) -> [*mut u8; 5] {
+pub(crate) fn parts_mut(tables: &mut Tables) -> [*mut u8; 5] {
     let all: *mut Tables = tables;
     PARTS.map(|part| all.cast::<u8>().wrapping_add(part))
 }
@@ -228,7 +228,7 @@ fn parts_mut(tables: &mut Tables) -> [*mut u8; 5] {
 impl Outcome {
     /// What was said of this record. Where there are places to store, its resource names their table.
     #[inline(always)]
-    fn of(said: &Said, record: &[u8]) -> Outcome {
+    pub(crate) fn of(said: &Said, record: &[u8]) -> Outcome {
         let &[answer, permission, offset, length, reply_length, store_first, store_count, links, link_count] = said;
         let table = || match Header::read(record)?.resource {
             Resource::CRED => Some(Table::Creds),
@@ -307,63 +307,29 @@ pub fn judge(
     record: &[u8],
     reply: &mut [u8],
 ) -> Outcome {
-    // The library's own function.
-    unsafe { judge_by(tillerclover_judge_at, tables, waiting, defaults, clock, record, reply) }
-}
-
-/// How the library and the benchmark's yardstick judge a record: the tables in five parts, waiting records, the two default
-/// lists, clock, record and buffer, each slice with its length, and a place for what is said.
-pub(crate) type Judging = unsafe extern "C" fn(
-    *mut u8,
-    *mut u8,
-    *mut u8,
-    *mut u8,
-    *mut u8,
-    *mut u8,
-    *const u8,
-    u64,
-    *const u8,
-    u64,
-    u32,
-    *const u8,
-    u64,
-    *mut u8,
-    u64,
-    *mut u64,
-);
-
-/// A call of such a function, which must keep to what is said above of the library.
-#[inline(always)]
-pub(crate) unsafe fn judge_by(
-    judging: Judging,
-    tables: &mut Tables,
-    waiting: &mut Waiting,
-    defaults: Defaults,
-    clock: u32,
-    record: &[u8],
-    reply: &mut [u8],
-) -> Outcome {
     let Defaults { creds, aces } = defaults;
     let [t0, t1, t2, t3, t4] = parts_mut(tables);
-    let mut said = [0; 9];
-    judging(
-        t0,
-        t1,
-        t2,
-        t3,
-        t4,
-        waiting.bytes.as_mut_ptr(),
-        creds.as_ptr(),
-        creds.len() as u64,
-        aces.as_ptr(),
-        aces.len() as u64,
-        clock,
-        record.as_ptr(),
-        record.len() as u64,
-        reply.as_mut_ptr(),
-        reply.len() as u64,
-        said.as_mut_ptr(),
-    );
+    let mut said: Said = [0; 9];
+    unsafe {
+        tillerclover_judge_at(
+            t0,
+            t1,
+            t2,
+            t3,
+            t4,
+            waiting.bytes.as_mut_ptr(),
+            creds.as_ptr(),
+            creds.len() as u64,
+            aces.as_ptr(),
+            aces.len() as u64,
+            clock,
+            record.as_ptr(),
+            record.len() as u64,
+            reply.as_mut_ptr(),
+            reply.len() as u64,
+            said.as_mut_ptr(),
+        )
+    }
     Outcome::of(&said, record)
 }
 

@@ -54,8 +54,6 @@
 
 #[cfg(feature = "alloc")]
 extern crate alloc;
-#[cfg(feature = "measure")]
-extern crate std;
 
 /// The version of the interface, as in the C header.
 pub const INTERFACE_MAJOR: u8 = 2;

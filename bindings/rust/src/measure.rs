@@ -1,11 +1,8 @@
-//! What the benchmark measures beside the library, and how deep a call goes into
-//! the stack. Nothing else needs it.
+//! The yardstick that the benchmark measures beside the library: the same work in
+//! C by hand, bench/yardstick.c, called as the library is. Nothing else needs it.
 
-use std::ffi::c_void;
-use std::hint::black_box;
-use std::vec::Vec;
-
-use crate::interface::{judge_by, Defaults, Outcome};
+use crate::interface::{parts, parts_mut, Converted, Defaults, Listed, Outcome, Said, Taken, Tested, RECORD_MAX};
+use crate::names::Answer;
 use crate::tables::{Tables, Waiting};
 
 /// The path of libterminal.a.
@@ -30,11 +27,58 @@ extern "C" {
         capacity: u64,
         said: *mut u64,
     );
+    fn yardstick_hand_in_at(
+        counts: *const u8,
+        devowner: *const u8,
+        rowners: *const u8,
+        creds: *const u8,
+        aces: *const u8,
+        queue: *mut u8,
+        record: *const u8,
+        length: u64,
+        said: *mut u64,
+    );
+    fn yardstick_take_at(
+        counts: *mut u8,
+        devowner: *mut u8,
+        rowners: *mut u8,
+        creds: *mut u8,
+        aces: *mut u8,
+        queue: *mut u8,
+        default_creds: *const u8,
+        default_creds_length: u64,
+        default_aces: *const u8,
+        default_aces_length: u64,
+        clock: u32,
+        reply: *mut u8,
+        capacity: u64,
+        said: *mut u64,
+        length: *mut u64,
+        bytes: *mut u8,
+    );
+    fn yardstick_access_list_at(
+        counts: *const u8,
+        devowner: *const u8,
+        rowners: *const u8,
+        creds: *const u8,
+        aces: *const u8,
+        queue: *const u8,
+        text: *mut u8,
+        capacity: u64,
+        said: *mut u64,
+    );
+    fn yardstick_test_list_at(rows: *const u8, length: u64, said: *mut u64);
+    fn yardstick_convert_list_at(file: *const u8, length: u64, rows: *mut u8, capacity: u64, said: *mut u64);
+    fn measured_mark();
 }
 
-/// The same decision in C by hand, bench/yardstick.c, called as the library's is.
+// The yardstick, too, keeps no pointer and stays within the lengths. Each pointer and length below is that of a living slice
+// or reference, and what is written to is borrowed for the call alone.
+
+/// Judges a record at once.
 #[inline]
-pub fn yardstick(
+#[must_use]
+pub fn judge(
     tables: &mut Tables,
     waiting: &mut Waiting,
     defaults: Defaults,
@@ -42,65 +86,101 @@ pub fn yardstick(
     record: &[u8],
     reply: &mut [u8],
 ) -> Outcome {
-    // It keeps no pointer, and stays within the lengths.
-    unsafe { judge_by(yardstick_judge_at, tables, waiting, defaults, clock, record, reply) }
-}
-
-#[repr(C, align(16))]
-struct Attributes([u8; 128]);
-
-extern "C" {
-    fn pthread_attr_init(attributes: *mut Attributes) -> i32;
-    fn pthread_attr_setstack(attributes: *mut Attributes, stack: *mut c_void, size: usize) -> i32;
-    fn pthread_create(
-        thread: *mut u64,
-        attributes: *const Attributes,
-        start: extern "C" fn(*mut c_void) -> *mut c_void,
-        argument: *mut c_void,
-    ) -> i32;
-    fn pthread_join(thread: u64, result: *mut *mut c_void) -> i32;
-}
-
-const PAINT: u8 = 0xA7;
-const STACK: usize = 256 * 1024;
-
-#[repr(C, align(4096))]
-struct Painted([u8; STACK]);
-
-struct Asked<'a> {
-    ask: &'a mut (dyn FnMut() + Send),
-    /// Where the caller's frame stands.
-    above: usize,
-}
-
-extern "C" fn call(argument: *mut c_void) -> *mut c_void {
-    // The pointer is that of `depth`'s own call, which waits for this thread.
-    let call = unsafe { &mut *argument.cast::<Asked>() };
-    let mark = 0u8;
-    call.above = black_box(&raw const mark) as usize;
-    (call.ask)();
-    std::ptr::null_mut()
-}
-
-/// Bytes of stack below the caller that one call writes to: it runs in a thread whose stack was painted beforehand.
-/// None where no such thread can be started.
-pub fn depth(ask: &mut (dyn FnMut() + Send)) -> Option<usize> {
-    // A vector, so that the paint is not on a stack itself.
-    let mut stack: Vec<Painted> = Vec::with_capacity(1);
-    let mut arguments = Asked { ask, above: 0 };
-    let bytes = stack.spare_capacity_mut()[0].as_mut_ptr().cast::<u8>();
-    // The stack is this function's until the thread is joined.
+    let Defaults { creds, aces } = defaults;
+    let [t0, t1, t2, t3, t4] = parts_mut(tables);
+    let mut said: Said = [0; 9];
     unsafe {
-        bytes.write_bytes(PAINT, STACK);
-        let mut attributes = Attributes([0; 128]);
-        let mut thread = 0;
-        let faults = pthread_attr_init(&mut attributes)
-            | pthread_attr_setstack(&mut attributes, bytes.cast(), STACK)
-            | pthread_create(&mut thread, &attributes, call, (&raw mut arguments).cast());
-        if faults != 0 || pthread_join(thread, std::ptr::null_mut()) != 0 {
-            return None;
-        }
-        let lowest = (0..STACK).find(|&at| bytes.add(at).read() != PAINT).unwrap_or(STACK);
-        Some(arguments.above - (bytes as usize + lowest))
+        yardstick_judge_at(
+            t0,
+            t1,
+            t2,
+            t3,
+            t4,
+            waiting.bytes.as_mut_ptr(),
+            creds.as_ptr(),
+            creds.len() as u64,
+            aces.as_ptr(),
+            aces.len() as u64,
+            clock,
+            record.as_ptr(),
+            record.len() as u64,
+            reply.as_mut_ptr(),
+            reply.len() as u64,
+            said.as_mut_ptr(),
+        )
     }
+    Outcome::of(&said, record)
+}
+
+/// Hands a record in.
+#[inline]
+#[must_use]
+pub fn hand_in(tables: &Tables, waiting: &mut Waiting, record: &[u8]) -> Outcome {
+    let ([t0, t1, t2, t3, t4], queue) = (parts(tables), waiting.bytes.as_mut_ptr());
+    let (length, mut said) = (record.len() as u64, [0; 9]);
+    unsafe { yardstick_hand_in_at(t0, t1, t2, t3, t4, queue, record.as_ptr(), length, said.as_mut_ptr()) }
+    Outcome::of(&said, record)
+}
+
+/// Takes the record whose turn it is.
+#[inline]
+#[must_use]
+pub fn take(tables: &mut Tables, waiting: &mut Waiting, defaults: Defaults, clock: u32, reply: &mut [u8]) -> Taken {
+    let Defaults { creds, aces } = defaults;
+    let [t0, t1, t2, t3, t4] = parts_mut(tables);
+    let (mut said, mut length, mut record) = ([0; 9], 0, [0; RECORD_MAX]);
+    unsafe {
+        yardstick_take_at(
+            t0,
+            t1,
+            t2,
+            t3,
+            t4,
+            waiting.bytes.as_mut_ptr(),
+            creds.as_ptr(),
+            creds.len() as u64,
+            aces.as_ptr(),
+            aces.len() as u64,
+            clock,
+            reply.as_mut_ptr(),
+            reply.len() as u64,
+            said.as_mut_ptr(),
+            &mut length,
+            record.as_mut_ptr(),
+        )
+    }
+    Taken { outcome: Outcome::of(&said, &record), record_length: length as usize, record }
+}
+
+/// Writes the access list as the office's JSON.
+#[inline]
+#[must_use]
+pub fn access_list(tables: &Tables, waiting: &Waiting, text: &mut [u8]) -> Listed {
+    let ([t0, t1, t2, t3, t4], queue) = (parts(tables), waiting.bytes.as_ptr());
+    let (capacity, mut said) = (text.len() as u64, [0; 2]);
+    unsafe { yardstick_access_list_at(t0, t1, t2, t3, t4, queue, text.as_mut_ptr(), capacity, said.as_mut_ptr()) }
+    Listed { answer: Answer(said[0] as u8), length: said[1] as usize }
+}
+
+/// Tests a list of access rows.
+#[inline]
+#[must_use]
+pub fn test_list(rows: &[u8]) -> Tested {
+    let mut said = [0; 2];
+    unsafe { yardstick_test_list_at(rows.as_ptr(), rows.len() as u64, said.as_mut_ptr()) }
+    Tested { answer: Answer(said[0] as u8), row: said[1] as usize }
+}
+
+/// Makes access rows of an older terminal's list.
+#[inline]
+#[must_use]
+pub fn convert_list(file: &[u8], rows: &mut [u8]) -> Converted {
+    let (length, capacity, mut said) = (file.len() as u64, rows.len() as u64, [0; 2]);
+    unsafe { yardstick_convert_list_at(file.as_ptr(), length, rows.as_mut_ptr(), capacity, said.as_mut_ptr()) }
+    Converted { answer: Answer(said[0] as u8), length: said[1] as usize }
+}
+
+/// Does nothing: a program that counts instructions sees it called, and so where one case ends.
+pub fn mark() {
+    unsafe { measured_mark() }
 }

@@ -1,6 +1,6 @@
 // Checks 13, 14 and 22: the rows that the action needs, and the room for a new one, or for a role.
 // Each check answers whether it refuses; the first refusal is returned at once.
-use roles::both_taken;
+use asserted_roles::both_taken;
 use row_body::ace_row;
 use row_body::cred_row;
 use row_format::capacity_of;
@@ -101,7 +101,7 @@ fn check_roles(clock: u32, cred: &[u8], a: Action, b: &[u8]) -> Check
 }
 
 // The first of the checks 13, 14 and 22 that applies to the action with this body, where `cred` is the sender's own row or no bytes.
-// Rules out: a full table that refuses a row whose number it holds; a deletion of rows that are not there; a role that is over counted for 22.
+// Rules out: a full table that refuses a row whose number it holds; a deletion of rows that are not there; an expired role counted for 22.
 pub fn check_rows<'a>(
     clock: u32,
     h: Head,

@@ -13,7 +13,7 @@ ghost use mathlib.Core.List.{[]};
 ghost use Prim.Native.Nat.{_*_};
 ghost use lib.ListN.{length};
 ghost use Rattle.rows.specs.Rows.{rowsOf, every};
-ghost use Rattle.rules.specs.Tables.{stride, storable, capacity, rowsSound, headSound, sound, tablesOf};
+ghost use Rattle.rules.specs.Tables.{stride, storable, capacity, rowsSound, headSound, sound, tablesOf, tableSize};
 ghost use Rattle.rules.specs.Words.{was, before};
 
 // Whether each of the first `count` rows is one that a body could store; one that is cut short is not.
@@ -38,7 +38,7 @@ pub fn rows_storable(table: Table, rows: &[u8], count: usize) -> bool
 }
 
 fn rows_sound(table: Table, count: usize, bytes: &[u8]) -> bool
-    requires { ⌜ length (now bytes) ≡ capacity table * stride table ⌝ }
+    requires { ⌜ length (now bytes) ≡ tableSize table ⌝ }
     ensures { λ r. ⌜ r ≡ rowsSound table count (was bytes) ⌝ }
 {
     let most = capacity_of(table);

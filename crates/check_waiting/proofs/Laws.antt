@@ -14,7 +14,7 @@ use Rattle.rules.specs.Checks.{verdict}
 use Rattle.rules.specs.Groups.{senderChecks}
 use Rattle.rules.proofs.BitLaws.{word-is}
 use Rattle.rules.proofs.Answers.{passed, long-enough}
-use Rattle.rules_waiting.specs.Slots.{seatOf, padded, slotOf, recordOf, roundBytes, roundOf, waiting}
+use Rattle.rules_waiting.specs.Slots.{seatOf, padded, slotOf, recordOf, roundBytes, roundOf, waiting, queueSize, slotSize}
 use Rattle.rules_waiting.specs.Terminal.{slotSound, queueSound}
 use Rattle.rules_waiting.proofs.SlotLaws.{short-record}
 
@@ -41,7 +41,7 @@ zeros-behind (suc n) m [] h = absurd (omega arith)
 zeros-behind (suc n) m (x ∷ b) h = rw (eq-eqb x x refl) (zeros-behind n m b (omega arith))
 
 -- the tests of a slot's bytes, joined as the code has them
-pub tested-slot : (w r : List ℕ) → length w ≡ 260 → r ≡ take (length r) (drop 4 w) → length r ≤ 256 → getD r 2 0 < 256 → getD r 3 0 < 256
+pub tested-slot : (w r : List ℕ) → length w ≡ slotSize → r ≡ take (length r) (drop 4 w) → length r ≤ 256 → getD r 2 0 < 256 → getD r 3 0 < 256
     → (((eqb (getD w 0 0) (getD r 2 0) && eqb (getD w 1 0) (getD r 3 0)) && (eqb (getD w 2 0) (length r / 256) && eqb (getD w 3 0) (length r % 256)))
     && allZero (drop (length r + 4) w))
     ≡ same w (slotOf r)
@@ -95,13 +95,13 @@ pub too-many : (ws : List Row) (m : List ℕ) → 25 < getD m 0 0 → false ≡ 
 unfolding queueSound
 too-many ws m l = sym (rw (lt-leb (getD m 0 0) 25 l, and-false))
 
-module _ (ws : List Row) (m : List ℕ) (six : length m ≡ 6504) (few : getD m 0 0 ≤ 25) where
+module _ (ws : List Row) (m : List ℕ) (six : length m ≡ queueSize) (few : getD m 0 0 ≤ 25) where
   abbrev part : List ℕ
   part = take (length m - 4) (drop 4 m)
 
-  pub tested : (r z s d : Bool) → r ≡ same (take 3 (drop 1 m)) (roundBytes (roundOf m)) → z ≡ allZero (drop (getD m 0 0 * 260) part)
-      → s ≡ every (slotSound ws) (rowsOf 260 (getD m 0 0) part) → d ≡ distinctNumbers (rowsOf 260 (getD m 0 0) part)
+  pub tested : (r z s d : Bool) → r ≡ same (take 3 (drop 1 m)) (roundBytes (roundOf m)) → z ≡ allZero (drop (getD m 0 0 * slotSize) part)
+      → s ≡ every (slotSound ws) (rowsOf slotSize (getD m 0 0) part) → d ≡ distinctNumbers (rowsOf slotSize (getD m 0 0) part)
       → (((r && z) && s) && d) ≡ queueSound ws m
   unfolding queueSound waiting
   tested r z s d hr hz hs hd =
-      rw (hr, hz, hs, hd, take-rest 4 m, eq-eqb (length m) 6504 six, le-leb (getD m 0 0) 25 few, min-eq-left few)
+      rw (hr, hz, hs, hd, take-rest 4 m, eq-eqb (length m) queueSize six, le-leb (getD m 0 0) 25 few, min-eq-left few)

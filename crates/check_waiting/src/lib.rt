@@ -16,7 +16,7 @@ ghost use Prim.Native.Nat.{_*_, _≤_};
 ghost use lib.ListN.{length, take, drop};
 ghost use Rattle.rows.specs.Rows.{rowsOf, every, same};
 ghost use Rattle.rules.specs.Checks.{refuseIf};
-ghost use Rattle.rules_waiting.specs.Slots.{slotOf, roundBytes, roundOf};
+ghost use Rattle.rules_waiting.specs.Slots.{slotOf, roundBytes, roundOf, slotSize};
 ghost use Rattle.rules_waiting.specs.Terminal.{terminal, slotSound, queueSound, soundTerminal};
 ghost use Rattle.rules.specs.Words.{was, before};
 ghost use Rattle.rules.specs.Tables.{rowsIn};
@@ -25,7 +25,7 @@ ghost use Rattle.rules.specs.declared.Table.the-variants.{Creds};
 // Whether the slot is the one that keeps the record in it: the sender's number, the record's length, and zeros behind.
 fn is_slot_of(slot: &[u8], rec: &[u8]) -> bool
     requires { ⌜
-        (length (now slot) ≡ 260)
+        (length (now slot) ≡ slotSize)
         × (now rec ≡ take (length (now rec)) (drop 4 (now slot)))
         × (4 ≤ length (now rec))
         × (length (now rec) ≤ 256) ⌝ }
@@ -39,7 +39,7 @@ fn is_slot_of(slot: &[u8], rec: &[u8]) -> bool
 }
 
 fn slot_sound(ncreds: u8, creds: &[u8; CRED_ROWS], slot: &[u8]) -> bool
-    requires { ⌜ length (now slot) ≡ 260 ⌝ }
+    requires { ⌜ length (now slot) ≡ slotSize ⌝ }
     ensures { λ r. ⌜ r ≡ slotSound (rowsIn Creds ncreds (was creds)) (was slot) ⌝ }
 {
     let rec = record_in(slot);
@@ -52,8 +52,8 @@ fn slot_sound(ncreds: u8, creds: &[u8; CRED_ROWS], slot: &[u8]) -> bool
 
 // Whether each of the first `count` slots is sound.
 fn slots_sound(ncreds: u8, creds: &[u8; CRED_ROWS], slots: &[u8], count: usize) -> bool
-    requires { ⌜ count * 260 ≤ length (now slots) ⌝ }
-    ensures { λ r. ⌜ r ≡ every (slotSound (rowsIn Creds ncreds (was creds))) (rowsOf 260 count (was slots)) ⌝ }
+    requires { ⌜ count * slotSize ≤ length (now slots) ⌝ }
+    ensures { λ r. ⌜ r ≡ every (slotSound (rowsIn Creds ncreds (was creds))) (rowsOf slotSize count (was slots)) ⌝ }
 {
     let mut rest = slots;
     let mut left = count;

@@ -25,10 +25,10 @@ check-by k p l a Pass = refl
 check-by k p l a (Refuse n) = refl
 
 -- the check of a decision is the verdict on its list
-pub check-granted : (clock : ℕ) (t : Tables) (k : Caller) (b : List ℕ) (room : ℕ)
-    → granted clock t k b room .check ≡ verdict (grantChecks clock t (callerRow t k) (k .header) b room)
+pub check-granted : (clock : ℕ) (t : Tables) (k : Caller) (b : List ℕ) (capacity : ℕ)
+    → granted clock t k b capacity .check ≡ verdict (grantChecks clock t (callerRow t k) (k .header) b capacity)
 unfolding granted
-check-granted clock t k b room = check-by k _ _ _ (verdict (grantChecks clock t (callerRow t k) (k .header) b room))
+check-granted clock t k b capacity = check-by k _ _ _ (verdict (grantChecks clock t (callerRow t k) (k .header) b capacity))
 
 pub check-decided : (t : Tables) (q : Request) → decided t q .check ≡ verdict (decisionChecks t q)
 unfolding decided

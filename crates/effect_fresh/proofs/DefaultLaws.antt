@@ -10,7 +10,7 @@ use Rattle.rows.proofs.Laws.{length-rowsOf, drop-replicate, take-rest, rowsOf-s
 use Rattle.rows.proofs.Kept.{AllLong, long-rowsOf, length-joined, rowsOf-packed}
 use Rattle.rules.specs.declared.Table.{Table}
 use Rattle.rules.specs.declared.Table.the-variants.{Creds, Aces}
-use Rattle.rules.specs.Tables.{stride, longest, capacity, rowFrom}
+use Rattle.rules.specs.Tables.{stride, longest, capacity, rowFrom, tableSize}
 use Rattle.rules.specs.Defaults.{listed, goodList, defaultRows}
 use Rattle.rules.proofs.BodyLaws.{two-fit}
 
@@ -70,33 +70,33 @@ listed-long k b = all-long k (rowsOf (longest k) (length b / longest k) b) (long
 pub listed-count : (k : Table) (b : List ℕ) → length (listed k b) ≡ length b / longest k
 listed-count k b = length-map (rowsOf (longest k) (length b / longest k) b) (rowFrom k) ∙ length-rowsOf (longest k) (length b / longest k) b
 
-module _ (k : Table) (b x : List ℕ) (few : length b / longest k ≤ 2) (over : x ≡ written (replicate (capacity k * stride k) 0) 0 (joined (listed k b))) where
-  pub listed-fits : length b / longest k * stride k ≤ capacity k * stride k
+module _ (k : Table) (b x : List ℕ) (few : length b / longest k ≤ 2) (over : x ≡ written (replicate (tableSize k) 0) 0 (joined (listed k b))) where
+  pub listed-fits : length b / longest k * stride k ≤ tableSize k
   listed-fits = let h : length b / longest k ≤ capacity k = omega (arith, few, two-fit k) in mul-le-mul-right (stride k) h
 
-  short : length (joined (listed k b)) ≤ length (replicate {A = ℕ} (capacity k * stride k) 0)
+  short : length (joined (listed k b)) ≤ length (replicate {A = ℕ} (tableSize k) 0)
   short = rw (length-replicate, length-joined (stride k) (listed k b) (listed-long k b), listed-count k b) listed-fits
 
-  pub listed-packed : x ≡ packed (capacity k * stride k) (listed k b)
+  pub listed-packed : x ≡ packed (tableSize k) (listed k b)
   unfolding packed
   listed-packed =
       over
-      ∙ written-start (replicate (capacity k * stride k) 0) (joined (listed k b)) short
-      ∙ ap (λ (z : List ℕ). joined (listed k b) ++ z) (drop-replicate (length (joined (listed k b))) (capacity k * stride k) 0)
+      ∙ written-start (replicate (tableSize k) 0) (joined (listed k b)) short
+      ∙ ap (λ (z : List ℕ). joined (listed k b) ++ z) (drop-replicate (length (joined (listed k b))) (tableSize k) 0)
 
   pub listed-rows : rowsOf (stride k) (length b / longest k) x ≡ listed k b
   listed-rows =
       ap (λ (l : List ℕ). rowsOf (stride k) (length b / longest k) l) listed-packed
-      ∙ ap (λ (n : ℕ). rowsOf (stride k) n (packed (capacity k * stride k) (listed k b))) (sym (listed-count k b))
-      ∙ rowsOf-packed (stride k) (capacity k * stride k) (listed k b) (listed-long k b)
+      ∙ ap (λ (n : ℕ). rowsOf (stride k) n (packed (tableSize k) (listed k b))) (sym (listed-count k b))
+      ∙ rowsOf-packed (stride k) (tableSize k) (listed k b) (listed-long k b)
 
-  pub listed-length : length x ≡ capacity k * stride k
+  pub listed-length : length x ≡ tableSize k
   listed-length = rw (over, written-length, length-replicate)
 
 -- ---- the default rows of a list, and their table
 
-pub good-table : (k : Table) (b x : List ℕ) → goodList k b ≡ true → x ≡ written (replicate (capacity k * stride k) 0) 0 (joined (listed k b))
-    → x ≡ packed (capacity k * stride k) (defaultRows k b)
+pub good-table : (k : Table) (b x : List ℕ) → goodList k b ≡ true → x ≡ written (replicate (tableSize k) 0) 0 (joined (listed k b))
+    → x ≡ packed (tableSize k) (defaultRows k b)
 unfolding defaultRows
 good-table k b x good over = rw good (listed-packed k b x (good-few k b good) over)
 
@@ -109,7 +109,7 @@ pub bad-none : (k : Table) (b : List ℕ) → goodList k b ≡ false → default
 unfolding defaultRows
 bad-none k b bad = rw bad
 
-pub bad-table : (k : Table) (b x : List ℕ) → goodList k b ≡ false → x ≡ replicate (capacity k * stride k) 0
-    → x ≡ packed (capacity k * stride k) (defaultRows k b)
+pub bad-table : (k : Table) (b x : List ℕ) → goodList k b ≡ false → x ≡ replicate (tableSize k) 0
+    → x ≡ packed (tableSize k) (defaultRows k b)
 unfolding packed joined
 bad-table k b x bad zeros = rw (bad-none k b bad, sub-zero) zeros

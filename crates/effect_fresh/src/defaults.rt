@@ -16,7 +16,7 @@ ghost use Prim.Native.Nat.{_*_, _≤_};
 ghost use lib.ListN.{length, replicate};
 ghost use Rattle.text.specs.Buffer.{written, Puts};
 ghost use Rattle.rows.specs.Rows.{joined, packed};
-ghost use Rattle.rules.specs.Tables.{tablesOf, stride, longest, capacity, rowFrom};
+ghost use Rattle.rules.specs.Tables.{tablesOf, longest, rowFrom, tableSize};
 ghost use Rattle.rules.specs.Defaults.{defaults, listed, goodList, defaultRows, fresh, cleared};
 
 // Bytes of the longest body that stores a row, in which a list has its rows.
@@ -59,7 +59,7 @@ fn put_listed(table: Table, out: &mut [u8], list: &[u8]) -> usize
 
 // Whether the list, with these rows over a table of zeros, is one that counts.
 fn good_list(table: Table, list: &[u8], rows: &[u8]) -> bool
-    requires { ⌜ now rows ≡ written (replicate (capacity table * stride table) 0) 0 (joined (listed table (now list))) ⌝ }
+    requires { ⌜ now rows ≡ written (replicate (tableSize table) 0) 0 (joined (listed table (now list))) ⌝ }
     ensures { λ r. ⌜ r ≡ goodList table (now (list .entry)) ⌝ }
 {
     let long = longest_of(table);
@@ -74,9 +74,9 @@ fn good_list(table: Table, list: &[u8], rows: &[u8]) -> bool
 
 // Makes the table with the default rows of a list, and says how many they are.
 fn put_defaults(table: Table, out: &mut [u8], list: &[u8]) -> usize
-    requires { ⌜ length (now out) ≡ capacity table * stride table ⌝ }
+    requires { ⌜ length (now out) ≡ tableSize table ⌝ }
     ensures { λ r. ⌜ (r ≡ length (defaultRows table (now (list .entry)))) × (r ≤ 2) ⌝ }
-    ensures { λ _. ⌜ now (out .exit) ≡ packed (capacity table * stride table) (defaultRows table (now (list .entry))) ⌝ }
+    ensures { λ _. ⌜ now (out .exit) ≡ packed (tableSize table) (defaultRows table (now (list .entry))) ⌝ }
 {
     rows_change::clear(out);
     put_listed(table, out, list);

@@ -18,7 +18,7 @@ use Rattle.rules.specs.StoreRange.{storeRangeOf}
 use Rattle.rules.specs.Links.{linksOf}
 use Rattle.rules.specs.Reading.{replyTo, replyOf, tooShort, filled}
 use Rattle.rules.specs.Checks.{verdict, checks}
-use Rattle.rules.specs.Groups.{senderChecks, formChecks, requestChecks, stateChecks, rowChecks, actionChecks, roomChecks}
+use Rattle.rules.specs.Groups.{senderChecks, formChecks, requestChecks, stateChecks, rowChecks, actionChecks, capacityChecks}
 use Rattle.rules.specs.Callers.{callerOf, callerRow}
 use Rattle.rules.specs.Decision.{grantChecks, decisionChecks, decisionBy, decided}
 use Rattle.rules.specs.Outcome.{Outcome, outcomeOf, outcomeAt, outcome, responseTo, judgementOf, effectBy}
@@ -71,7 +71,7 @@ module _ (t : Tables) (q : Request) (g : Decision) (is : g ≡ decided t q) (pas
   own = senderRow t (sender (q .bytes))
 
   abbrev behind : List (ℕ × Bool)
-  behind = grantChecks (q .clock) t own (headerOf (q .bytes)) (body (q .bytes)) (q .room)
+  behind = grantChecks (q .clock) t own (headerOf (q .bytes)) (body (q .bytes)) (q .capacity)
 
   grant-passes : verdict behind ≡ Pass
   grant-passes = rest-passes (senderChecks (rows Creds t) (q .bytes)) behind all-pass
@@ -80,20 +80,20 @@ module _ (t : Tables) (q : Request) (g : Decision) (is : g ≡ decided t q) (pas
   first-checks =
       actionChecks (q .clock) t own (permission (q .clock) t (q .bytes)) (headerOf (q .bytes)) (body (q .bytes)) (action (q .bytes))
 
-  abbrev room-checks : List (ℕ × Bool)
-  room-checks = roomChecks (q .room) (length (replyOf (q .clock) t (q .bytes)))
+  abbrev capacity-checks : List (ℕ × Bool)
+  capacity-checks = capacityChecks (q .capacity) (length (replyOf (q .clock) t (q .bytes)))
 
   -- the checks of the state and of the rows
   pub rows-pass : verdict (stateChecks (headOf t) (g .action) ++ rowChecks (q .clock) t own (body (q .bytes)) (g .action)) ≡ Pass
   rows-pass =
       rw action-is
       (rest-passes (requestChecks (permission (q .clock) t (q .bytes)) (headerOf (q .bytes)) (action (q .bytes)))
-      _ (front-passes first-checks room-checks grant-passes))
+      _ (front-passes first-checks capacity-checks grant-passes))
 
   -- the reply fits
-  pub reply-fits : length (replyOf (q .clock) t (q .bytes)) ≤ q .room
+  pub reply-fits : length (replyOf (q .clock) t (q .bytes)) ≤ q .capacity
   unfolding tooShort
-  reply-fits = ltb-false _ _ (passed room-checks (rest-passes first-checks room-checks grant-passes) 15)
+  reply-fits = ltb-false _ _ (passed capacity-checks (rest-passes first-checks capacity-checks grant-passes) 15)
 
   module _ (h : sound t ≡ true) where
     pub form-passes : verdict (formChecks t (q .bytes)) ≡ Pass
@@ -116,7 +116,7 @@ module _ (t : Tables) (q : Request) (g : Decision) (is : g ≡ decided t q) (pas
     unfolding outcome outcomeAt
     passes d = ap (outcomeOf d t (permission (q .clock) t (q .bytes)) q) whole
 
-    pub fills : (d : Defaults) (b b′ : List ℕ) (n : ℕ) {reply : List ℕ} → length b ≡ q .room → reply ≡ replyOf (q .clock) t (q .bytes) → Puts b 0 reply b′ n
+    pub fills : (d : Defaults) (b b′ : List ℕ) (n : ℕ) {reply : List ℕ} → length b ≡ q .capacity → reply ≡ replyOf (q .clock) t (q .bytes) → Puts b 0 reply b′ n
         → b′ ≡ filled b (responseTo d t q .contents)
     unfolding filled
     fills d b b′ n l e p =

@@ -18,6 +18,7 @@ use rules::ACES;
 use rules::CRED_ROWS;
 use rules::Head;
 use rules::Sender;
+use rules::Subject;
 use rules_isolation::Isolation;
 ghost use mathlib.Core.Path.{_≡_};
 ghost use Prim.Native.Nat.{_*_, _≤_, _<_};
@@ -30,6 +31,7 @@ ghost use Rattle.rules.specs.Isolation.{mayFit};
 ghost use Rattle.rules.specs.Words.{was, before};
 ghost use Rattle.rules_isolation.specs.declared.Isolation.the-variants.{Isolated};
 ghost use Rattle.rules_isolation.specs.Question.{entries, senderOf, letsAlter, entryAnswer, entriesAnswer, isolationOf};
+ghost use Rattle.rules.specs.Sizes.{aceRowSize};
 
 // ---- an access row
 
@@ -39,9 +41,10 @@ fn may_fit(cred: &[u8], connection: u16, ace: &[u8]) -> bool
 {
     let kind = ace::kind(ace);
     match kind {
-        0 => (cred.len() != 0) & rows::same_bytes(ace::subject(ace), cred::subject(cred)),
-        1 => connection == 1,
-        2 => ace::connection(ace) == connection,
+        Subject::UUID => (cred.len() != 0)
+            & rows::same_bytes(ace::subject(ace), cred::subject(cred)),
+        Subject::ROLE => connection == 1,
+        Subject::CONNECTION => ace::connection(ace) == connection,
         _ => false,
     }
 }
@@ -54,8 +57,8 @@ fn lets_alter(cred: &[u8], connection: u16, ace: &[u8]) -> bool
 
 // The place of the first row that may let the sender alter a security resource, from 0.
 fn altering_row(aces: &[u8], count: usize, cred: &[u8], connection: u16) -> Found
-    requires { ⌜ count * 36 ≤ length (now aces) ⌝ }
-    ensures { λ r. ⌜ r ≡ placeOf (letsAlter (was cred) connection) (rowsOf 36 count (was aces)) ⌝ }
+    requires { ⌜ count * aceRowSize ≤ length (now aces) ⌝ }
+    ensures { λ r. ⌜ r ≡ placeOf (letsAlter (was cred) connection) (rowsOf aceRowSize count (was aces)) ⌝ }
 {
     let mut i = 0;
     while i < count {

@@ -51,7 +51,7 @@ module _ (t : Tables) (m : List ℕ) (h : soundTerminal (terminal t m) ≡ true)
   all = every-without (slotSound (rows Creds t)) (hasKey 0 (turn (terminal t m))) (waiting m) (s .keeps)
 
   distinct : distinctNumbers others ≡ true
-  distinct = distinct-without (hasKey 0 (turn (terminal t m))) (waiting m) (s .apart)
+  distinct = distinct-without (hasKey 0 (turn (terminal t m))) (waiting m) (s .distinct)
 
   few : length others ≤ 25
   few = few-slots t others (s .tables) all distinct
@@ -71,31 +71,31 @@ module _ (t : Tables) (m : List ℕ) (h : soundTerminal (terminal t m) ≡ true)
 
 -- ---- the take
 
-module _ (d : Defaults) (t : Tables) (m : List ℕ) (clock room : ℕ) (c : Check) (told : c ≡ verdict (takeChecks (terminal t m))) where
+module _ (d : Defaults) (t : Tables) (m : List ℕ) (clock capacity : ℕ) (c : Check) (told : c ≡ verdict (takeChecks (terminal t m))) where
   pub ready : c ≡ Pass → (soundTerminal (terminal t m) ≡ true) × (eqb (length (waiting m)) 0 ≡ false)
   ready e = take-passed (terminal t m) (sym told ∙ e)
 
   module _ (e : c ≡ Pass) (q : Due) (is : q ≡ dueOf (terminal t m)) (bytes : List ℕ) (front : bytes ≡ take (q .size) (q .bytes)) where
     abbrev pub handed : Request
-    handed = received clock bytes room
+    handed = received clock bytes capacity
 
-    handed-is : handed ≡ received clock (due (terminal t m)) room
-    handed-is = ap (λ (r : List ℕ). received clock r room) (front ∙ prefix-is (terminal t m) q is)
+    handed-is : handed ≡ received clock (due (terminal t m)) capacity
+    handed-is = ap (λ (r : List ℕ). received clock r capacity) (front ∙ prefix-is (terminal t m) q is)
 
     -- by the memory that is left
     pub one-taken : (s : Said) (m′ b b′ : List ℕ) → s ≡ judgementOf (outcome d t handed) → b′ ≡ filled b (responseTo d t handed .contents)
         → m′ ≡ queueAfter d t handed (after (turn (terminal t m))) (without (hasKey 0 (turn (terminal t m))) (waiting m))
-        → Takes d (terminal t m) clock room (record { judgement = s; size = q .size; bytes = q .bytes }) b m′ b′
+        → Takes d (terminal t m) clock capacity (record { judgement = s; size = q .size; bytes = q .bytes }) b m′ b′
     unfolding taken
     one-taken s m′ b b′ f g h =
         let v : Pass ≡ verdict (takeChecks (terminal t m)) = sym e ∙ told in
         record { hands = rw (f, handed-is, is, ← v); leaves = record { keeps = rw (h, handed-is, ← v); fills = rw (g, handed-is, ← v) } }
 
-pub nothing-taken : (d : Defaults) (f : Head) (cs es m : List ℕ) (clock room : ℕ) (c : Check)
+pub nothing-taken : (d : Defaults) (f : Head) (cs es m : List ℕ) (clock capacity : ℕ) (c : Check)
     → c ≡ verdict (takeChecks (terminal (tablesOf f cs es) m)) → (n : ℕ) → c ≡ Refuse n
     → (j : Judgement) → j ≡ refusal f (numberOf c) → (z : List ℕ) → z ≡ replicate 256 0 → (b : List ℕ)
-    → Takes d (terminal (tablesOf f cs es) m) clock room (takenOf (record { judgement = j; size = 0; bytes = z }) cs es) b m b
+    → Takes d (terminal (tablesOf f cs es) m) clock capacity (takenOf (record { judgement = j; size = 0; bytes = z }) cs es) b m b
 unfolding taken padded filled
-nothing-taken d f cs es m clock room c told n e j i z l b =
+nothing-taken d f cs es m clock capacity c told n e j i z l b =
     let v : Refuse n ≡ verdict (takeChecks (terminal (tablesOf f cs es) m)) = sym e ∙ told in
     record { hands = rw (i, e, l, ← v); leaves = record { keeps = rw (← v); fills = rw (← v) } }

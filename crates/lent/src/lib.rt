@@ -61,7 +61,7 @@ pub fn words_of(j: Judgement) -> [u64; 9]
         j.payload as u64,
         j.reply as u64,
         places.first as u64,
-        places.many as u64,
+        places.count as u64,
         links.set,
         links.size as u64,
     ]

@@ -8,6 +8,7 @@ use Rattle.rules.specs.Checks.{verdict, numberOf}
 use Rattle.rules_legacy.specs.OldList.{badFile}
 use Rattle.rules_legacy.specs.Conversion.{rowsMade, tooManyRows, bufferTooShort, conversionVerdict, conversionReply}
 use Rattle.rules_legacy.proofs.Stored.{rows-size}
+use Rattle.rules.specs.Sizes.{aceRowSize}
 
 -- the file f, the buffer o before and o′ after, and what is told
 abbrev pub Ends : List ℕ → List ℕ → List ℕ → ℕ → ℕ → Type 0
@@ -26,14 +27,14 @@ module _ (f o : List ℕ) where
     too-many h = let l = lt-ltb 32 (length (rowsMade f)) (omega arith) in (rw (good, l), (rw (good, l), rw (good, l)))
 
     module _ (few : made ≤ 32) where
-      pub too-short : length o < made * 36 → Ends f o o 25 0
+      pub too-short : length o < made * aceRowSize → Ends f o o 25 0
       unfolding conversionReply conversionVerdict verdict filled tooManyRows bufferTooShort
       too-short h =
           let l = le-ltb 32 (length (rowsMade f)) (omega arith) in
           let s = lt-ltb (length o) (length (joined (rowsMade f))) (omega (arith, rows-size f)) in
           (rw (good, l, s), (rw (good, l, s), rw (good, l, s)))
 
-      pub all-put : {o′ : List ℕ} (r : ℕ) → made * 36 ≤ length o → Puts o 0 (joined (rowsMade f)) o′ r → Ends f o o′ 0 r
+      pub all-put : {o′ : List ℕ} (r : ℕ) → made * aceRowSize ≤ length o → Puts o 0 (joined (rowsMade f)) o′ r → Ends f o o′ 0 r
       unfolding conversionReply conversionVerdict verdict filled tooManyRows bufferTooShort
       all-put r h p =
           let l = le-ltb 32 (length (rowsMade f)) (omega arith) in

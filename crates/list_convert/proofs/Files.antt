@@ -43,20 +43,20 @@ entries-end n b h = rw (rows-end 25 n b h)
 
 -- ---- how many they are
 
-abbrev pub many : ℕ → List ℕ → ℕ
-many n b = length (allEntries (rowsOf 25 n b))
+abbrev pub count : ℕ → List ℕ → ℕ
+count n b = length (allEntries (rowsOf 25 n b))
 
-pub many-more : (n : ℕ) (b : List ℕ) → 0 < n → many n b ≡ length (entriesOf (take 25 b)) + many (n - 1) (take (length b - 25) (drop 25 b))
+pub many-more : (n : ℕ) (b : List ℕ) → 0 < n → count n b ≡ length (entriesOf (take 25 b)) + count (n - 1) (take (length b - 25) (drop 25 b))
 many-more n b h = ap length (entries-more n b h) ∙ length-append (entriesOf (take 25 b)) _
 
-pub many-end : (n : ℕ) (b : List ℕ) → n ≤ 0 → many n b ≡ 0
+pub many-end : (n : ℕ) (b : List ℕ) → n ≤ 0 → count n b ≡ 0
 many-end n b h = ap length (entries-end n b h)
 
 pub two-at-most : (o : Row) → length (entriesOf o) ≤ 2
 unfolding entriesOf
 two-at-most o = cond-cases (λ (es : List (List ℕ)). length es ≤ 2) (isAnybody o) (λ _. omega arith) (λ _. omega arith)
 
-pub twice-at-most : (n : ℕ) (b : List ℕ) → many n b ≤ n + n
+pub twice-at-most : (n : ℕ) (b : List ℕ) → count n b ≤ n + n
 unfolding allEntries rowsOf
 twice-at-most zero b = omega arith
 twice-at-most (suc n) b =

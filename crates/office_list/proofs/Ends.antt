@@ -13,19 +13,20 @@ use Rattle.rules.specs.Reading.{filled}
 use Rattle.rules.specs.Checks.{verdict, numberOf}
 use Rattle.rules_office.specs.Office.{comma, separated, rowText, rowsText, listText, seasonal, rowsWritten, officeText, officeVerdict, officeReply}
 use Rattle.rules_office.proofs.Bounds.{text-short}
+use Rattle.rules.specs.Sizes.{aceRowSize}
 
 -- the text of so many rows, those of a shorter period left out
 abbrev pub entries : Bool → ℕ → List ℕ → List ℕ
-entries first n b = separated first (map rowText (rowsWritten (rowsOf 36 n b)))
+entries first n b = separated first (map rowText (rowsWritten (rowsOf aceRowSize n b)))
 
 -- what one row adds
 abbrev pub entry : Bool → Row → List ℕ
 entry first w = cond (seasonal w) [] (comma first ++ rowText w)
 
 pub entries-take : (first : Bool) (n : ℕ) (b : List ℕ) → 0 < n
-    → entries first n b ≡ entry first (take 36 b) ++ entries (seasonal (take 36 b) && first) (n - 1) (take (length b - 36) (drop 36 b))
+    → entries first n b ≡ entry first (take aceRowSize b) ++ entries (seasonal (take aceRowSize b) && first) (n - 1) (take (length b - aceRowSize) (drop aceRowSize b))
 unfolding without
-entries-take first n b h = rw (rowsOf-suc 36 n b h, take-rest) (bool-cases (seasonal (take 36 b)) (λ e. rw e) (λ e. rw e))
+entries-take first n b h = rw (rowsOf-suc aceRowSize n b h, take-rest) (bool-cases (seasonal (take aceRowSize b)) (λ e. rw e) (λ e. rw e))
 
 pub entries-end : (first : Bool) (n : ℕ) (b : List ℕ) → n ≤ 0 → entries first n b ≡ []
 unfolding rowsOf without
@@ -33,11 +34,11 @@ entries-end first n b h = let e : n ≡ 0 = omega arith in ap (λ (k : ℕ). ent
 
 -- the list, in the three parts in which the code puts it
 pub list-puts : {o o₁ o₂ o₃ : List ℕ} {at r₁ r₂ r₃ : ℕ} (t : Tables) (n : ℕ) → length o ≤ largest → n ≡ min (t .naces) 32
-    → Puts o at (ascii "{\"aclist2\":[") o₁ r₁ → Puts o₁ r₁ (rowsText (rowsWritten (rowsOf 36 n (t .aces)))) o₂ r₂ → Puts o₂ r₂ (ascii "]}") o₃ r₃
+    → Puts o at (ascii "{\"aclist2\":[") o₁ r₁ → Puts o₁ r₁ (rowsText (rowsWritten (rowsOf aceRowSize n (t .aces)))) o₂ r₂ → Puts o₂ r₂ (ascii "]}") o₃ r₃
     → Puts o at (officeText t) o₃ r₃
 unfolding listText rowsIn joined
 list-puts t n h e p q r =
-    rw (← e, append-nil, ← append-assoc (ascii "{\"aclist2\":[") (rowsText (rowsWritten (rowsOf 36 n (t .aces)))) (ascii "]}"))
+    rw (← e, append-nil, ← append-assoc (ascii "{\"aclist2\":[") (rowsText (rowsWritten (rowsOf aceRowSize n (t .aces)))) (ascii "]}"))
     (puts-then h (puts-then h p q) r)
 
 -- ---- the three ends

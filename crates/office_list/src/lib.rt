@@ -22,6 +22,7 @@ ghost use Rattle.rules.specs.Reading.{filled};
 ghost use Rattle.rules.specs.Checks.{numberOf};
 ghost use Rattle.rules_waiting.specs.Terminal.{terminal};
 ghost use Rattle.rules_office.specs.Office.{comma, rowText, rowsText, seasonal, rowsWritten, officeText, officeVerdict, officeReply};
+ghost use Rattle.rules.specs.Sizes.{aceRowSize};
 
 // What the office is told: 0, 17 or 18, and how many bytes were written.
 #[repr(C)]
@@ -49,8 +50,8 @@ fn put_entry(out: &mut [u8], at: usize, first: bool, row: &[u8]) -> usize
 }
 
 fn put_rows(out: &mut [u8], at: usize, rows: &[u8], count: usize) -> usize
-    requires { ⌜ count * 36 ≤ length (now rows) ⌝ }
-    ensures { λ r. ⌜ Puts (now (out .entry)) at (rowsText (rowsWritten (rowsOf 36 count (now (rows .entry))))) (now (out .exit)) r ⌝ }
+    requires { ⌜ count * aceRowSize ≤ length (now rows) ⌝ }
+    ensures { λ r. ⌜ Puts (now (out .entry)) at (rowsText (rowsWritten (rowsOf aceRowSize count (now (rows .entry))))) (now (out .exit)) r ⌝ }
 {
     let mut p = at;
     let mut first = true;

@@ -13,7 +13,7 @@ use Rattle.rules.specs.Bits.{be16}
 use Rattle.rules.specs.declared.Table.the-variants.{Creds}
 use Rattle.rules.specs.Tables.{stride, capacity, rowsIn}
 use Rattle.rules.proofs.BitLaws.{word-is}
-use Rattle.rules_waiting.specs.Slots.{Seat, Round, after, seatOf, padded, slotOf, roundBytes, roundOf, waiting, queueOf}
+use Rattle.rules_waiting.specs.Slots.{Seat, Round, after, seatOf, padded, slotOf, roundBytes, roundOf, waiting, queueOf, queueSize, slotSize}
 use Rattle.rules_waiting.specs.Round.{nobody, seatsIn, held, orphaned}
 use Rattle.rules_waiting.specs.Terminal.{withRecord}
 use Rattle.queue.specs.Queue.{IsQueue}
@@ -56,17 +56,17 @@ module _ (m : List ℕ) (q : IsQueue m) where
   pub slots-long : length (slotsOf m) ≡ 6500
   slots-long = ap length (take-rest 4 m) ∙ length-drop 4 m ∙ omega (arith, q .long)
 
-  pub slots-table : IsTable 260 (getD m 0 0) (slotsOf m)
+  pub slots-table : IsTable slotSize (getD m 0 0) (slotsOf m)
   slots-table = rw (take-rest 4 m) (q .table)
 
-  pub slots-rows : rowsOf 260 (getD m 0 0) (slotsOf m) ≡ waiting m
+  pub slots-rows : rowsOf slotSize (getD m 0 0) (slotsOf m) ≡ waiting m
   unfolding waiting
   slots-rows = rw (take-rest 4 m, min-eq-left (q .few))
 
   front : length (take 4 m) ≡ 4
   front = length-take-le 4 m (omega (arith, q .long))
 
-  pub between-long : (last : List ℕ) → length last ≡ length (slotsOf m) → length (between m last) ≡ 6504
+  pub between-long : (last : List ℕ) → length last ≡ length (slotsOf m) → length (between m last) ≡ queueSize
   between-long last e = ap length (lent-rest 4 m last) ∙ length-append (take 4 m) last ∙ omega (arith, front, slots-long, e)
 
   between-slots : (last : List ℕ) → drop 4 (between m last) ≡ last
@@ -95,17 +95,17 @@ module _ (m : List ℕ) (q : IsQueue m) where
 
 module _ (m r s : List ℕ) (q : IsQueue m) (free : getD m 0 0 < 25) (made : s ≡ slotOf r) where
   abbrev rows : List Row
-  rows = stored s (rowsOf 260 (getD m 0 0) (slotsOf m))
+  rows = stored s (rowsOf slotSize (getD m 0 0) (slotsOf m))
 
   pub rows-few : length rows ≤ 25
   rows-few =
-      let few = length-rowsOf 260 (getD m 0 0) (slotsOf m) in
-      rw (length-stored s (rowsOf 260 (getD m 0 0) (slotsOf m)))
-      (cond-cases (λ (n : ℕ). n ≤ 25) (some (numberedAs s) (rowsOf 260 (getD m 0 0) (slotsOf m)))
+      let few = length-rowsOf slotSize (getD m 0 0) (slotsOf m) in
+      rw (length-stored s (rowsOf slotSize (getD m 0 0) (slotsOf m)))
+      (cond-cases (λ (n : ℕ). n ≤ 25) (some (numberedAs s) (rowsOf slotSize (getD m 0 0) (slotsOf m)))
       (λ _. omega arith) (λ _. omega arith))
 
-  pub room : length rows * 260 ≤ length (slotsOf m)
-  room = omega (arith, rows-few, slots-long m q)
+  pub fits : length rows * slotSize ≤ length (slotsOf m)
+  fits = omega (arith, rows-few, slots-long m q)
 
   pub kept-is : (left : ℕ) (last : List ℕ) → left ≡ length rows → last ≡ packed (length (slotsOf m)) rows → set (between m last) 0 left ≡ withRecord r m
   unfolding withRecord
@@ -174,10 +174,10 @@ module _ (count : ℕ) (creds : List ℕ) (p : Seat) (two : length p ≡ 2) (b :
       ∙ rw (sym (zero-seat p two b z) ∙ e, counted)
 
 -- the seat of slot i
-pub seat-gone : (ps : List Seat) (i : ℕ) (b : List ℕ) (p : Seat) → p ≡ take 2 (drop (i * 260) b) → (h : Bool) → h ≡ held ps p
-    → orphaned ps (take 260 (drop (i * 260) b)) ≡ not h
+pub seat-gone : (ps : List Seat) (i : ℕ) (b : List ℕ) (p : Seat) → p ≡ take 2 (drop (i * slotSize) b) → (h : Bool) → h ≡ held ps p
+    → orphaned ps (take slotSize (drop (i * slotSize) b)) ≡ not h
 unfolding orphaned
-seat-gone ps i b p is h e = rw (take-take 2 260 (drop (i * 260) b) (omega arith), ← is, e)
+seat-gone ps i b p is h e = rw (take-take 2 slotSize (drop (i * slotSize) b) (omega arith), ← is, e)
 
 -- ---- the round
 
@@ -193,5 +193,5 @@ pub round-bytes : (p : Seat) → length p ≡ 2 → 1 ∷ getD p 0 0 ∷ getD p 
 round-bytes p two = ap (λ (l : List ℕ). 1 ∷ l) (two-of p (omega arith) ∙ take-all 2 p (omega arith))
 
 -- slots without some are few
-pub few-left : (m : List ℕ) (q : IsQueue m) (p : Row → Bool) (n : ℕ) → n ≡ length (without p (rowsOf 260 (getD m 0 0) (slotsOf m))) → n ≤ 25
-few-left m q p n e = omega (arith, e, length-without p (rowsOf 260 (getD m 0 0) (slotsOf m)), length-rowsOf 260 (getD m 0 0) (slotsOf m), q .few)
+pub few-left : (m : List ℕ) (q : IsQueue m) (p : Row → Bool) (n : ℕ) → n ≡ length (without p (rowsOf slotSize (getD m 0 0) (slotsOf m))) → n ≤ 25
+few-left m q p n e = omega (arith, e, length-without p (rowsOf slotSize (getD m 0 0) (slotsOf m)), length-rowsOf slotSize (getD m 0 0) (slotsOf m), q .few)

@@ -3,7 +3,7 @@ use Rattle.rows.proofs.Prelude.{_≡_, _∙_, true, List, ℕ, _≤_, min, min-
 use Rattle.rows.proofs.Laws.{length-rowsOf}
 use Rattle.rows.proofs.Kept.{same-true}
 use Rattle.rules.specs.declared.Tables.{Tables}
-use Rattle.rules_waiting.specs.Slots.{waiting}
+use Rattle.rules_waiting.specs.Slots.{waiting, queueSize, slotSize}
 use Rattle.rules_waiting.specs.Terminal.{terminal, queueSound, soundTerminal}
 use Rattle.rules_waiting.proofs.SlotLaws.{queue-parts}
 use Rattle.rules_waiting.proofs.Sound.{terminal-parts}
@@ -14,7 +14,7 @@ use Rattle.rules.specs.declared.Table.the-variants.{Creds}
 pub queue-queue : (t : Tables) (m : List ℕ) → queueSound (rows Creds t) m ≡ true → IsQueue m
 queue-queue t m h =
     let p = queue-parts t m h in
-    let long : length m ≡ 6504 = eqb-true _ _ (p .long) in
+    let long : length m ≡ queueSize = eqb-true _ _ (p .long) in
     let few : getD m 0 0 ≤ 25 = leb-true _ _ (p .few) in
     record {
       long = long;
@@ -29,4 +29,4 @@ module _ (t : Tables) (m : List ℕ) (h : soundTerminal (terminal t m) ≡ true)
 
   pub count-is : length (waiting m) ≡ getD m 0 0
   unfolding waiting
-  count-is = length-rowsOf 260 (min (getD m 0 0) 25) (drop 4 m) ∙ min-eq-left (sound-queue .few)
+  count-is = length-rowsOf slotSize (min (getD m 0 0) 25) (drop 4 m) ∙ min-eq-left (sound-queue .few)

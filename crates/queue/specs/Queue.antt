@@ -4,10 +4,10 @@ use mathlib.Core.List.{List}
 use Prim.Native.Nat.{ℕ, _≤_}
 use lib.ListN.{length, take, drop, getD}
 use Rattle.rows.specs.Contracts.{IsTable}
-use Rattle.rules_waiting.specs.Slots.{slotLong, slotsMost, queueSize, roundBytes, roundOf}
+use Rattle.rules_waiting.specs.Slots.{slotSize, queueCapacity, queueSize, roundBytes, roundOf}
 
 pub record IsQueue (m : List ℕ) : Type 0 where
   pub long : length m ≡ queueSize
-  pub few : getD m 0 0 ≤ slotsMost
+  pub few : getD m 0 0 ≤ queueCapacity
   pub round : take 3 (drop 1 m) ≡ roundBytes (roundOf m)
-  pub table : IsTable slotLong (getD m 0 0) (drop 4 m)
+  pub table : IsTable slotSize (getD m 0 0) (drop 4 m)

@@ -17,7 +17,7 @@ ghost use Prim.Native.Nat.{_*_, _≤_, _<_};
 ghost use lib.ListN.{length, drop, getD};
 ghost use Rattle.rows.specs.Rows.{rowsOf, packed, without, hasKey};
 ghost use Rattle.rows.specs.Contracts.{IsTable};
-ghost use Rattle.rules_waiting.specs.Slots.{anew, after as afterSeat, slotOf, recordOf, roundBytes, roundOf, waiting, queueOf, emptyQueue};
+ghost use Rattle.rules_waiting.specs.Slots.{anew, after as afterSeat, slotOf, recordOf, roundBytes, roundOf, waiting, queueOf, emptyQueue, slotSize};
 ghost use Rattle.rules_waiting.specs.Round.{seatsIn, held as heldIn, orphaned, heldRound};
 ghost use Rattle.rules_waiting.specs.Terminal.{withRecord};
 ghost use Rattle.queue.specs.Queue.{IsQueue};
@@ -71,11 +71,11 @@ fn put_head(queue: &mut [u8], count: usize, round: [u8; 3])
 
 // Takes the slot of a seat out: the slots behind it move down. Returns how many are left.
 fn take_out(slots: &mut [u8], count: usize, seat: &[u8]) -> usize
-    requires { ⌜ IsTable 260 count (now slots) ⌝ }
-    ensures { λ r. ⌜ r ≡ length (without (hasKey 0 (now (seat .entry))) (rowsOf 260 count (now (slots .entry)))) ⌝ }
+    requires { ⌜ IsTable slotSize count (now slots) ⌝ }
+    ensures { λ r. ⌜ r ≡ length (without (hasKey 0 (now (seat .entry))) (rowsOf slotSize count (now (slots .entry)))) ⌝ }
     ensures { λ _. ⌜
         now (slots .exit)
-        ≡ packed (length (now (slots .entry))) (without (hasKey 0 (now (seat .entry))) (rowsOf 260 count (now (slots .entry)))) ⌝ }
+        ≡ packed (length (now (slots .entry))) (without (hasKey 0 (now (seat .entry))) (rowsOf slotSize count (now (slots .entry)))) ⌝ }
 {
     let used = count * SLOT;
     rows_change::remove(&mut slots[..used], SLOT, count, 0, seat)
@@ -110,11 +110,11 @@ fn seat_held(count: u8, creds: &[u8; CRED_ROWS], seat: &[u8]) -> bool
 
 // Takes out each slot whose seat is none of these rows'. Returns how many are left.
 fn drop_orphans(rows: u8, creds: &[u8; CRED_ROWS], slots: &mut [u8], count: usize) -> usize
-    requires { ⌜ IsTable 260 count (now slots) ⌝ }
-    ensures { λ r. ⌜ r ≡ length (without (orphaned (seatsIn rows (now (creds .entry)))) (rowsOf 260 count (now (slots .entry)))) ⌝ }
+    requires { ⌜ IsTable slotSize count (now slots) ⌝ }
+    ensures { λ r. ⌜ r ≡ length (without (orphaned (seatsIn rows (now (creds .entry)))) (rowsOf slotSize count (now (slots .entry)))) ⌝ }
     ensures { λ _. ⌜
         now (slots .exit)
-        ≡ packed (length (now (slots .entry))) (without (orphaned (seatsIn rows (now (creds .entry)))) (rowsOf 260 count (now (slots .entry)))) ⌝ }
+        ≡ packed (length (now (slots .entry))) (without (orphaned (seatsIn rows (now (creds .entry)))) (rowsOf slotSize count (now (slots .entry)))) ⌝ }
 {
     let mut n = count;
     let mut i = 0;

@@ -15,12 +15,12 @@ use Rattle.rules.specs.Tables.{rows, tablesOf}
 use Rattle.rules.specs.Outcome.{refusal, saidOf}
 use Rattle.rules.proofs.Answers.{passed, long-enough}
 use Rattle.rules.proofs.RecordLaws.{key-is}
-use Rattle.rules_waiting.specs.Slots.{seatOf, waiting}
+use Rattle.rules_waiting.specs.Slots.{seatOf, waiting, slotSize}
 use Rattle.rules_waiting.specs.Round.{occupied}
 use Rattle.rules_waiting.specs.Terminal.{terminal, handInChecks, handInOf, handedIn, said}
 use Rattle.rules_waiting.specs.Calls.{HandsIn}
 use Rattle.rules_waiting.proofs.SlotLaws.{short-record}
-use Rattle.rules_waiting.proofs.Sound.{hand-passed, hand-room}
+use Rattle.rules_waiting.proofs.Sound.{hand-passed, hand-fits}
 use Rattle.queue.specs.Queue.{IsQueue}
 use Rattle.queue.proofs.Queues.{sound-queue, count-is}
 use Rattle.rules.specs.declared.Table.the-variants.{Creds}
@@ -28,7 +28,7 @@ use Rattle.rules.specs.declared.Table.the-variants.{Creds}
 -- ---- check 26
 
 pub free-is : (m r : List ℕ) (at : Found) → getD m 0 0 ≤ 25 → 4 ≤ length r → getD r 2 0 < 256 → getD r 3 0 < 256
-    → at ≡ placeOf (hasKey 0 (take 2 (drop 2 r))) (rowsOf 260 (getD m 0 0) (take (length m - 4) (drop 4 m)))
+    → at ≡ placeOf (hasKey 0 (take 2 (drop 2 r))) (rowsOf slotSize (getD m 0 0) (take (length m - 4) (drop 4 m)))
     → occupied (waiting m) (seatOf r) ≡ isAt at
 unfolding occupied waiting seatOf
 free-is m r at few l a b e = rw (min-eq-left few, key-is r 2 l a b) (some-place 0 _ _ ∙ sym (ap isAt (rw (take-rest 4 m) at e)))
@@ -40,7 +40,7 @@ module _ (t : Tables) (m r : List ℕ) (e : verdict (handInChecks (terminal t m)
   can-keep =
       let h = not-false _ (passed (handInChecks (terminal t m) r) e 1) in
       let p = hand-passed (terminal t m) r e in
-      (sound-queue t m h, omega (arith, hand-room (terminal t m) r e, count-is t m h), long-enough r (passed (senderChecks (rows Creds t) r) p 2), short-record (rows Creds t) r p)
+      (sound-queue t m h, omega (arith, hand-fits (terminal t m) r e, count-is t m h), long-enough r (passed (senderChecks (rows Creds t) r) p 2), short-record (rows Creds t) r p)
 
 -- ---- the answer, and the memory
 

@@ -14,7 +14,7 @@ ghost use mathlib.Core.Path.{_≡_};
 ghost use Prim.Native.Nat.{_≤_};
 ghost use lib.ListN.{length, getD};
 ghost use Rattle.rules.specs.Checks.{refuseIf, verdict};
-ghost use Rattle.rules_waiting.specs.Slots.{seatOf, waiting};
+ghost use Rattle.rules_waiting.specs.Slots.{seatOf, waiting, queueSize};
 ghost use Rattle.rules_waiting.specs.Round.{occupied};
 ghost use Rattle.rules.specs.Outcome.{saidOf};
 ghost use Rattle.rules_waiting.specs.Terminal.{terminal, handInChecks};
@@ -23,7 +23,7 @@ ghost use Rattle.rules.specs.Words.{was, became, before};
 
 // Check 26: the sender's seat is occupied.
 fn check_free(queue: &[u8], rec: &[u8]) -> Check
-    requires { ⌜ (length (now queue) ≡ 6504) × (getD (now queue) 0 0 ≤ 25) × (4 ≤ length (now rec)) ⌝ }
+    requires { ⌜ (length (now queue) ≡ queueSize) × (getD (now queue) 0 0 ≤ 25) × (4 ≤ length (now rec)) ⌝ }
     ensures { λ c. ⌜ c ≡ refuseIf 26 (occupied (waiting (was queue)) (seatOf (was rec))) ⌝ }
 {
     let count = queue[0] as usize;

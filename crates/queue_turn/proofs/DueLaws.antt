@@ -11,7 +11,7 @@ use Rattle.rules.specs.declared.Tables.{Tables}
 use Rattle.rules.specs.declared.Table.the-variants.{Creds}
 use Rattle.rules.specs.Bits.{be16}
 use Rattle.rules.specs.Tables.{rows, stride, rowsIn}
-use Rattle.rules_waiting.specs.Slots.{Seat, seatOf, padded, slotOf, recordOf, roundOf, waiting}
+use Rattle.rules_waiting.specs.Slots.{Seat, seatOf, padded, slotOf, recordOf, roundOf, waiting, slotSize}
 use Rattle.rules_waiting.specs.Round.{nobody, seats, held, occupied, inTurn, firstInTurn}
 use Rattle.rules_waiting.specs.Terminal.{Terminal, terminal, slotSound, soundTerminal, turn, due}
 use Rattle.rules.proofs.OwnRow.{first-passes, first-every}
@@ -52,7 +52,7 @@ turn-some x h w =
 
 module _ (t : Tables) (m : List ℕ) (h : soundTerminal (terminal t m) ≡ true) where
   module _ (n : ℕ) (counted : n ≡ min (t .ncreds) 24) (at : Found)
-      (is : at ≡ slotIn (rowsOf 260 (getD m 0 0) (take (length m - 4) (drop 4 m)))
+      (is : at ≡ slotIn (rowsOf slotSize (getD m 0 0) (take (length m - 4) (drop 4 m)))
       (inTurn (roundOf m) (nobody ∷ map (take 2) (rowsOf (stride Creds) n (t .creds)))))
     where
       at-is : at ≡ slotIn (waiting m) (inTurn (roundOf m) (seats t))
@@ -71,13 +71,13 @@ module _ (t : Tables) (m : List ℕ) (h : soundTerminal (terminal t m) ≡ true)
 module _ (t : Tables) (m : List ℕ) (h : soundTerminal (terminal t m) ≡ true) (w : eqb (length (waiting m)) 0 ≡ false)
     (i : ℕ) (at : placeOf (hasKey 0 (turn (terminal t m))) (waiting m) ≡ At i) where
   abbrev slot : Row
-  slot = take 260 (drop (i * 260) (drop 4 m))
+  slot = take slotSize (drop (i * slotSize) (drop 4 m))
 
   found-row : (i < getD m 0 0) × (firstRow (hasKey 0 (turn (terminal t m))) (waiting m) ≡ slot)
   unfolding waiting
   found-row =
       let n : min (getD m 0 0) 25 ≡ getD m 0 0 = min-eq-left (sound-queue t m h .few) in
-      let f = place-row 260 (min (getD m 0 0) 25) i (hasKey 0 (turn (terminal t m))) (drop 4 m) at in
+      let f = place-row slotSize (min (getD m 0 0) 25) i (hasKey 0 (turn (terminal t m))) (drop 4 m) at in
       (rw n at (f .0), f .1)
 
   pub due-small : i < 25
@@ -92,7 +92,7 @@ module _ (t : Tables) (m : List ℕ) (h : soundTerminal (terminal t m) ≡ true)
       ap (slotSound (rows Creds t)) (sym (found-row .1))
       ∙ first-every (hasKey 0 (turn (terminal t m))) (slotSound (rows Creds t)) (waiting m) waits (terminal-parts (terminal t m) h .keeps)
 
-  pub slot-whole-long : length slot ≡ 260
+  pub slot-whole-long : length slot ≡ slotSize
   slot-whole-long = slot-length t slot slot-is-sound
 
   due-is : due (terminal t m) ≡ recordOf slot

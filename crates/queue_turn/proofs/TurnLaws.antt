@@ -6,11 +6,11 @@ use Rattle.rows.specs.declared.Found.{Found}
 use Rattle.rows.specs.declared.Found.the-variants.{At, Nothing}
 use Rattle.rows.specs.Rows.{Row, rowsOf, allZero, same, hasKey, some, rowsBefore}
 use Rattle.rows.specs.Contracts.{placeFrom, placeOf}
-use Rattle.rows.proofs.Laws.{found-cases, take-rest, a-row, next-room, rowsOf-suc, length-rowsOf, rowsOf-take, rowsOf-drop}
+use Rattle.rows.proofs.Laws.{found-cases, take-rest, a-row, next-fits, rowsOf-suc, length-rowsOf, rowsOf-take, rowsOf-drop}
 use Rattle.rules.specs.declared.Table.the-variants.{Creds}
 use Rattle.rules.specs.Bits.{be16}
 use Rattle.rules.specs.Tables.{stride}
-use Rattle.rules_waiting.specs.Slots.{Seat, Round, anew, after, roundOf}
+use Rattle.rules_waiting.specs.Slots.{Seat, Round, anew, after, roundOf, slotSize}
 use Rattle.rules_waiting.specs.Round.{nobody, held, start, inTurn}
 use Rattle.rules_waiting.proofs.SeatLaws.{index-bound}
 use Rattle.queue.proofs.Laws.{key-same, zero-seat}
@@ -27,25 +27,25 @@ slot-more ws left rest h = rw (rowsOf-suc (stride Creds) left rest h, take-take 
 
 module _ (creds slots : List ℕ) (count kept : ℕ) where
   pub record Inv (rest : List ℕ) (left : ℕ) : Type 0 where
-    pub room : left * stride Creds ≤ length rest
-    pub slot : slotIn (rowsOf 260 kept slots) (map (take 2) (rowsOf (stride Creds) count creds))
-        ≡ slotIn (rowsOf 260 kept slots) (map (take 2) (rowsOf (stride Creds) left rest))
+    pub fits : left * stride Creds ≤ length rest
+    pub slot : slotIn (rowsOf slotSize kept slots) (map (take 2) (rowsOf (stride Creds) count creds))
+        ≡ slotIn (rowsOf slotSize kept slots) (map (take 2) (rowsOf (stride Creds) left rest))
 
   module _ (rest : List ℕ) (left : ℕ) (inv : Inv rest left) (more : 0 < left) where
     pub row-here : (stride Creds) ≤ length rest
-    row-here = a-row (stride Creds) left rest more (inv .room)
+    row-here = a-row (stride Creds) left rest more (inv .fits)
 
-    module _ (at : Found) (is : at ≡ placeOf (hasKey 0 (take 2 rest)) (rowsOf 260 kept slots)) where
-      pub found : (i : ℕ) → at ≡ At i → At i ≡ slotIn (rowsOf 260 kept slots) (map (take 2) (rowsOf (stride Creds) count creds))
-      found i e = sym (inv .slot ∙ slot-more (rowsOf 260 kept slots) left rest more ∙ rw (sym is ∙ e))
+    module _ (at : Found) (is : at ≡ placeOf (hasKey 0 (take 2 rest)) (rowsOf slotSize kept slots)) where
+      pub found : (i : ℕ) → at ≡ At i → At i ≡ slotIn (rowsOf slotSize kept slots) (map (take 2) (rowsOf (stride Creds) count creds))
+      found i e = sym (inv .slot ∙ slot-more (rowsOf slotSize kept slots) left rest more ∙ rw (sym is ∙ e))
 
       pub again : at ≡ Nothing → Inv (take (length rest - (stride Creds)) (drop (stride Creds) rest)) (left - 1)
       again e = record {
-        room = next-room (stride Creds) left rest more (inv .room);
-        slot = inv .slot ∙ slot-more (rowsOf 260 kept slots) left rest more ∙ rw (sym is ∙ e, take-rest (stride Creds) rest);
+        fits = next-fits (stride Creds) left rest more (inv .fits);
+        slot = inv .slot ∙ slot-more (rowsOf slotSize kept slots) left rest more ∙ rw (sym is ∙ e, take-rest (stride Creds) rest);
       }
 
-  pub none : (rest : List ℕ) (left : ℕ) → Inv rest left → left ≤ 0 → Nothing ≡ slotIn (rowsOf 260 kept slots) (map (take 2) (rowsOf (stride Creds) count creds))
+  pub none : (rest : List ℕ) (left : ℕ) → Inv rest left → left ≤ 0 → Nothing ≡ slotIn (rowsOf slotSize kept slots) (map (take 2) (rowsOf (stride Creds) count creds))
   unfolding slotIn rowsOf
   none rest left inv h = let e : left ≡ 0 = omega arith in sym (inv .slot ∙ rw e)
 

@@ -20,15 +20,15 @@ ghost use Rattle.rows.specs.Contracts.{placeOf};
 ghost use Rattle.rows.specs.declared.Found.the-variants.{At};
 ghost use Rattle.rules.specs.declared.Table.the-variants.{Creds};
 ghost use Rattle.rules.specs.Tables.{stride, tablesOf};
-ghost use Rattle.rules_waiting.specs.Slots.{roundOf, waiting};
+ghost use Rattle.rules_waiting.specs.Slots.{roundOf, waiting, slotSize};
 ghost use Rattle.rules_waiting.specs.Round.{nobody, inTurn};
 ghost use Rattle.rules_waiting.specs.Terminal.{terminal, soundTerminal, turn};
 ghost use Rattle.queue_turn.specs.Turns.{slotIn, before, dueOf};
 
 // The slot of the first of these credential rows in whose seat a record waits.
 fn first_waiting(creds: &[u8], count: usize, slots: &[u8], kept: usize) -> Found
-    requires { ⌜ (count * stride Creds ≤ length (now creds)) × (kept * 260 ≤ length (now slots)) ⌝ }
-    ensures { λ r. ⌜ r ≡ slotIn (rowsOf 260 kept (now (slots .entry))) (map (take 2) (rowsOf (stride Creds) count (now (creds .entry)))) ⌝ }
+    requires { ⌜ (count * stride Creds ≤ length (now creds)) × (kept * slotSize ≤ length (now slots)) ⌝ }
+    ensures { λ r. ⌜ r ≡ slotIn (rowsOf slotSize kept (now (slots .entry))) (map (take 2) (rowsOf (stride Creds) count (now (creds .entry)))) ⌝ }
 {
     let mut rest = creds;
     let mut left = count;
@@ -62,9 +62,9 @@ fn rows_before(creds: &[u8], count: usize, m: &[u8]) -> usize
 
 // The slot of the coming take: that of the occupied seat that comes first in turn.
 fn next_slot(creds: &[u8], count: usize, m: &[u8], slots: &[u8], kept: usize) -> Found
-    requires { ⌜ (count * stride Creds ≤ length (now creds)) × (4 ≤ length (now m)) × (kept * 260 ≤ length (now slots)) ⌝ }
+    requires { ⌜ (count * stride Creds ≤ length (now creds)) × (4 ≤ length (now m)) × (kept * slotSize ≤ length (now slots)) ⌝ }
     ensures { λ r. ⌜
-        r ≡ slotIn (rowsOf 260 kept (now (slots .entry)))
+        r ≡ slotIn (rowsOf slotSize kept (now (slots .entry)))
         (inTurn (roundOf (now (m .entry))) (nobody ∷ map (take 2) (rowsOf (stride Creds) count (now (creds .entry))))) ⌝ }
 {
     let k = rows_before(creds, count, m);
@@ -98,7 +98,7 @@ fn due_slot<'a>(h: Head, creds: &'a [u8; CRED_ROWS], aces: &'a [u8; ACE_ROWS], m
 
 // The bytes behind a slot's head: its record, with zeros behind.
 fn record_bytes(slot: &[u8]) -> [u8; 256]
-    requires { ⌜ length (now slot) ≡ 260 ⌝ }
+    requires { ⌜ length (now slot) ≡ slotSize ⌝ }
     ensures { λ r. ⌜ r ≡ drop 4 (now (slot .entry)) ⌝ }
 {
     let mut bytes = [0; 256];

@@ -1,9 +1,9 @@
 // The reply to a RETRIEVE of a security resource: its bytes, their number, and check 15.
 // The resource's own body, its row owner, and its rows in table order, without asserted roles; of roles the sender's own in force.
 // One writer serves both: put into an empty buffer it only measures.
+use asserted_roles::put_roles;
 use caller::row_of;
 use fields::held;
-use roles::put_roles;
 use rows::Found;
 use rows::part;
 use rules::ACE_ROW;
@@ -35,6 +35,7 @@ ghost use Rattle.rules.specs.Callers.{callerRow};
 ghost use Rattle.rules.specs.Roles.{bodyOf};
 ghost use Rattle.rules.specs.Reading.{ownBody, rowBytes, contents, reads, replyTo, tooShort};
 ghost use Rattle.rules.specs.Words.{was, became, before};
+ghost use Rattle.rules.specs.Sizes.{credRowSize};
 
 fn put_owner(out: &mut [u8], at: usize, h: Head) -> usize
     ensures { λ r. ⌜ Puts (was out) at (ownBody h 0) (became out) r ⌝ }
@@ -55,8 +56,8 @@ fn put_own(out: &mut [u8], at: usize, h: Head, resource: u16) -> usize
 
 // Writes the bodies of the first `count` credential rows.
 fn put_bodies(out: &mut [u8], at: usize, creds: &[u8], count: usize) -> usize
-    requires { ⌜ count * 39 ≤ length (now creds) ⌝ }
-    ensures { λ r. ⌜ Puts (was out) at (joined (map bodyOf (rowsOf 39 count (was creds)))) (became out) r ⌝ }
+    requires { ⌜ count * credRowSize ≤ length (now creds) ⌝ }
+    ensures { λ r. ⌜ Puts (was out) at (joined (map bodyOf (rowsOf credRowSize count (was creds)))) (became out) r ⌝ }
 {
     let mut p = at;
     let mut rest = creds;

@@ -12,7 +12,7 @@ use Rattle.text.specs.Buffer.{written, largest, Puts}
 use Rattle.text.proofs.Decimals.{decimal-length}
 use Rattle.text.proofs.Buffers.{puts-then, puts-length, Writing, writing-start, writing-step, writing-end}
 use Rattle.report.specs.Run.{header, line, lineFor, cut, lengthOf, firstOf, restOf, isCut, linesFrom, lines, runText}
-use Rattle.report.specs.Room.{LineFits, LinesFit, Whole}
+use Rattle.report.specs.Fits.{LineFits, LinesFit, Whole}
 
 -- ---- a line
 

@@ -18,7 +18,7 @@ ghost use Rattle.text.specs.Buffer.{written, Puts, Counts};
 ghost use Rattle.rules.specs.Defaults.{noDefaults, fresh};
 ghost use Rattle.report.specs.Run.{lent, line, cut, lines, runText};
 ghost use Rattle.report.specs.Judged.{judgedAs};
-ghost use Rattle.report.specs.Room.{LineFits, LinesFit, Whole};
+ghost use Rattle.report.specs.Fits.{LineFits, LinesFit, Whole};
 
 // A number in decimal, and the byte after it.
 fn put_number(out: &mut [u8], at: usize, n: usize, after: u8) -> usize

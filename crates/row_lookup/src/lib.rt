@@ -135,7 +135,7 @@ fn gap<'a>(
     };
     StoreRange {
         first: first,
-        many: held_of(h, table) - first,
+        count: held_of(h, table) - first,
     }
 }
 

@@ -50,19 +50,19 @@ module _ (s count : ℕ) (b : List ℕ) where
   pub record SeenInv (l : List Bool) (i : ℕ) : Type 0 where
     pub inside : i ≤ count
     pub marks : length l ≡ 256
-    pub apart : beforeRepeat [] rows ≡ i + beforeRepeat (rowsOf s i b) (drop i rows)
+    pub distinct : beforeRepeat [] rows ≡ i + beforeRepeat (rowsOf s i b) (drop i rows)
     pub seen : every (marked l) (rowsOf s i b) ≡ true
 
   pub seen-start : (l : List Bool) → length l ≡ 256 → SeenInv l 0
   unfolding rowsOf every
-  seen-start l e = record { inside = omega arith; marks = e; apart = omega arith; seen = refl }
+  seen-start l e = record { inside = omega arith; marks = e; distinct = omega arith; seen = refl }
 
   pub seen-end : (l : List Bool) (i : ℕ) → SeenInv l i → count ≤ i → count ≡ beforeRepeat [] rows
   unfolding beforeRepeat
   seen-end l i inv h =
       let few : length rows ≤ i = rw length-rowsOf h in
       let n = inv .inside in
-      sym (inv .apart ∙ rw (drop-of-length-le rows few) (omega arith))
+      sym (inv .distinct ∙ rw (drop-of-length-le rows few) (omega arith))
 
   module _ (l : List Bool) (i : ℕ) (two : 2 ≤ s) (fits : count * s ≤ length b) (inv : SeenInv l i) (more : i < count) where
     abbrev row : Row
@@ -81,7 +81,7 @@ module _ (s count : ℕ) (b : List ℕ) where
     -- what row i decides
     one-more : beforeRepeat [] rows ≡ i + cond (some (numberedAs row) (rowsOf s i b)) 0 (suc (beforeRepeat (rowsOf s (suc i) b) (drop (suc i) rows)))
     unfolding beforeRepeat
-    one-more = inv .apart ∙ rw (from-row s count i b more, rowsOf-end s i b)
+    one-more = inv .distinct ∙ rw (from-row s count i b more, rowsOf-end s i b)
 
     pub again-first : some (numberedAs row) (rowsOf s i b) ≡ true → i ≡ beforeRepeat [] rows
     again-first e = sym (one-more ∙ rw e (omega arith))
@@ -94,7 +94,7 @@ module _ (s count : ℕ) (b : List ℕ) where
         record {
           inside = omega arith;
           marks = length-set l k true ∙ inv .marks;
-          apart = one-more ∙ rw (e, add-one i) (omega arith);
+          distinct = one-more ∙ rw (e, add-one i) (omega arith);
           seen =
               rw (add-one i, rowsOf-end s i b)
               (every-append (marked (set l k true)) (rowsOf s i b) (row ∷ [])

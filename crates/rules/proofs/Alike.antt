@@ -17,7 +17,7 @@ use Rattle.rules.specs.Bits.{be16}
 use Rattle.rules.specs.Directory.{links, someSecurity}
 use Rattle.rules.specs.Bodies.{newOwner, rowNumber, credSubject}
 use Rattle.rules.specs.Roles.{bodyOf, withoutRoles}
-use Rattle.rules.specs.Tables.{headOf, rowOf, rows, withRows, rowOwner, sound, withState, withOwner, withRowOwner}
+use Rattle.rules.specs.Tables.{headOf, rowOf, rows, withRows, rowOwner, sound, withState, withOwner, withRowOwner, tableSize}
 use Rattle.rules.specs.Permission.{numbered, senderRowIn, senderRow, connectionOf, isRow, subjectIs, names, isOwner, byOwner, byNoOwner, effectiveOf}
 use Rattle.rules.specs.Permission.{permission, permissionOf}
 use Rattle.rules.specs.States.{moveAllowed}
@@ -41,6 +41,7 @@ use Rattle.rules.proofs.RowMaps.{without-roles-body, part-same, goes-sa
 use Rattle.rules.proofs.RowMaps.{stored-map, bodies-map}
 use Rattle.rules.proofs.ReadBack.{long-rows}
 use Rattle.rules.proofs.OwnRow.{first-passes, numbered-two, number-is}
+use Rattle.rules.specs.Sizes.{credRowSize}
 
 -- ---- a sender's number has 16 bits
 
@@ -87,7 +88,7 @@ module _ (chosen : Sender → Bool) where
       cond-cases (λ (v : Row). length v ≡ length w) (chosen (Partner (rowNumber w)))
       (λ _. rw (length-append, length-take, length-replicate) (omega arith)) (λ _. refl)
 
-  all-hidden-long : (ws : List Row) → AllLong 39 ws → AllLong 39 (map (redacted chosen) ws)
+  all-hidden-long : (ws : List Row) → AllLong credRowSize ws → AllLong credRowSize (map (redacted chosen) ws)
   all-hidden-long [] a = tt
   all-hidden-long (w ∷ ws) a = (hidden-length w ∙ a .0, all-hidden-long ws (a .1))
 
@@ -299,10 +300,10 @@ unfolding redacted nobody
 none-hidden [] = refl
 none-hidden (w ∷ ws) = rw (none-hidden ws)
 
-pub compared-whole : (t : Tables) → length (t .creds) ≡ 936 → compared nobody t ≡ t
+pub compared-whole : (t : Tables) → length (t .creds) ≡ tableSize Creds → compared nobody t ≡ t
 compared-whole t l =
     bool-cases (sound t)
     (λ h.
-    let stands : packed 936 (rows Creds t) ≡ t .creds = ap₂ packed (sym l) (rows-are Creds t h) ∙ sym (kept 39 (t .ncreds) (t .creds) (table-is Creds t h l)) in
+    let stands : packed (tableSize Creds) (rows Creds t) ≡ t .creds = ap₂ packed (sym l) (rows-are Creds t h) ∙ sym (kept credRowSize (t .ncreds) (t .creds) (table-is Creds t h l)) in
     compared-at nobody t h ∙ rw (none-hidden (rows Creds t), rows-count Creds t h, stands))
     (λ h. compared-at nobody t h)

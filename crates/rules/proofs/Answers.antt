@@ -12,7 +12,7 @@ use Rattle.rules.specs.Record.{headerOf, Request}
 use Rattle.rules.specs.Reading.{replyOf, reads, replyTo, tooShort}
 use Rattle.rules.specs.Tables.{headOf, stride, capacity, storable, count, bytes, rows, rowsIn, rowsSound, headSound, sound}
 use Rattle.rules.specs.Checks.{verdict, badLength}
-use Rattle.rules.proofs.CheckLaws.{apart}
+use Rattle.rules.proofs.CheckLaws.{pass-not-refuse}
 
 -- the check with this number applies
 abbrev pub appliesIn : ℕ → List (ℕ × Bool) → Bool
@@ -23,7 +23,7 @@ appliesIn n (e ∷ es) = cond (eqb (e .0) n) (e .1) (appliesIn n es)
 pub passed : (es : List (ℕ × Bool)) → verdict es ≡ Pass → (n : ℕ) → appliesIn n es ≡ false
 unfolding verdict
 passed [] p n = refl
-passed ((m, true) ∷ es) p n = absurd (apart p refl)
+passed ((m, true) ∷ es) p n = absurd (pass-not-refuse p refl)
 passed ((m, false) ∷ es) p n = cond-cases (λ (b : Bool). b ≡ false) (eqb m n) (λ _. refl) (λ _. passed es p n)
 
 pub long-enough : (r : List ℕ) → badLength (length r) ≡ false → 4 ≤ length r
@@ -31,16 +31,16 @@ unfolding badLength
 long-enough r e = ltb-false (length r) 4 (or-left (ltb (length r) 4) (ltb 256 (length r)) e)
 
 -- a reply of no bytes fits any buffer
-pub no-reply-fits : (t : Tables) (q : Request) → reads (headerOf (q .bytes)) ≡ false → tooShort (q .room) (length (replyOf (q .clock) t (q .bytes))) ≡ false
+pub no-reply-fits : (t : Tables) (q : Request) → reads (headerOf (q .bytes)) ≡ false → tooShort (q .capacity) (length (replyOf (q .clock) t (q .bytes))) ≡ false
 unfolding tooShort replyTo
-no-reply-fits t q e = rw e (le-ltb (q .room) 0 (omega arith))
+no-reply-fits t q e = rw e (le-ltb (q .capacity) 0 (omega arith))
 
 -- the parts of soundness
 pub record RowsSound (k : Table) (n : ℕ) (b : List ℕ) : Type 0 where
   pub few : n ≤ capacity k
   pub unused : allZero (drop (n * stride k) b) ≡ true
   pub stores : every (storable k) (rowsIn k n b) ≡ true
-  pub apart : distinctNumbers (rowsIn k n b) ≡ true
+  pub distinct : distinctNumbers (rowsIn k n b) ≡ true
 
 pub rows-parts : (k : Table) (n : ℕ) (b : List ℕ) → rowsSound k n b ≡ true → RowsSound k n b
 unfolding rowsSound

@@ -33,18 +33,18 @@ module _ (h i j k : ℕ) (b : List ℕ) (few : length b ≤ 252) where
     unfolding reads bits bit
     unread = (rw (plain, and-false), rw (plain, and-false))
 
-    pub any-body : (d : Defaults) (t : Tables) (clock room : ℕ)
-        → responseTo d t (received clock whole room) .answer ≡ responseTo d t (received clock bare room) .answer
+    pub any-body : (d : Defaults) (t : Tables) (clock capacity : ℕ)
+        → responseTo d t (received clock whole capacity) .answer ≡ responseTo d t (received clock bare capacity) .answer
     unfolding badLength noVerb zeroBitSet mismatch unknownResource noCredential noEndpoint notPermitted permissionOf notOffered actionOf bits bit
-    any-body d t clock room =
-        let e : verdict (checks t (permission clock t whole) (received clock whole room))
-        ≡ verdict (checks t (permission clock t bare) (received clock bare room)) =
+    any-body d t clock capacity =
+        let e : verdict (checks t (permission clock t whole) (received clock whole capacity))
+        ≡ verdict (checks t (permission clock t bare) (received clock bare capacity)) =
         rw (
-          no-reply-fits t (received clock whole room) (unread .0),
-          no-reply-fits t (received clock bare room) (unread .1),
+          no-reply-fits t (received clock whole capacity) (unread .0),
+          no-reply-fits t (received clock bare capacity) (unread .1),
           le-ltb (length whole) 4 (omega arith),
           le-ltb 256 (length whole) (omega arith),
           sender-same,
           plain,
         ) in
-        answer-is d t (received clock whole room) ∙ ap numberOf e ∙ sym (answer-is d t (received clock bare room))
+        answer-is d t (received clock whole capacity) ∙ ap numberOf e ∙ sym (answer-is d t (received clock bare capacity))

@@ -38,7 +38,7 @@ subject-answers = refl
 -- ---- places (U4): of the same deletes, of one row by its number, of all rows, of all rows of an empty table, and of a row that is not there
 
 pub at-places : ℕ → ℕ → StoreRange
-at-places first many = record { first = first; many = many }
+at-places first count = record { first = first; count = count }
 
 pub places-told :
     responseTo noDefaults several (deletes (replicate 16 0x22)) .places

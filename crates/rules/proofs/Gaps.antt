@@ -16,13 +16,14 @@ use Rattle.rules.specs.declared.Table.the-variants.{Creds, Aces}
 use Rattle.rules.specs.Bits.{be16}
 use Rattle.rules.specs.Bodies.{rowNumber, credStorable, aceStorable}
 use Rattle.rules.specs.Roles.{bodyOf}
-use Rattle.rules.specs.Tables.{headOf, stride, capacity, storable, count, bytes, rows, withRows, sound}
+use Rattle.rules.specs.Tables.{headOf, stride, capacity, storable, count, bytes, rows, withRows, sound, tableSize}
 use Rattle.rules.specs.StoreRange.{gapOf, overwritten}
 use Rattle.rules.proofs.Answers.{table-parts, rows-are}
 use Rattle.rules.proofs.BodyLaws.{sized, two-long}
 use Rattle.rules.proofs.TableLaws.{table-is, few-rows}
 use Rattle.rules.proofs.RoleLaws.{held-parts}
 use Rattle.rules.proofs.OwnRow.{number-is}
+use Rattle.rules.specs.Sizes.{credBodySize}
 
 -- ---- a row that a body could store has a number
 
@@ -31,7 +32,7 @@ unfolding credStorable aceStorable be16
 has-number Creds w h e =
     let s = held-parts w h .body in
     let n : not (eqb (rowNumber (bodyOf w)) 0) ≡ true = search (and-left, and-right) in
-    contradiction (eq-eqb (rowNumber (bodyOf w)) 0 (number-is (bodyOf w) 0 (omega arith) (take-take 2 23 w (omega arith) ∙ e))) (not-true _ n)
+    contradiction (eq-eqb (rowNumber (bodyOf w)) 0 (number-is (bodyOf w) 0 (omega arith) (take-take 2 credBodySize w (omega arith) ∙ e))) (not-true _ n)
 has-number Aces w h e =
     let n : not (eqb (rowNumber w) 0) ≡ true = search (and-left, and-right) in
     contradiction (eq-eqb (rowNumber w) 0 (number-is w 0 (omega arith) e)) (not-true _ n)
@@ -44,7 +45,7 @@ numbered k (w ∷ ws) h =
 
 -- ---- in the tables
 
-with-bytes : (k : Table) (t : Tables) (ws : List Row) → bytes k (withRows k t ws) ≡ packed (capacity k * stride k) ws
+with-bytes : (k : Table) (t : Tables) (ws : List Row) → bytes k (withRows k t ws) ≡ packed (tableSize k) ws
 with-bytes Creds t ws = refl
 with-bytes Aces t ws = refl
 
@@ -52,19 +53,19 @@ pub with-count : (k : Table) (t : Tables) (ws : List Row) → count k (headOf (w
 with-count Creds t ws = refl
 with-count Aces t ws = refl
 
-place-room : (k : Table) (i : ℕ) → i < capacity k → i * stride k + stride k ≤ capacity k * stride k
-place-room k i h = omega (arith, suc-mul i (stride k), mul-le-mul-right (stride k) h)
+place-fits : (k : Table) (i : ℕ) → i < capacity k → i * stride k + stride k ≤ tableSize k
+place-fits k i h = omega (arith, suc-mul i (stride k), mul-le-mul-right (stride k) h)
 
 -- where no other byte changes, the old bytes with the places overwritten are the new ones
 overwritten-is : (s : ℕ) (p : StoreRange) (old new : List ℕ)
     → take (p .first * s) new ≡ take (p .first * s) old
-    → drop ((p .first + p .many) * s) new ≡ drop ((p .first + p .many) * s) old
+    → drop ((p .first + p .count) * s) new ≡ drop ((p .first + p .count) * s) old
     → overwritten s p old new ≡ new
 unfolding overwritten
 overwritten-is s p old new front rest =
-    rw (← front, ← rest, add-mul, ← drop-drop (p .many * s) (p .first * s) new, take-append-drop, take-append-drop)
+    rw (← front, ← rest, add-mul, ← drop-drop (p .count * s) (p .first * s) new, take-append-drop, take-append-drop)
 
-module _ (k : Table) (t : Tables) (goes : Row → Bool) (h : sound t ≡ true) (l : length (bytes k t) ≡ capacity k * stride k) where
+module _ (k : Table) (t : Tables) (goes : Row → Bool) (h : sound t ≡ true) (l : length (bytes k t) ≡ tableSize k) where
   -- the tables without these rows
   abbrev after : Tables
   after = withRows k t (without goes (rows k t))
@@ -75,20 +76,20 @@ module _ (k : Table) (t : Tables) (goes : Row → Bool) (h : sound t ≡ true) (
   long′ : AllLong (stride k) (without goes (rows k t))
   long′ = every-long (stride k) (storable k) (sized k) (without goes (rows k t)) (every-without (storable k) goes (rows k t) (table-parts k t h .stores))
 
-  stands : bytes k t ≡ packed (capacity k * stride k) (rows k t)
+  stands : bytes k t ≡ packed (tableSize k) (rows k t)
   stands = rw (l, ← rows-are k t h) at (kept (stride k) (count k (headOf t)) (bytes k t) (table-is k t h l))
 
   -- and after it
-  stand : bytes k after ≡ packed (capacity k * stride k) (without goes (rows k t))
+  stand : bytes k after ≡ packed (tableSize k) (without goes (rows k t))
   stand = with-bytes k t (without goes (rows k t))
 
   -- what is read of both
-  as-packed : (f : List ℕ → List ℕ) → f (packed (capacity k * stride k) (without goes (rows k t))) ≡ f (packed (capacity k * stride k) (rows k t))
+  as-packed : (f : List ℕ → List ℕ) → f (packed (tableSize k) (without goes (rows k t))) ≡ f (packed (tableSize k) (rows k t))
       → f (bytes k after) ≡ f (bytes k t)
   as-packed f e = ap f stand ∙ e ∙ ap f (sym stands)
 
   -- each reported place holds another row number than before
-  pub places-changed : (i : ℕ) → gapOf goes (rows k t) .first ≤ i → i < gapOf goes (rows k t) .first + gapOf goes (rows k t) .many
+  pub places-changed : (i : ℕ) → gapOf goes (rows k t) .first ≤ i → i < gapOf goes (rows k t) .first + gapOf goes (rows k t) .count
       → numberAt (stride k) i (bytes k after) ≡ numberAt (stride k) i (bytes k t) → ⊥
   unfolding gapOf
   places-changed i f m e =
@@ -96,14 +97,14 @@ module _ (k : Table) (t : Tables) (goes : Row → Bool) (h : sound t ≡ true) (
       (λ s.
       let first = rw s at f in
       let n : i < length (rows k t) = omega (arith, rw s at m, gap.before-all goes (rows k t)) in
-      gap.gap-changed goes (stride k) (capacity k * stride k) (rows k t) (two-long k) long
-      long′ i (table-parts k t h .apart) (numbered k (rows k t) (table-parts k t h .stores))
-      (place-room k i (omega (arith, few-rows k t h))) first n (ap (numberAt (stride k) i) (sym stand) ∙ e ∙ ap (numberAt (stride k) i) stands))
+      gap.gap-changed goes (stride k) (tableSize k) (rows k t) (two-long k) long
+      long′ i (table-parts k t h .distinct) (numbered k (rows k t) (table-parts k t h .stores))
+      (place-fits k i (omega (arith, few-rows k t h))) first n (ap (numberAt (stride k) i) (sym stand) ∙ e ∙ ap (numberAt (stride k) i) stands))
       (λ s. omega (arith, rw s at m))
 
   -- where no row goes, the bytes are the same
   none-same : some goes (rows k t) ≡ false → bytes k after ≡ bytes k t
-  none-same e = stand ∙ ap (packed (capacity k * stride k)) (gap.none-goes goes (rows k t) e) ∙ sym stands
+  none-same e = stand ∙ ap (packed (tableSize k)) (gap.none-goes goes (rows k t) e) ∙ sym stands
 
   -- no other place does: before the first
   pub places-before : (i : ℕ) → i < gapOf goes (rows k t) .first → numberAt (stride k) i (bytes k after) ≡ numberAt (stride k) i (bytes k t)
@@ -111,26 +112,26 @@ module _ (k : Table) (t : Tables) (goes : Row → Bool) (h : sound t ≡ true) (
   places-before i m =
       bool-cases (some goes (rows k t))
       (λ s. as-packed (numberAt (stride k) i)
-      (gap.gap-before goes (stride k) (capacity k * stride k) (rows k t) (two-long k) long long′ i (gap.before-all goes (rows k t)) (rw s at m)))
+      (gap.gap-before goes (stride k) (tableSize k) (rows k t) (two-long k) long long′ i (gap.before-all goes (rows k t)) (rw s at m)))
       (λ s. absurd (omega (arith, rw s at m)))
 
   -- nor after the last
-  pub places-after : (i : ℕ) → gapOf goes (rows k t) .first + gapOf goes (rows k t) .many ≤ i → i < capacity k
+  pub places-after : (i : ℕ) → gapOf goes (rows k t) .first + gapOf goes (rows k t) .count ≤ i → i < capacity k
       → numberAt (stride k) i (bytes k after) ≡ numberAt (stride k) i (bytes k t)
   unfolding gapOf
   places-after i m c =
       bool-cases (some goes (rows k t))
       (λ s. as-packed (numberAt (stride k) i)
-      (gap.gap-after goes (stride k) (capacity k * stride k) (rows k t) (two-long k) long long′ i
-      (length-without goes (rows k t)) (omega (arith, rw s at m, gap.before-all goes (rows k t))) (place-room k i c)))
+      (gap.gap-after goes (stride k) (tableSize k) (rows k t) (two-long k) long long′ i
+      (length-without goes (rows k t)) (omega (arith, rw s at m, gap.before-all goes (rows k t))) (place-fits k i c)))
       (λ s. ap (numberAt (stride k) i) (none-same s))
 
   -- an unused place has number 0
   pub places-unused : (i : ℕ) → count k (headOf after) ≤ i → i < capacity k → numberAt (stride k) i (bytes k after) ≡ 0 ∷ 0 ∷ []
   places-unused i m c =
       rw stand
-      (gap.number-unused (stride k) (capacity k * stride k) i (without goes (rows k t)) long′ (two-long k)
-      (omega (arith, with-count k t (without goes (rows k t)))) (place-room k i c))
+      (gap.number-unused (stride k) (tableSize k) i (without goes (rows k t)) long′ (two-long k)
+      (omega (arith, with-count k t (without goes (rows k t)))) (place-fits k i c))
 
   -- and no byte of a row before the first is written
   pub bytes-kept : take (gapOf goes (rows k t) .first * stride k) (bytes k after) ≡ take (gapOf goes (rows k t) .first * stride k) (bytes k t)
@@ -138,21 +139,21 @@ module _ (k : Table) (t : Tables) (goes : Row → Bool) (h : sound t ≡ true) (
   bytes-kept =
       bool-cases (some goes (rows k t))
       (λ s. rw s (as-packed (take (rowsBefore goes (rows k t) * stride k))
-      (gap.bytes-before goes (stride k) (capacity k * stride k) (rows k t) long long′ (gap.before-all goes (rows k t)))))
+      (gap.bytes-before goes (stride k) (tableSize k) (rows k t) long long′ (gap.before-all goes (rows k t)))))
       (λ s. rw (none-same s))
 
   -- nor a byte behind the last
   pub bytes-rest :
-      drop ((gapOf goes (rows k t) .first + gapOf goes (rows k t) .many) * stride k) (bytes k after)
-      ≡ drop ((gapOf goes (rows k t) .first + gapOf goes (rows k t) .many) * stride k) (bytes k t)
+      drop ((gapOf goes (rows k t) .first + gapOf goes (rows k t) .count) * stride k) (bytes k after)
+      ≡ drop ((gapOf goes (rows k t) .first + gapOf goes (rows k t) .count) * stride k) (bytes k t)
   unfolding gapOf
   bytes-rest =
       bool-cases (some goes (rows k t))
       (λ s.
       let n = rowsBefore goes (rows k t) + (length (rows k t) - rowsBefore goes (rows k t)) in
       rw s (as-packed (drop (n * stride k))
-      (gap.bytes-behind (stride k) (capacity k * stride k) n (without goes (rows k t)) long′ (omega (arith, length-without goes (rows k t)))
-      ∙ sym (gap.bytes-behind (stride k) (capacity k * stride k) n (rows k t) long (omega arith)))))
+      (gap.bytes-behind (stride k) (tableSize k) n (without goes (rows k t)) long′ (omega (arith, length-without goes (rows k t)))
+      ∙ sym (gap.bytes-behind (stride k) (tableSize k) n (rows k t) long (omega arith)))))
       (λ s. rw (none-same s))
 
   -- so storing the places leaves the new bytes

@@ -12,5 +12,5 @@ use Rattle.rules.specs.Permission.{senderRow}
 
 pub groups-joined : (t : Tables) (q : Request) → let r = q .bytes in
     checks t (permission (q .clock) t r) q
-    ≡ formChecks t r ++ grantChecks (q .clock) t (senderRow t (sender r)) (headerOf r) (body r) (q .room)
+    ≡ formChecks t r ++ grantChecks (q .clock) t (senderRow t (sender r)) (headerOf r) (body r) (q .capacity)
 groups-joined t q = refl

@@ -21,6 +21,7 @@ use Rattle.rules.proofs.RecordLaws.{sender-partner}
 use Rattle.rules.proofs.Answers.{long-enough, table-parts}
 use Rattle.rules.proofs.BodyLaws.{Valid}
 use Rattle.rules.proofs.RoleLaws.{Held, held-parts, asserted-body}
+use Rattle.rules.specs.Sizes.{credBodySize}
 
 -- ---- the first row that passes a test
 
@@ -87,9 +88,9 @@ module _ (t : Tables) (r : List ℕ) (h : sound t ≡ true) (a : Asserts t r) wh
   module _ (clock : ℕ) (b : List ℕ) where
     pub asserted-two : take 2 (asserted clock b (senderRow t (sender r))) ≡ be16 (a .number)
     asserted-two =
-        sym (take-take 2 23 (asserted clock b (senderRow t (sender r))) (omega arith))
+        sym (take-take 2 credBodySize (asserted clock b (senderRow t (sender r))) (omega arith))
         ∙ ap (take 2) (asserted-body clock b (senderRow t (sender r)) own-held)
-        ∙ take-take 2 23 (senderRow t (sender r)) (omega arith)
+        ∙ take-take 2 credBodySize (senderRow t (sender r)) (omega arith)
         ∙ own-two
 
     pub asserted-number : some (numberedAs (asserted clock b (senderRow t (sender r)))) (rows Creds t) ≡ true

@@ -12,7 +12,7 @@ use Rattle.rules.specs.declared.Table.{Table}
 use Rattle.rules.specs.declared.Table.the-variants.{Creds, Aces}
 use Rattle.rules.specs.Directory.{roles}
 use Rattle.rules.specs.Record.{headerOf, resource, sender}
-use Rattle.rules.specs.Tables.{headOf, stride, longest, storable, rowOf, rows, rowOwner, sound}
+use Rattle.rules.specs.Tables.{headOf, stride, longest, storable, rowOf, rows, rowOwner, sound, tableSize}
 use Rattle.rules.specs.Bodies.{credRowOf, aceRowOf}
 use Rattle.rules.specs.Roles.{bodyOf, withoutRoles, rolesInForce}
 use Rattle.rules.specs.Permission.{senderRow}
@@ -22,6 +22,7 @@ use Rattle.rules.proofs.BodyLaws.{sized, positive}
 use Rattle.rules.proofs.TableLaws.{few-rows}
 use Rattle.rules.proofs.RoleLaws.{body-long, in-force-short}
 use Rattle.rules.proofs.RowMaps.{without-roles-body, distinct-map}
+use Rattle.rules.specs.Sizes.{aceRowSize, credBodySize, credRowSize}
 
 -- each row's body
 abbrev pub bodies : Table → List Row → List (List ℕ)
@@ -41,7 +42,7 @@ owner-long Aces t l = length-take-le 16 (drop 48 (t .rowners)) (rw length-drop (
 pub long-rows : (k : Table) (t : Tables) → sound t ≡ true → AllLong (stride k) (rows k t)
 long-rows k t h = every-long (stride k) (storable k) (sized k) (rows k t) (table-parts k t h .stores)
 
-pub bodies-long : (ws : List Row) → AllLong 39 ws → AllLong 23 (map bodyOf ws)
+pub bodies-long : (ws : List Row) → AllLong credRowSize ws → AllLong credBodySize (map bodyOf ws)
 bodies-long [] a = tt
 bodies-long (w ∷ ws) a = (body-long w (a .0), bodies-long ws (a .1))
 
@@ -64,9 +65,9 @@ rows-themselves Creds (w ∷ ws) h =
 rows-themselves Aces [] h = refl
 rows-themselves Aces (w ∷ ws) h = rw (sized Aces w (and-left _ _ h), rows-themselves Aces ws (and-right (storable Aces w) _ h))
 
-pub bare-apart : (k : Table) (ws : List Row) → distinctNumbers ws ≡ true → distinctNumbers (bare k ws) ≡ true
-bare-apart Creds ws h = distinct-map withoutRoles without-roles-body ws ∙ h
-bare-apart Aces ws h = h
+pub bare-distinct : (k : Table) (ws : List Row) → distinctNumbers ws ≡ true → distinctNumbers (bare k ws) ≡ true
+bare-distinct Creds ws h = distinct-map withoutRoles without-roles-body ws ∙ h
+bare-distinct Aces ws h = h
 
 -- the rows of a reply, stored as bodies in an empty table, are the table's, without what is asserted
 pub same-rows : (clock : ℕ) (k : Table) (t : Tables) (w : Row) → sound t ≡ true → length (t .rowners) ≡ 64
@@ -74,17 +75,17 @@ pub same-rows : (clock : ℕ) (k : Table) (t : Tables) (w : Row) → sound t ≡
 same-rows clock k t w h l =
     let x = table-parts k t h in
     let told = read-rows k (rowOwner (headOf t) (holder k)) (bodies k (rows k t)) (owner-long k t l) (long-bodies k t h) in
-    rw (reply-is clock k t w, told, rows-themselves k (rows k t) (x .stores)) (restored _ (bare-apart k (rows k t) (x .apart)))
+    rw (reply-is clock k t w, told, rows-themselves k (rows k t) (x .stores)) (restored _ (bare-distinct k (rows k t) (x .distinct)))
 
 -- ---- the longest reply
 
-rows-short : (k : Table) (t : Tables) → sound t ≡ true → length (joined (bodies k (rows k t))) ≤ 1152
+rows-short : (k : Table) (t : Tables) → sound t ≡ true → length (joined (bodies k (rows k t))) ≤ tableSize Aces
 rows-short Creds t h =
-    omega (arith, length-joined 23 (map bodyOf (rows Creds t)) (long-bodies Creds t h), length-map (rows Creds t) bodyOf, few-rows Creds t h)
-rows-short Aces t h = omega (arith, length-joined 36 (rows Aces t) (long-rows Aces t h), few-rows Aces t h)
+    omega (arith, length-joined credBodySize (map bodyOf (rows Creds t)) (long-bodies Creds t h), length-map (rows Creds t) bodyOf, few-rows Creds t h)
+rows-short Aces t h = omega (arith, length-joined aceRowSize (rows Aces t) (long-rows Aces t h), few-rows Aces t h)
 
 parts-short : (clock : ℕ) (t : Tables) (w : Row) (n : ℕ) → sound t ≡ true → length (t .devowner) ≡ 16
-    → length (ownBody (headOf t) n) + length (rowBytes clock t w n) ≤ 1152
+    → length (ownBody (headOf t) n) + length (rowBytes clock t w n) ≤ tableSize Aces
 unfolding ownBody rowBytes
 parts-short clock t w n h l =
     bool-cases (eqb n 0) (λ e. rw (eqb-true n 0 e) (omega (arith, l)))
@@ -101,9 +102,9 @@ reply-short clock t w n h l =
     simp length-append (omega (arith, parts-short clock t w n h l, length-take 16 (drop (n * 16) (t .rowners))))
 
 -- so a record with a buffer of that length never gets 15
-pub room-enough : (clock : ℕ) (t : Tables) (r : List ℕ) → sound t ≡ true → length (t .devowner) ≡ 16 → tooShort 1168 (length (replyOf clock t r)) ≡ false
+pub capacity-enough : (clock : ℕ) (t : Tables) (r : List ℕ) → sound t ≡ true → length (t .devowner) ≡ 16 → tooShort 1168 (length (replyOf clock t r)) ≡ false
 unfolding tooShort replyTo
-room-enough clock t r h l =
+capacity-enough clock t r h l =
     cond-cases (λ (reply : List ℕ). ltb 1168 (length reply) ≡ false) (reads (headerOf r))
     (λ _. le-ltb 1168 _ (reply-short clock t (senderRow t (sender r)) (resource r) h l)) (λ _. refl)
 

@@ -28,7 +28,7 @@ use Rattle.rules.proofs.TableLaws.{few-rows}
 use Rattle.rules.proofs.Refusals.{permitted-passes, permitted-outcome}
 use Rattle.rules.proofs.RoleLaws.{held-parts, body-long, unasserted-is}
 use Rattle.rules.proofs.SoundKept.{SoundRows}
-use Rattle.rules.proofs.ReadBack.{bodies, reply-is, owner-long, long-bodies, read-rows, rows-themselves, bare-apart, same-rows}
+use Rattle.rules.proofs.ReadBack.{bodies, reply-is, owner-long, long-bodies, read-rows, rows-themselves, bare-distinct, same-rows}
 use Rattle.rules.proofs.RowsStored.{all-stored, all-may, otherwise, by-others, holder-security}
 
 -- ---- the reply
@@ -66,8 +66,8 @@ bare-rows (w ∷ ws) h = and-both _ _ (bare-row w (and-left _ _ h)) (bare-rows w
 bare-sound : (k : Table) (t : Tables) → sound t ≡ true → SoundRows k (bare k (rows k t))
 bare-sound Creds t h =
     let x = table-parts Creds t h in
-    record { few = rw length-map (few-rows Creds t h); stores = bare-rows _ (x .stores); apart = bare-apart Creds _ (x .apart) }
-bare-sound Aces t h = let x = table-parts Aces t h in record { few = few-rows Aces t h; stores = x .stores; apart = x .apart }
+    record { few = rw length-map (few-rows Creds t h); stores = bare-rows _ (x .stores); distinct = bare-distinct Creds _ (x .distinct) }
+bare-sound Aces t h = let x = table-parts Aces t h in record { few = few-rows Aces t h; stores = x .stores; distinct = x .distinct }
 
 -- ---- judged
 

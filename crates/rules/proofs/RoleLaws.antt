@@ -9,23 +9,24 @@ use Rattle.rules.specs.Bits.{bit, bits}
 use Rattle.rules.specs.Bodies.{credStorable}
 use Rattle.rules.specs.Roles.{noRole, free, sameRole, unasserted, bodyOf, firstRole, secondRole, rolesInForce}
 use Rattle.rules.specs.Roles.{rolesSound, credHeld, withoutRoles, withRole, bothTaken, asserted}
+use Rattle.rules.specs.Sizes.{credBodySize, credRowSize}
 
 -- the parts of a credential row
 pub record Held (w : Row) : Type 0 where
-  pub long : length w ≡ 39
+  pub long : length w ≡ credRowSize
   pub body : credStorable (bodyOf w) ≡ true
   pub roles : rolesSound w ≡ true
 
 pub held-parts : (w : Row) → credHeld w ≡ true → Held w
 unfolding credHeld
 held-parts w h = record {
-  long = eqb-true (length w) 39 (search (and-left, and-right));
+  long = eqb-true (length w) credRowSize (search (and-left, and-right));
   body = search (and-left, and-right);
   roles = search (and-left, and-right);
 }
 
-pub body-long : (w : Row) → length w ≡ 39 → length (bodyOf w) ≡ 23
-body-long w l = length-take-le 23 w (omega arith)
+pub body-long : (w : Row) → length w ≡ credRowSize → length (bodyOf w) ≡ credBodySize
+body-long w l = length-take-le credBodySize w (omega arith)
 
 -- ---- roles that stand in the places of one row
 
@@ -40,19 +41,27 @@ Few (p ∷ q ∷ []) = Role p × Role q × (sameRole p q ≡ false)
 Few (p ∷ q ∷ r ∷ ps) = ⊥
 
 -- a place that is not free
-place-role : (clock n : ℕ) (w : Row) → length w ≡ 39 → n ≤ 31 → free clock (take 8 (drop n w)) ≡ false → Role (take 8 (drop n w))
+place-role : (clock n : ℕ) (w : Row) → length w ≡ credRowSize → n ≤ 31 → free clock (take 8 (drop n w)) ≡ false → Role (take 8 (drop n w))
 unfolding free
 place-role clock n w l h e = (length-take-le 8 (drop n w) (rw length-drop (omega arith)), or-left (noRole (take 8 (drop n w))) _ e)
 
 pub few-in-force : (clock : ℕ) (w : Row) → Held w → Few (rolesInForce clock w)
 unfolding rolesInForce rolesSound without
 few-in-force clock w p =
-    let first = place-role clock 23 w (p .long) (omega arith) in
+    let first = place-role clock credBodySize w (p .long) (omega arith) in
     let second = place-role clock 31 w (p .long) (omega arith) in
     bool-cases (free clock (firstRole w))
     (λ e. bool-cases (free clock (secondRole w)) (λ f. rw (e, f) tt) (λ f. rw (e, f) (second f)))
     (λ e. bool-cases (free clock (secondRole w)) (λ f. rw (e, f) (first e))
     (λ f. rw (e, f) (first e, second f, not-true _ (rw (first e .1, second f .1) at (p .roles)))))
+
+one-short : (p : Row) → length p ≤ 8 → length (joined (p ∷ [])) ≤ 16
+unfolding joined
+one-short p h = rw length-append (omega arith)
+
+two-short : (p q : Row) → length p ≤ 8 → length q ≤ 8 → length (joined (p ∷ q ∷ [])) ≤ 16
+unfolding joined
+two-short p q h k = rw (length-append, length-append) (omega arith)
 
 -- their bytes are 16 at most
 pub in-force-short : (clock : ℕ) (w : Row) → length (joined (rolesInForce clock w)) ≤ 16
@@ -60,9 +69,9 @@ unfolding rolesInForce without joined
 in-force-short clock w =
     let few : (x : List ℕ) → length (take 8 x) ≤ 8 = λ x. rw length-take (omega arith) in
     bool-cases (free clock (firstRole w))
-    (λ e. bool-cases (free clock (secondRole w)) (λ f. rw (e, f) (omega arith)) (λ f. rw (e, f, length-append) (omega (arith, few (drop 31 w)))))
-    (λ e. bool-cases (free clock (secondRole w)) (λ f. rw (e, f, length-append) (omega (arith, few (drop 23 w))))
-    (λ f. rw (e, f, length-append, length-append) (omega (arith, few (drop 23 w), few (drop 31 w)))))
+    (λ e. bool-cases (free clock (secondRole w)) (λ f. rw (e, f) (omega arith)) (λ f. rw (e, f) (one-short (secondRole w) (few (drop 31 w)))))
+    (λ e. bool-cases (free clock (secondRole w)) (λ f. rw (e, f) (one-short (firstRole w) (few (drop credBodySize w))))
+    (λ f. rw (e, f) (two-short (firstRole w) (secondRole w) (few (drop credBodySize w)) (few (drop 31 w)))))
 
 same-swap : (p q : Row) → sameRole p q ≡ sameRole q p
 unfolding sameRole
@@ -108,13 +117,13 @@ sound-few (p ∷ q ∷ r ∷ ps) f = absurd f
 
 -- ---- the row with these roles in its places
 
-module _ (h : List ℕ) (l : length h ≡ 23) (x : List ℕ) where
+module _ (h : List ℕ) (l : length h ≡ credBodySize) (x : List ℕ) where
   pub body-is : bodyOf (h ++ x) ≡ h
-  body-is = take-at h x 23 l
+  body-is = take-at h x credBodySize l
 
   behind-is : rolesSound (h ++ x) ≡ soundBehind x
   unfolding rolesSound soundBehind
-  behind-is = rw (← drop-drop 8 23 (h ++ x), drop-at h x 23 l)
+  behind-is = rw (← drop-drop 8 credBodySize (h ++ x), drop-at h x credBodySize l)
 
   held-with : credStorable h ≡ true → length x ≡ 16 → soundBehind x ≡ true → Held (h ++ x)
   held-with c m s = record { long = rw (length-append, l) (omega arith); body = rw body-is c; roles = behind-is ∙ s }
@@ -147,7 +156,7 @@ module _ (clock : ℕ) (b : List ℕ) (w : Row) (p : Held w) where
     pub asserted-storable : credHeld (asserted clock b w) ≡ true
     unfolding credHeld
     asserted-storable =
-        and-both _ _ (and-both _ _ (eq-eqb (length (asserted clock b w)) 39 (asserted-held .long)) (asserted-held .body)) (asserted-held .roles)
+        and-both _ _ (and-both _ _ (eq-eqb (length (asserted clock b w)) credRowSize (asserted-held .long)) (asserted-held .body)) (asserted-held .roles)
 
     -- but for its places it is the same
     pub asserted-without : withoutRoles (asserted clock b w) ≡ withoutRoles w
@@ -155,11 +164,11 @@ module _ (clock : ℕ) (b : List ℕ) (w : Row) (p : Held w) where
     asserted-without = rw (asserted-body, asserted-held .long, p .long)
 
 -- the row that a body is may be held exactly where the body is allowed
-pub unasserted-is : (b : List ℕ) → length b ≡ 23 → credHeld (unasserted b) ≡ credStorable b
+pub unasserted-is : (b : List ℕ) → length b ≡ credBodySize → credHeld (unasserted b) ≡ credStorable b
 unfolding credHeld packed joined
 unasserted-is b l =
-    let long : length (unasserted b) ≡ 39 = rw (length-append, l) in
-    rw (eq-eqb (length (unasserted b)) 39 long, body-is b l (replicate 16 0), behind-is b l (replicate 16 0) ∙ sound-few [] tt) (and-true (credStorable b))
+    let long : length (unasserted b) ≡ credRowSize = rw (length-append, l) in
+    rw (eq-eqb (length (unasserted b)) credRowSize long, body-is b l (replicate 16 0), behind-is b l (replicate 16 0) ∙ sound-few [] tt) (and-true (credStorable b))
 
 -- a role holds on its last second, and not behind it: role 7 of authority 1, to second 100
 pub last-second : map (λ clock. free clock (0 ∷ 1 ∷ 0 ∷ 7 ∷ 0 ∷ 0 ∷ 0 ∷ 100 ∷ [])) (99 ∷ 100 ∷ 101 ∷ []) ≡ false ∷ false ∷ true ∷ []

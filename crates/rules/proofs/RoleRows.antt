@@ -19,7 +19,7 @@ use Rattle.rules.specs.Permission.{permission, numbered, senderRow}
 use Rattle.rules.specs.Action.{ifAllowed, updateRoles, updateAction, securityAction, actionOf, action}
 use Rattle.rules.specs.Reading.{replyOf, reads}
 use Rattle.rules.specs.Checks.{checks, verdict, numberOf, isMalformed}
-use Rattle.rules.specs.Groups.{rowChecks, roomChecks}
+use Rattle.rules.specs.Groups.{rowChecks, capacityChecks}
 use Rattle.rules.specs.Outcome.{Outcome, effectBy, responseTo, tablesAfter}
 use Rattle.rules.proofs.Answers.{passed, table-parts, no-reply-fits}
 use Rattle.rules.proofs.CheckLaws.{skip-all}
@@ -29,6 +29,7 @@ use Rattle.rules.proofs.OwnRow.{asserts, own-held, own-two, asserted-tw
 use Rattle.rules.proofs.SoundKept.{Passed, passed-all, asserted-sound}
 use Rattle.rules.proofs.Refusals.{noneApplies, none-permitted, permitted-passes, permitted-outcome, answer-is}
 use Rattle.rules.proofs.SubjectRows.{earlier}
+use Rattle.rules.specs.Sizes.{credBodySize}
 
 -- the row v, or new where v has the number of own
 unfoldable pub inPlaceOf : Row → Row → Row → Row
@@ -111,9 +112,9 @@ few-in-places later (p ∷ q ∷ []) (f, g, d) =
     rw (append-nil q, length-append, f .0, g .0, append-nil, take-at p q 8 (f .0), drop-at p q 8 (f .0), take-all 8 q (omega (arith, g .0)))
 few-in-places later (p ∷ q ∷ r ∷ ps) f = absurd f
 
-places-in-force : (later : ℕ) (h x : List ℕ) → length h ≡ 23 → rolesInForce later (h ++ x) ≡ inForceOf later x
+places-in-force : (later : ℕ) (h x : List ℕ) → length h ≡ credBodySize → rolesInForce later (h ++ x) ≡ inForceOf later x
 unfolding rolesInForce inForceOf
-places-in-force later h x l = rw (← drop-drop 8 23 (h ++ x), drop-at h x 23 l)
+places-in-force later h x l = rw (← drop-drop 8 credBodySize (h ++ x), drop-at h x credBodySize l)
 
 asserted-in-force : (clock later : ℕ) (b : List ℕ) (w : Row) → Held w → length b ≡ 8 → noRole b ≡ false → bothTaken b (rolesInForce clock w) ≡ false
     → rolesInForce later (asserted clock b w) ≡ without (free later) (withRole b (rolesInForce clock w))
@@ -165,7 +166,7 @@ module _ (d : Defaults) (t : Tables) (q : Request) (updates : verb (q .bytes) �
       let own-is : senderRow (tablesAfter d t q) (sender r) ≡ new =
       ap (senderRow (tablesAfter d t q)) (a .is) ∙ ap (firstRow (numbered (a .number))) are ∙ stored-first new (a .number) two (rows Creds t) in
       record {
-        rows-left = are ∙ stored-place new own (own-two t r h a ∙ sym two) (rows Creds t) (asserted-number t r h a (q .clock) b) (table-parts Creds t h .apart)
+        rows-left = are ∙ stored-place new own (own-two t r h a ∙ sym two) (rows Creds t) (asserted-number t r h a (q .clock) b) (table-parts Creds t h .distinct)
             ∙ ap (λ (v : Row). map (inPlaceOf own v) (rows Creds t)) (sym own-is);
         own-body = ap bodyOf own-is ∙ asserted-body (q .clock) b own w;
         own-roles = λ later. ap (rolesInForce later) own-is ∙ asserted-in-force (q .clock) later b own w (x .valid .1) (x .valid .2) (x .placed);
@@ -186,5 +187,5 @@ module _ (d : Defaults) (t : Tables) (q : Request) (updates : verb (q .bytes) �
       let asked = roles-action r updates on in
       let is : action r ≡ Assert c = asked ∙ asserts-role c b (ap isMalformed (sym asked) ∙ passed (earlier t p r) e 10) in
       answer-is d t q
-      ∙ ap numberOf (sym (skip-all (earlier t p r) (rowChecks (q .clock) t own b (action r) ++ roomChecks (q .room) (length (replyOf (q .clock) t r))) refl e refl))
+      ∙ ap numberOf (sym (skip-all (earlier t p r) (rowChecks (q .clock) t own b (action r) ++ capacityChecks (q .capacity) (length (replyOf (q .clock) t r))) refl e refl))
       ∙ rw (is, no-reply-fits t q unread) (bool-cases (bothTaken b (rolesInForce (q .clock) own)) (λ x. rw x) (λ x. rw x))

@@ -11,6 +11,7 @@ use Rattle.rules.proofs.BodyLaws.{reach}
 use Rattle.rules.specs.Bits.{be16}
 use Rattle.rules.specs.Roles.{bodyOf, withoutRoles}
 use Rattle.rules.specs.Permission.{numbered}
+use Rattle.rules.specs.Sizes.{credBodySize}
 
 -- a part within the first m bytes
 part-within : (a l m : ℕ) (w : List ℕ) → a + l ≤ m → take l (drop a (take m w)) ≡ take l (drop a w)
@@ -26,18 +27,18 @@ take-padded (suc m) (x ∷ w) = rw (suc-sub-suc (length w) m) (ap (λ (l : List 
 
 pub without-roles-body : (w : Row) → bodyOf (withoutRoles w) ≡ bodyOf w
 unfolding withoutRoles
-without-roles-body w = take-padded 23 w
+without-roles-body w = take-padded credBodySize w
 
 module _ (f : Row → Row) (keeps : (w : Row) → bodyOf (f w) ≡ bodyOf w) where
   -- a part of the body
-  pub part-same : (a l : ℕ) → a + l ≤ 23 → (w : Row) → take l (drop a (f w)) ≡ take l (drop a w)
-  part-same a l h w = sym (part-within a l 23 (f w) h) ∙ ap (λ (x : List ℕ). take l (drop a x)) (keeps w) ∙ part-within a l 23 w h
+  pub part-same : (a l : ℕ) → a + l ≤ credBodySize → (w : Row) → take l (drop a (f w)) ≡ take l (drop a w)
+  part-same a l h w = sym (part-within a l credBodySize (f w) h) ∙ ap (λ (x : List ℕ). take l (drop a x)) (keeps w) ∙ part-within a l credBodySize w h
 
-  pub key-same : (at : ℕ) (key : List ℕ) → at + length key ≤ 23 → (w : Row) → hasKey at key (f w) ≡ hasKey at key w
+  pub key-same : (at : ℕ) (key : List ℕ) → at + length key ≤ credBodySize → (w : Row) → hasKey at key (f w) ≡ hasKey at key w
   unfolding hasKey
   key-same at key h w = ap (λ (x : List ℕ). same x key) (part-same at (length key) h w)
 
-  pub goes-same : (key : Key) (b : List ℕ) → reach key b ≤ 23 → (w : Row) → goes key b (f w) ≡ goes key b w
+  pub goes-same : (key : Key) (b : List ℕ) → reach key b ≤ credBodySize → (w : Row) → goes key b (f w) ≡ goes key b w
   goes-same All b h w = refl
   goes-same Number b h w = key-same 0 b (omega (arith, h)) w
   goes-same Subject b h w = key-same 2 b h w

@@ -128,14 +128,14 @@ module _ (d : Defaults) (k : Table) (t v : Tables) (held : List Row) (b : List �
       (and-left (storable k (rowOf k b)) _ (and-right (every (storable k) held) _ (rw every-append at (x .stores))))
 
   stored-last : stored (rowOf k b) held ≡ held ++ (rowOf k b ∷ [])
-  stored-last = store-absent (rowOf k b) held (none-before held _ after (x .apart))
+  stored-last = store-absent (rowOf k b) held (none-before held _ after (x .distinct))
 
   row-permitted : verdict (checks v (permission (q .clock) v (q .bytes)) q) ≡ Pass
   unfolding verdict noCredential noEndpoint permissionOf notPermitted notOffered offered tooShort replyTo reads
   row-permitted =
       let r = q .bytes in
       let known : noRow (rows Creds t) (sender r) ≡ false = passed (senderChecks (rows Creds t) r) (m .passes) 7 in
-      let room : count k (headOf v) < capacity k = omega (arith, rows-count k v (at .isSound), ap length (at .holds), rw length-append at (x .few)) in
+      let fits : count k (headOf v) < capacity k = omega (arith, rows-count k v (at .isSound), ap length (at .holds), rw length-append at (x .few)) in
       rw (
         stores-row,
         at .isSound,
@@ -149,8 +149,8 @@ module _ (d : Defaults) (k : Table) (t v : Tables) (held : List Row) (b : List �
         may-still k t v (q .clock) (sender r) (resource r) none (at .others) known (m .may),
         m .on,
         holder-security k,
-        lt-leb (capacity k) (count k (headOf v)) room,
-        le-ltb (q .room) 0 (omega arith),
+        lt-leb (capacity k) (count k (headOf v)) fits,
+        le-ltb (q .capacity) 0 (omega arith),
         same-state k t v (at .others),
         takes,
       )

@@ -16,7 +16,7 @@ use Rattle.rules.specs.Lookup.{lookup}
 use Rattle.rules.specs.Record.{headerOf, Request, body, connection, sender}
 use Rattle.rules.specs.Bodies.{nil, isNil, newOwner}
 use Rattle.rules.specs.Roles.{rolesInForce, asserted}
-use Rattle.rules.specs.Tables.{headOf, stride, longest, capacity, storable, rowOf, rows, rowsIn, withRows, rowsSound, headSound, sound, empty}
+use Rattle.rules.specs.Tables.{headOf, stride, longest, capacity, storable, rowOf, rows, rowsIn, withRows, rowsSound, headSound, sound, empty, tableSize}
 use Rattle.rules.specs.Defaults.{Defaults, listed, goodList, defaultRows, fresh}
 use Rattle.rules.specs.Keys.{goes}
 use Rattle.rules.specs.Action.{action}
@@ -37,21 +37,21 @@ use Rattle.rules.proofs.OwnRow.{asserts, own-held, asserted-count}
 pub record SoundRows (k : Table) (ws : List Row) : Type 0 where
   pub few : length ws ≤ capacity k
   pub stores : every (storable k) ws ≡ true
-  pub apart : distinctNumbers ws ≡ true
+  pub distinct : distinctNumbers ws ≡ true
 
 -- a row table with these rows
 rows-sound : (k : Table) (size : ℕ) (ws : List Row) → length ws * stride k ≤ size → SoundRows k ws → rowsSound k (length ws) (packed size ws) ≡ true
 unfolding rowsSound
-rows-sound k size ws room x =
+rows-sound k size ws fits x =
     let long = every-long (stride k) (storable k) (sized k) ws (x .stores) in
     let is = rows-counted k (length ws) (packed size ws) (x .few) ∙ rowsOf-packed (stride k) size ws long in
-    let unused = packed-table (stride k) size ws (two-long k) long room .zeros in
+    let unused = packed-table (stride k) size ws (two-long k) long fits .zeros in
     rw is (search (and-both, le-leb))
 
 pub sound-with : (k : Table) (t : Tables) (ws : List Row) → sound t ≡ true → SoundRows k ws → sound (withRows k t ws) ≡ true
 unfolding sound headSound
-sound-with Creds t ws h x = let new = rows-sound Creds 936 ws (omega arith) x in search (and-both, and-left, and-right)
-sound-with Aces t ws h x = let new = rows-sound Aces 1152 ws (omega arith) x in search (and-both, and-left, and-right)
+sound-with Creds t ws h x = let new = rows-sound Creds (tableSize Creds) ws (omega arith) x in search (and-both, and-left, and-right)
+sound-with Aces t ws h x = let new = rows-sound Aces (tableSize Aces) ws (omega arith) x in search (and-both, and-left, and-right)
 
 empty-sound : sound empty ≡ true
 unfolding sound headSound rowsSound rowsIn empty nil isNil same allZero every rowsOf distinctNumbers
@@ -68,9 +68,9 @@ default-sound k b =
     record {
       few = rw (length-map, length-rowsOf) (omega (arith, two-fit k));
       stores = search (and-left, and-right);
-      apart = search (and-left, and-right);
+      distinct = search (and-left, and-right);
     })
-    (λ _. record { few = omega (arith, two-fit k); stores = refl; apart = refl })
+    (λ _. record { few = omega (arith, two-fit k); stores = refl; distinct = refl })
 
 -- fresh tables are sound, whatever the lists
 pub fresh-sound : (d : Defaults) → sound (fresh d) ≡ true
@@ -122,7 +122,7 @@ stored-rows : (k : Table) (t : Tables) (w : Row) → sound t ≡ true → length
     → SoundRows k (stored w (rows k t))
 stored-rows k t w h few fits =
     let s = table-parts k t h in
-    record { few = few; stores = every-stored _ w _ fits (s .stores); apart = distinct-stored w _ (s .apart) }
+    record { few = few; stores = every-stored _ w _ fits (s .stores); distinct = distinct-stored w _ (s .distinct) }
 
 pub stored-sound : (k : Table) (t : Tables) (q : Request) → sound t ≡ true → Passed t q (Store k) → SoundRows k (stored (rowOf k (body (q .bytes))) (rows k t))
 stored-sound k t q h x = stored-rows k t _ h (few-stored k t (body (q .bytes)) h (x .fits)) (x .valid)
@@ -130,7 +130,7 @@ stored-sound k t q h x = stored-rows k t _ h (few-stored k t (body (q .bytes)) h
 pub removed-sound : (k : Table) (t : Tables) (goes : Row → Bool) → sound t ≡ true → SoundRows k (without goes (rows k t))
 removed-sound k t goes h =
     let s = table-parts k t h in
-    record { few = few-without k t goes h; stores = every-without _ goes _ (s .stores); apart = distinct-without goes _ (s .apart) }
+    record { few = few-without k t goes h; stores = every-without _ goes _ (s .stores); distinct = distinct-without goes _ (s .distinct) }
 
 pub asserted-sound : (c : ℕ) (t : Tables) (q : Request) → sound t ≡ true → Passed t q (Assert c)
     → SoundRows Creds (stored (asserted (q .clock) (body (q .bytes)) (senderRow t (sender (q .bytes)))) (rows Creds t))

@@ -7,7 +7,7 @@ use Rattle.rules.specs.declared.Tables.{Tables}
 use Rattle.rules.specs.declared.StoreRange.{StoreRange}
 use Rattle.rules.specs.declared.Table.{Table}
 use Rattle.rules.specs.Record.{Request, body}
-use Rattle.rules.specs.Tables.{headOf, stride, capacity, count, bytes, rows, withRows, sound}
+use Rattle.rules.specs.Tables.{headOf, stride, capacity, count, bytes, rows, withRows, sound, tableSize}
 use Rattle.rules.specs.Defaults.{Defaults}
 use Rattle.rules.specs.Keys.{goes}
 use Rattle.rules.specs.StoreRange.{noRange, gapOf, deletes, overwritten}
@@ -26,13 +26,13 @@ pub record Worn (k : Table) (t t′ : Tables) (p : StoreRange) : Type 0 where
   pub stored : overwritten (stride k) p (bytes k t) (bytes k t′) ≡ bytes k t′
   -- no byte before the first place is another, nor one behind the last
   pub front : take (p .first * stride k) (bytes k t′) ≡ take (p .first * stride k) (bytes k t)
-  pub rest : drop ((p .first + p .many) * stride k) (bytes k t′) ≡ drop ((p .first + p .many) * stride k) (bytes k t)
+  pub rest : drop ((p .first + p .count) * stride k) (bytes k t′) ≡ drop ((p .first + p .count) * stride k) (bytes k t)
   -- the last place is the last that held a row
-  pub ends : p .first + p .many ≡ count k (headOf t)
+  pub ends : p .first + p .count ≡ count k (headOf t)
   -- each place holds another row number than before, and no other place does
-  pub changed : (i : ℕ) → p .first ≤ i → i < p .first + p .many → numberAt (stride k) i (bytes k t′) ≡ numberAt (stride k) i (bytes k t) → ⊥
+  pub changed : (i : ℕ) → p .first ≤ i → i < p .first + p .count → numberAt (stride k) i (bytes k t′) ≡ numberAt (stride k) i (bytes k t) → ⊥
   pub before : (i : ℕ) → i < p .first → numberAt (stride k) i (bytes k t′) ≡ numberAt (stride k) i (bytes k t)
-  pub behind : (i : ℕ) → p .first + p .many ≤ i → i < capacity k → numberAt (stride k) i (bytes k t′) ≡ numberAt (stride k) i (bytes k t)
+  pub behind : (i : ℕ) → p .first + p .count ≤ i → i < capacity k → numberAt (stride k) i (bytes k t′) ≡ numberAt (stride k) i (bytes k t)
   -- it is 0 when the place is unused
   pub unused : (i : ℕ) → count k (headOf t′) ≤ i → i < capacity k → numberAt (stride k) i (bytes k t′) ≡ 0 ∷ 0 ∷ []
   -- all else in the tables is the same, but for the count
@@ -41,10 +41,10 @@ pub record Worn (k : Table) (t t′ : Tables) (p : StoreRange) : Type 0 where
 -- ---- rows that go
 
 -- they end with the last row, also where there is none
-gap-ends : (goes : Row → Bool) (ws : List Row) → (some goes ws ≡ false → ws ≡ []) → gapOf goes ws .first + gapOf goes ws .many ≡ length ws
+gap-ends : (goes : Row → Bool) (ws : List Row) → (some goes ws ≡ false → ws ≡ []) → gapOf goes ws .first + gapOf goes ws .count ≡ length ws
 unfolding gapOf
 gap-ends goes ws none =
-    cond-cases (λ (p : StoreRange). p .first + p .many ≡ length ws) (some goes ws)
+    cond-cases (λ (p : StoreRange). p .first + p .count ≡ length ws) (some goes ws)
     (λ _. omega (arith, gap.before-all goes ws))
     (λ e. sym (ap length (none e)))
 
@@ -56,7 +56,7 @@ gap-none goes ws same = cond-cases (λ (p : StoreRange). p ≡ noRange) (some go
 -- ---- of a record
 
 pub delete-worn : (d : Defaults) (t : Tables) (q : Request) (k : Table)
-    → deletes k (q .bytes) ≡ true → responseTo d t q .answer ≡ 0 → length (bytes k t) ≡ capacity k * stride k
+    → deletes k (q .bytes) ≡ true → responseTo d t q .answer ≡ 0 → length (bytes k t) ≡ tableSize k
     → Worn k t (tablesAfter d t q) (responseTo d t q .places)
 delete-worn d t q k h z l =
     let x = deleted d t q k h z in

@@ -24,12 +24,12 @@ use Rattle.rules.proofs.LinkLaws.{Own, own, from, within, set-below, in
 pub record YardSet (d : Defaults) (t : Tables) (q : Request) : Type 0 where
   -- a resource is in the set exactly where it is one of 8 to 14, and its own record gets answer 0,
   -- at the same clock and on the same tables, with any buffer and for any default lists
-  pub member : (n : ℕ) → n < 64 → (d′ : Defaults) (room : ℕ)
-      → inLinks (responseTo d t q .links .set) n ≡ (leb 8 n && leb n 14 && eqb (responseTo d′ t (received (q .clock) (ownRecord (q .bytes) n) room) .answer) 0)
+  pub member : (n : ℕ) → n < 64 → (d′ : Defaults) (capacity : ℕ)
+      → inLinks (responseTo d t q .links .set) n ≡ (leb 8 n && leb n 14 && eqb (responseTo d′ t (received (q .clock) (ownRecord (q .bytes) n) capacity) .answer) 0)
   -- that record has the verb and the sender of the one that asks, and no body; with any body that has room it gets the same answer
   pub own : (n : ℕ) → n < 64 → Own (q .bytes) n
-  pub with-body : (n : ℕ) → n < 64 → 8 ≤ n → (b : List ℕ) → length b ≤ 252 → (d′ : Defaults) (room : ℕ)
-      → responseTo d′ t (received (q .clock) (ownRecord (q .bytes) n ++ b) room) .answer ≡ responseTo d′ t (received (q .clock) (ownRecord (q .bytes) n) room) .answer
+  pub with-body : (n : ℕ) → n < 64 → 8 ≤ n → (b : List ℕ) → length b ≤ 252 → (d′ : Defaults) (capacity : ℕ)
+      → responseTo d′ t (received (q .clock) (ownRecord (q .bytes) n ++ b) capacity) .answer ≡ responseTo d′ t (received (q .clock) (ownRecord (q .bytes) n) capacity) .answer
   -- the set has 64 bits, and the size is the number of its members
   pub fits : responseTo d t q .links .set < 2 ^ 64
   pub size : responseTo d t q .links .size ≡ countBelow 64 (inLinks (responseTo d t q .links .set))
@@ -40,15 +40,15 @@ link-plain : (n : ℕ) → leb 8 n ≡ true → isSecurity n ≡ false
 link-plain n h = bool-cases (isSecurity n) (λ e. absurd (omega (arith, security-number n e, leb-true 8 n h))) (λ e. e)
 
 -- a record for an application resource gets answer 0 where it is permitted with no buffer, whatever its buffer
-permits-zero : (clock : ℕ) (t : Tables) (r : List ℕ) → isSecurity (resource r) ≡ false → (d : Defaults) (room : ℕ)
-    → permits clock t r ≡ eqb (responseTo d t (received clock r room) .answer) 0
+permits-zero : (clock : ℕ) (t : Tables) (r : List ℕ) → isSecurity (resource r) ≡ false → (d : Defaults) (capacity : ℕ)
+    → permits clock t r ≡ eqb (responseTo d t (received clock r capacity) .answer) 0
 unfolding permits reads
-permits-zero clock t r plain d room =
+permits-zero clock t r plain d capacity =
     let unread : reads (headerOf r) ≡ false = rw (plain, and-false) in
-    rw (zero-passes d t (received clock r room), no-reply-fits t (received clock r 0) unread, no-reply-fits t (received clock r room) unread)
+    rw (zero-passes d t (received clock r capacity), no-reply-fits t (received clock r 0) unread, no-reply-fits t (received clock r capacity) unread)
 
-own-any-body : (r : List ℕ) (n : ℕ) (b : List ℕ) → length b ≤ 252 → isSecurity (resource (ownRecord r n)) ≡ false → (d : Defaults) (t : Tables) (clock room : ℕ)
-    → responseTo d t (received clock (ownRecord r n ++ b) room) .answer ≡ responseTo d t (received clock (ownRecord r n) room) .answer
+own-any-body : (r : List ℕ) (n : ℕ) (b : List ℕ) → length b ≤ 252 → isSecurity (resource (ownRecord r n)) ≡ false → (d : Defaults) (t : Tables) (clock capacity : ℕ)
+    → responseTo d t (received clock (ownRecord r n ++ b) capacity) .answer ≡ responseTo d t (received clock (ownRecord r n) capacity) .answer
 unfolding ownRecord be16
 own-any-body r n b few plain = any-body (verb r * 32 + connection r * 16 + n / 4) (n % 4 * 64) (credential r / 256) (credential r % 256) b few plain
 
@@ -71,12 +71,12 @@ yard-set d t q asks z =
     let is : responseTo d t q .links .set ≡ setOf passes (from 8 7) = ap (λ (x : Links). x .set) are ∙ rw asks in
     let small : responseTo d t q .links .set < 2 ^ 64 = rw is (le-trans (set-below passes 7 7 (omega arith)) (omega arith)) in
     record {
-      member = λ n h d′ room.
+      member = λ n h d′ capacity.
           ap (λ (x : ℕ). inLinks x n) is
           ∙ in-set passes 8 7 (omega arith) n h
-          ∙ from-8 n (λ m. permits-zero (q .clock) t (ownRecord r n) (plain n h m) d′ room);
+          ∙ from-8 n (λ m. permits-zero (q .clock) t (ownRecord r n) (plain n h m) d′ capacity);
       own = λ n h. own r n l h;
-      with-body = λ n h m b few d′ room. own-any-body r n b few (plain n h (le-leb 8 n m)) d′ t (q .clock) room;
+      with-body = λ n h m b few d′ capacity. own-any-body r n b few (plain n h (le-leb 8 n m)) d′ t (q .clock) capacity;
       fits = small;
       size = ap (λ (x : Links). x .size) are ∙ ap (λ (x : Links). ones (x .set)) (sym are) ∙ ones-held (responseTo d t q .links .set) small;
     }

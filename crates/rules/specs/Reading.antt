@@ -49,7 +49,7 @@ replyOf clock t r = replyTo clock t (senderRow t (sender r)) (headerOf r)
 
 -- the buffer is shorter than a reply of this length
 unfoldable pub tooShort : ℕ → ℕ → Bool
-tooShort room long = ltb room long
+tooShort capacity long = ltb capacity long
 
 -- the lent buffer afterwards: the reply, and then what stood there
 unfoldable pub filled : List ℕ → List ℕ → List ℕ

@@ -7,6 +7,7 @@ use lib.Dec.{eqb, leb, ltb}
 use lib.ListN.{length, take, drop, replicate}
 use Rattle.rows.specs.Rows.{Row, packed, allZero, same, some, without}
 use Rattle.rules.specs.Bits.{bits}
+use Rattle.rules.specs.Sizes.{credBodySize, credRowSize}
 use Rattle.rules.specs.Bodies.{credStorable}
 
 -- ---- roles, 8 bytes: authority (16), role (16), last second (32)
@@ -35,10 +36,10 @@ sameRole new p = same (take 4 p) (take 4 new)
 -- ---- a credential row, 39 bytes: the longest body that stores it (23), and two places (8 each)
 
 abbrev pub bodyOf : Row → List ℕ
-bodyOf w = take 23 w
+bodyOf w = take credBodySize w
 
 abbrev pub firstRole : Row → Row
-firstRole w = take 8 (drop 23 w)
+firstRole w = take 8 (drop credBodySize w)
 
 abbrev pub secondRole : Row → Row
 secondRole w = take 8 (drop 31 w)
@@ -52,18 +53,18 @@ unasserted b = b ++ replicate 16 0
 
 -- the row with zeros in its places
 unfoldable pub withoutRoles : Row → Row
-withoutRoles w = bodyOf w ++ replicate (length w - 23) 0
+withoutRoles w = bodyOf w ++ replicate (length w - credBodySize) 0
 
 -- the first place is used before the second, a place that is not used is zero, and the roles are different ones
 unfoldable pub rolesSound : Row → Bool
 rolesSound w =
-    cond (noRole (firstRole w)) (allZero (drop 23 w))
+    cond (noRole (firstRole w)) (allZero (drop credBodySize w))
     (cond (noRole (secondRole w)) (allZero (drop 31 w))
     (not (sameRole (firstRole w) (secondRole w))))
 
 -- a row that the table may hold
 unfoldable pub credHeld : Row → Bool
-credHeld w = eqb (length w) 39 && credStorable (bodyOf w) && rolesSound w
+credHeld w = eqb (length w) credRowSize && credStorable (bodyOf w) && rolesSound w
 
 -- ---- a role is asserted
 

@@ -18,11 +18,11 @@ use Rattle.rules.specs.Record.{delete, verb, resource}
 use Rattle.rules.specs.Tables.{rows}
 
 abbrev pub noRange : StoreRange
-noRange = record { first = 0; many = 0 }
+noRange = record { first = 0; count = 0 }
 
 -- from the first row that goes to the last one held
 unfoldable pub gapOf : (Row → Bool) → List Row → StoreRange
-gapOf goes ws = cond (some goes ws) (record { first = rowsBefore goes ws; many = length ws - rowsBefore goes ws }) noRange
+gapOf goes ws = cond (some goes ws) (record { first = rowsBefore goes ws; count = length ws - rowsBefore goes ws }) noRange
 
 -- by the action, with the body b
 abbrev pub storeRangeOf : Tables → List ℕ → Action → StoreRange
@@ -39,4 +39,4 @@ deletes Aces r = eqb (verb r) delete && eqb (resource r) acl2
 unfoldable pub overwritten : ℕ → StoreRange → List ℕ → List ℕ → List ℕ
 overwritten stride p old new =
     take (p .first * stride) old
-    ++ (take (p .many * stride) (drop (p .first * stride) new) ++ drop ((p .first + p .many) * stride) old)
+    ++ (take (p .count * stride) (drop (p .first * stride) new) ++ drop ((p .first + p .count) * stride) old)

@@ -85,11 +85,11 @@ dayWith before behind places =
     ∷ (0, 31, [], behind, noRange)
     ∷ []
 
-pub numbered-said : replies said (next noDefaults) numbered day ≡ dayWith (1 ∷ 2 ∷ 3 ∷ []) (2 ∷ 3 ∷ []) (record { first = 0; many = 3 })
+pub numbered-said : replies said (next noDefaults) numbered day ≡ dayWith (1 ∷ 2 ∷ 3 ∷ []) (2 ∷ 3 ∷ []) (record { first = 0; count = 3 })
 unfolding orders
 numbered-said = refl
 
-pub shuffled-said : replies said (next noDefaults) shuffled day ≡ dayWith (3 ∷ 1 ∷ 2 ∷ []) (3 ∷ 2 ∷ []) (record { first = 1; many = 2 })
+pub shuffled-said : replies said (next noDefaults) shuffled day ≡ dayWith (3 ∷ 1 ∷ 2 ∷ []) (3 ∷ 2 ∷ []) (record { first = 1; count = 2 })
 unfolding orders
 shuffled-said = refl
 

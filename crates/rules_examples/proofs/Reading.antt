@@ -11,7 +11,7 @@ use Rattle.rules.proofs.Samples.{definitions, samples, answer, uuid, credRow, o
 -- ---- reading back (U1): the replies of the four security resources to the owner, and the length that just fits
 
 pub reply : ℕ → List ℕ → List ℕ
-reply room r = let o = responseTo noDefaults owned5 (received 0 r room) in o .answer ∷ o .contents
+reply capacity r = let o = responseTo noDefaults owned5 (received 0 r capacity) in o .answer ∷ o .contents
 
 pub replies-read :
     reply 33 (0x30 ∷ 0x00 ∷ 0x00 ∷ 0x05 ∷ [])

@@ -83,7 +83,7 @@ pub renewed-in-place : rows Creds (tablesAfter noDefaults two-roles (asserts 60 
 unfolding the-day two-roles
 renewed-in-place = refl
 
--- ---- a third gets 22 while both are in force, their last seconds included; then what is over goes first, and the order is that of arrival
+-- ---- a third gets 22 while both are in force, their last seconds included; then expired roles go first, and the order is that of arrival
 
 pub third : map (λ clock. responseTo noDefaults two-roles (asserts clock (role 0 4 200)) .answer) (90 ∷ 91 ∷ 101 ∷ []) ≡ 22 ∷ 0 ∷ 0 ∷ []
 unfolding the-day two-roles
@@ -96,22 +96,22 @@ pub closed-up :
 unfolding the-day two-roles
 closed-up = refl
 
--- the first is over before the second: the second comes to the first place
+-- the first expires before the second: the second comes to the first place
 pub moved-up : rolesAfter (asserts 50 (role 1 7 80) ∷ asserts 50 (role 0 3 90) ∷ asserts 81 (role 0 4 200) ∷ [])
     ≡ unasserted (credRow 5) ∷ haulierWith (role 0 3 90 ++ role 0 4 200) ∷ []
 unfolding the-day
 moved-up = refl
 
--- a role that is over goes first, so that its equal arrives at the end
+-- an expired role goes first, so that its equal arrives at the end
 pub arrives-anew : rolesAfter (asserts 50 (role 1 7 80) ∷ asserts 50 (role 0 3 90) ∷ asserts 81 (role 1 7 200) ∷ [])
     ≡ unasserted (credRow 5) ∷ haulierWith (role 0 3 90 ++ role 1 7 200) ∷ []
 unfolding the-day
 arrives-anew = refl
 
--- a role whose last second is over can be asserted, and is never in force
-pub already-over : answers (asserts 50 (role 1 7 40) ∷ tare 50 ∷ []) ≡ 0 ∷ 8 ∷ []
+-- an expired role can be asserted, and is never in force
+pub already-expired : answers (asserts 50 (role 1 7 40) ∷ tare 50 ∷ []) ≡ 0 ∷ 8 ∷ []
 unfolding the-day
-already-over = refl
+already-expired = refl
 
 -- ---- refusals
 
@@ -143,7 +143,7 @@ permitted-today = refl
 -- ---- reading
 
 pub read-as : ℕ → ℕ → List ℕ → List ℕ
-read-as clock room r = let o = responseTo noDefaults two-roles (received clock r room) in o .answer ∷ o .contents
+read-as clock capacity r = let o = responseTo noDefaults two-roles (received clock r capacity) in o .answer ∷ o .contents
 
 -- both; one; none; another partner; a buffer that is too short; OBSERVE; connection 0 while there is no owner; and the reply of cred, in which no role stands
 pub read-today :

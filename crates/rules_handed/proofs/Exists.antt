@@ -11,11 +11,11 @@ use Rattle.rules_waiting.proofs.Built.{Call, Built, Meets}
 
 -- a call that gives this answer to the record r, with a buffer of this length
 abbrev pub callFor : Transition → ℕ → List ℕ → Call
-callFor a room r = record {
+callFor a capacity r = record {
   judgement = said a;
   queue = a .terminal .queue;
-  lent = replicate room 0;
-  buffer = filled (replicate room 0) (a .response .contents);
+  lent = replicate capacity 0;
+  buffer = filled (replicate capacity 0) (a .response .contents);
   payload = payloadPart (length (a .response .payload)) r;
   size = length (a .bytes);
   bytes = padded (a .bytes);
@@ -23,9 +23,9 @@ callFor a room r = record {
 
 abbrev pub callAt : Defaults → Terminal → Input → Call
 callAt d x (handIn r) = callFor (transition d x (handIn r)) 0 []
-callAt d x (takeAt clock room) =
-    let a = transition d x (takeAt clock room) in callFor a room (take (length (a .bytes)) (padded (a .bytes)))
-callAt d x (direct q) = callFor (transition d x (direct q)) (q .room) (q .bytes)
+callAt d x (takeAt clock capacity) =
+    let a = transition d x (takeAt clock capacity) in callFor a capacity (take (length (a .bytes)) (padded (a .bytes)))
+callAt d x (direct q) = callFor (transition d x (direct q)) (q .capacity) (q .bytes)
 
 abbrev pub callsAt : Defaults → Terminal → List Input → List Call
 callsAt d x [] = []
@@ -33,13 +33,13 @@ callsAt d x (i ∷ is) = callAt d x i ∷ callsAt d (next d x i) is
 
 call-meets : (d : Defaults) (x : Terminal) (i : Input) → Meets d x i (callAt d x i)
 call-meets d x (handIn r) = record { says = refl; keeps = refl }
-call-meets d x (takeAt clock room) =
-    (record { hands = refl; leaves = record { keeps = refl; fills = refl } }, record { sized = length-replicate room 0; passes = refl })
+call-meets d x (takeAt clock capacity) =
+    (record { hands = refl; leaves = record { keeps = refl; fills = refl } }, record { sized = length-replicate capacity 0; passes = refl })
 call-meets d x (direct q) =
-    (record { says = refl; leaves = record { keeps = refl; fills = refl } }, record { sized = length-replicate (q .room) 0; passes = refl })
+    (record { says = refl; leaves = record { keeps = refl; fills = refl } }, record { sized = length-replicate (q .capacity) 0; passes = refl })
 
 pub calls-built : (d : Defaults) (x : Terminal) (is : List Input) → Built d x is (callsAt d x is)
 calls-built d x [] = tt
 calls-built d x (handIn r ∷ is) = (call-meets d x (handIn r), calls-built d (next d x (handIn r)) is)
-calls-built d x (takeAt clock room ∷ is) = (call-meets d x (takeAt clock room), calls-built d (next d x (takeAt clock room)) is)
+calls-built d x (takeAt clock capacity ∷ is) = (call-meets d x (takeAt clock capacity), calls-built d (next d x (takeAt clock capacity)) is)
 calls-built d x (direct q ∷ is) = (call-meets d x (direct q), calls-built d (next d x (direct q)) is)

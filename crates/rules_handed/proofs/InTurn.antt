@@ -87,9 +87,9 @@ module _ (d : Defaults) where
       → recordTaken i (transition d x i) ≡ takenNext (roundIn x) (seats (x .tables)) (recordsIn x) i
   unfolding verdict
   taken-next x (handIn r) h = refl
-  taken-next x (takeAt clock room) h =
+  taken-next x (takeAt clock capacity) h =
       let ws = waiting (x .queue) in
-      taken-seen d x (takeAt clock room)
+      taken-seen d x (takeAt clock capacity)
       ∙ bool-cases (eqb (length ws) 0)
       (λ e. rw (h, length-map ws recordOf, e))
       (λ e. rw (h, length-map ws recordOf, e) (ap (λ (r : List ℕ). r ∷ []) (due-seen x h e)))

@@ -80,8 +80,8 @@ module _ (d : Defaults) where
       check-cases (verdict (handInChecks x r))
       (λ e. rw (e, next, final) (by-rules (terminal (x .tables) (withRecord r (x .queue))) is))
       (λ n e. rw (e, next, final) (by-rules x is))
-  by-rules x (takeAt clock room ∷ is) =
-      let q = received clock (due x) room in
+  by-rules x (takeAt clock capacity ∷ is) =
+      let q = received clock (due x) capacity in
       check-cases (verdict (takeChecks x))
       (λ e. let y = takeOf d x q Pass .terminal in rw (e, next, final) (one-more (x .tables) q (allJudged d y is) _ (by-rules y is)))
       (λ n e. rw (e, next, final) (by-rules x is))

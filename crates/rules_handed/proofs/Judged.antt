@@ -38,7 +38,7 @@ eventIf e (Refuse n) = []
 
 abbrev pub eventAt : Terminal → Input → List Event
 eventAt x (handIn r) = eventIf (enqueued r) (verdict (handInChecks x r))
-eventAt x (takeAt clock room) = eventIf (dequeued (credential (due x)) clock room) (verdict (takeChecks x))
+eventAt x (takeAt clock capacity) = eventIf (dequeued (credential (due x)) clock capacity) (verdict (takeChecks x))
 eventAt x (direct q) = eventIf (immediate q) (verdict (directChecks x))
 
 abbrev pub events : Defaults → Terminal → List Input → List Event
@@ -108,11 +108,11 @@ module _ (t : Tables) where
   newest-start [] h a = refl
   newest-start (w ∷ ws) h a =
       let rest = and-right (slotSound (rows Creds t) w) _ h in
-      let apart = distinct-parts w ws a in
+      let distinct = distinct-parts w ws a in
       rw (eq-eqb (credential (recordOf w)) (credential (recordOf w)) refl, same-refl (recordOf w))
       (newest-more (recordOf w) (map recordOf ws) ws rest
-      (ap (λ (v : Row). some (numberedAs v) ws) (sym (slot-parts t w (and-left (slotSound (rows Creds t) w) _ h) .is)) ∙ apart .0)
-      (newest-start ws rest (apart .1)))
+      (ap (λ (v : Row). some (numberedAs v) ws) (sym (slot-parts t w (and-left (slotSound (rows Creds t) w) _ h) .is)) ∙ distinct .0)
+      (newest-start ws rest (distinct .1)))
 
 -- ---- one input
 
@@ -162,20 +162,20 @@ module _ (d : Defaults) where
       check-cases (verdict (handInChecks x r))
       (λ e. rw (e, next) (follows _ (r ∷ rs) is (rw (e, next) at (sound-next d x (handIn r) h)) (hand-newest x r rs h e l)))
       (λ n e. rw (e, next) (follows x rs is h l))
-  follows x rs (takeAt clock room ∷ is) h l =
+  follows x rs (takeAt clock capacity ∷ is) h l =
       let t = x .tables in
       let ws = waiting (x .queue) in
       let own = hasKey 0 (turn x) in
-      let q = received clock (due x) room in
+      let q = received clock (due x) capacity in
       let s = terminal-parts x h in
       let left = without (sentBy (credential (due x))) rs in
       check-cases (verdict (takeChecks x))
       (λ e. let waits = take-passed x e .1 in
       rw (e, next)
-      (ap₂ (λ (r : List ℕ) (qs : List Request). received clock r room ∷ qs) (due-newest x rs h waits l)
-      (follows (takeOf d x q Pass .terminal) left is (rw (e, next) at (sound-next d x (takeAt clock room) h))
+      (ap₂ (λ (r : List ℕ) (qs : List Request). received clock r capacity ∷ qs) (due-newest x rs h waits l)
+      (follows (takeOf d x q Pass .terminal) left is (rw (e, next) at (sound-next d x (takeAt clock capacity) h))
       (newest-after d t q (after (turn x)) left (without own ws) (s .tables) (turn-is x h waits .two)
-      (every-without (slotSound (rows Creds t)) own ws (s .keeps)) (distinct-without own ws (s .apart))
+      (every-without (slotSound (rows Creds t)) own ws (s .keeps)) (distinct-without own ws (s .distinct))
       (rw (due-seat x h waits) at (newest-less t (due x) rs ws (s .keeps) l))))))
       (λ n e. rw (e, next) (follows x rs is h l))
   follows x rs (direct q ∷ is) h l =
@@ -184,19 +184,19 @@ module _ (d : Defaults) where
       rw (ready, next)
       (ap (λ (qs : List Request). q ∷ qs)
       (follows (directOf d x q Pass .terminal) rs is (rw (ready, next) at (sound-next d x (direct q) h))
-      (newest-after d (x .tables) q (roundOf (x .queue)) rs (waiting (x .queue)) (s .tables) (s .two) (s .keeps) (s .apart) l)))
+      (newest-after d (x .tables) q (roundOf (x .queue)) rs (waiting (x .queue)) (s .tables) (s .two) (s .keeps) (s .distinct) l)))
 
   -- a terminal that is not sound has no event
   unsound-events : (x : Terminal) (is : List Input) → soundTerminal x ≡ false → events d x is ≡ []
   unfolding handedIn taken judged verdict
   unsound-events x [] e = refl
   unsound-events x (handIn r ∷ is) e = rw (e, next) (unsound-events x is e)
-  unsound-events x (takeAt clock room ∷ is) e = rw (e, next) (unsound-events x is e)
+  unsound-events x (takeAt clock capacity ∷ is) e = rw (e, next) (unsound-events x is e)
   unsound-events x (direct q ∷ is) e = rw (e, next) (unsound-events x is e)
 
   -- from a terminal of any content
   pub judged-handed : (x : Terminal) (is : List Input) → requests (recordsIn x) (events d x is) ≡ map requestOf (allJudged d x is)
   judged-handed x is =
       bool-cases (soundTerminal x)
-      (λ h. let s = terminal-parts x h in follows x (recordsIn x) is h (newest-start (x .tables) (waiting (x .queue)) (s .keeps) (s .apart)))
+      (λ h. let s = terminal-parts x h in follows x (recordsIn x) is h (newest-start (x .tables) (waiting (x .queue)) (s .keeps) (s .distinct)))
       (λ e. rw (unsound-events x is e, unsound-run d x is e .0))

@@ -69,17 +69,17 @@ module _ (d : Defaults) (x : Terminal) (q : Request) (h : soundTerminal x ≡ tr
   due-is : due y ≡ q .bytes
   unfolding some
   due-is =
-      let came = taken-came d y (takeAt (q .clock) (q .room) ∷ []) (due y) (rw (y-ready, same-refl (due y))) in
+      let came = taken-came d y (takeAt (q .clock) (q .capacity) ∷ []) (due y) (rw (y-ready, same-refl (due y))) in
       same-true (due y) (q .bytes) (sym (or-false (same (due y) (q .bytes))) ∙ rw one-waits at came)
 
   abbrev z : Terminal
-  z = taken d y (q .clock) (q .room) .terminal
+  z = taken d y (q .clock) (q .capacity) .terminal
 
   -- and then nothing waits
   none-left : recordsIn z ≡ []
   unfolding without
   none-left =
-      let i = takeAt (q .clock) (q .room) in
+      let i = takeAt (q .clock) (q .capacity) in
       let orphaned : recordTaken i (transition d y i) ≡ q .bytes ∷ [] = taken-seen d y i ∙ rw (y-ready, due-is) in
       waits-seen d y i y-sound
       ∙ rw (orphaned, one-waits, own-removed (z .tables) (q .bytes))
@@ -88,8 +88,8 @@ module _ (d : Defaults) (x : Terminal) (q : Request) (h : soundTerminal x ≡ tr
   tables-are : z .tables ≡ tablesAfter d (x .tables) q
   unfolding taken
   tables-are =
-      ap (λ (c : Check). takeOf d y (received (q .clock) (due y) (q .room)) c .terminal .tables) y-ready
-      ∙ ap₂ (λ (t : Tables) (r : List ℕ). tablesAfter d t (received (q .clock) r (q .room))) (hand-tables x (q .bytes)) due-is
+      ap (λ (c : Check). takeOf d y (received (q .clock) (due y) (q .capacity)) c .terminal .tables) y-ready
+      ∙ ap₂ (λ (t : Tables) (r : List ℕ). tablesAfter d t (received (q .clock) r (q .capacity))) (hand-tables x (q .bytes)) due-is
 
 -- ---- all of them
 
@@ -100,6 +100,6 @@ module _ (d : Defaults) where
   one-by-one x (q ∷ qs) h none p =
       let v = y d x q h none (p .0) in
       let w = z d x q h none (p .0) in
-      let more = one-by-one w qs (sound-next d v (takeAt (q .clock) (q .room)) (y-sound d x q h none (p .0))) (none-left d x q h none (p .0))
+      let more = one-by-one w qs (sound-next d v (takeAt (q .clock) (q .capacity)) (y-sound d x q h none (p .0))) (none-left d x q h none (p .0))
       (rw (tables-are d x q h none (p .0)) (p .1)) in
       (rw (one-kept d x q h none (p .0), more .0), rw (y-ready d x q h none (p .0), due-is d x q h none (p .0), more .1))

@@ -27,7 +27,7 @@ module _ (d : Defaults) (x : Terminal) where
   pub event-seen : (i : Input) → eventOf i (transition d x i) ≡ eventAt x i
   unfolding handedIn taken judged
   event-seen (handIn r) = check-cases (verdict (handInChecks x r)) (λ e. rw e) (λ n e. rw (e, not-zero (handInChecks x r) n refl e))
-  event-seen (takeAt clock room) =
+  event-seen (takeAt clock capacity) =
       check-cases (verdict (takeChecks x)) (λ e. rw (e, judged-number d x _ (take-passed x e .0))) (λ n e. rw (e, refused-number x n e))
   event-seen (direct q) =
       check-cases (verdict (directChecks x))
@@ -37,7 +37,7 @@ module _ (d : Defaults) (x : Terminal) where
   pub told-seen : (i : Input) → toldOf i (transition d x i) ≡ map turnTold (judgedAt d x i)
   unfolding handedIn taken judged
   told-seen (handIn r) = refl
-  told-seen (takeAt clock room) =
+  told-seen (takeAt clock capacity) =
       check-cases (verdict (takeChecks x)) (λ e. rw (e, judged-number d x _ (take-passed x e .0))) (λ n e. rw (e, refused-number x n e))
   told-seen (direct q) =
       check-cases (verdict (directChecks x))
@@ -47,20 +47,20 @@ module _ (d : Defaults) (x : Terminal) where
   pub kept-seen : (i : Input) → recordKept i (transition d x i) ≡ keptAt d x i
   unfolding handedIn
   kept-seen (handIn r) = check-cases (verdict (handInChecks x r)) (λ e. rw e) (λ n e. rw (e, not-zero (handInChecks x r) n refl e))
-  kept-seen (takeAt clock room) = refl
+  kept-seen (takeAt clock capacity) = refl
   kept-seen (direct q) = refl
 
   pub taken-seen : (i : Input) → recordTaken i (transition d x i) ≡ map bytesOf (turnsAt d x i)
   unfolding taken
   taken-seen (handIn r) = refl
-  taken-seen (takeAt clock room) =
+  taken-seen (takeAt clock capacity) =
       check-cases (verdict (takeChecks x)) (λ e. rw (e, judged-number d x _ (take-passed x e .0))) (λ n e. rw (e, refused-number x n e))
   taken-seen (direct q) = refl
 
   pub resets-seen : (i : Input) → resets i (transition d x i) ≡ clearing d x i
   unfolding taken judged clears
   resets-seen (handIn r) = refl
-  resets-seen (takeAt clock room) = check-cases (verdict (takeChecks x)) (λ e. rw e) (λ n e. rw (e, not-zero (takeChecks x) n refl e))
+  resets-seen (takeAt clock capacity) = check-cases (verdict (takeChecks x)) (λ e. rw e) (λ n e. rw (e, not-zero (takeChecks x) n refl e))
   resets-seen (direct q) = check-cases (verdict (directChecks x)) (λ e. rw e) (λ n e. rw (e, not-zero (directChecks x) n refl e))
 
 -- ---- a run

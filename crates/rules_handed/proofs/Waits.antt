@@ -98,18 +98,18 @@ module _ (d : Defaults) where
       ≡ cond (clearing d x i) [] (without (isRemoved (map bytesOf (turnsAt d x i)) (next d x i .tables)) (recordsIn x ++ keptAt d x i))
   unfolding handedIn taken judged
   waits-next x (handIn r) h = rw (← handed-records x r h) (sym (all-stay (handedIn x r .terminal) (sound-next d x (handIn r) h)))
-  waits-next x (takeAt clock room) h =
+  waits-next x (takeAt clock capacity) h =
       let t = x .tables in
       let ws = waiting (x .queue) in
       let own = hasKey 0 (turn x) in
-      let q = received clock (due x) room in
+      let q = received clock (due x) capacity in
       let t′ = tablesAfter d t q in
       let s = terminal-parts x h in
       check-cases (verdict (takeChecks x))
       (λ e. let waits = take-passed x e .1 in
       rw (e, next, append-nil (recordsIn x))
       (after-records d t q (after (turn x)) (without own ws) (s .tables) (turn-is x h waits .two)
-      (every-without (slotSound (rows Creds t)) own ws (s .keeps)) (distinct-without own ws (s .apart))
+      (every-without (slotSound (rows Creds t)) own ws (s .keeps)) (distinct-without own ws (s .distinct))
       ∙ ap (λ (l : List (List ℕ)). cond (clears d t q) [] l)
       (ap (map recordOf) (without-both own (orphaned (seats t′)) ws)
       ∙ records-without t (λ w. own w || orphaned (seats t′) w) (isRemoved (due x ∷ []) t′)
@@ -121,7 +121,7 @@ module _ (d : Defaults) where
       let t′ = tablesAfter d t q in
       let s = terminal-parts x h in
       rw (direct-ready x h, next, append-nil (recordsIn x))
-      (after-records d t q (roundOf (x .queue)) ws (s .tables) (s .two) (s .keeps) (s .apart)
+      (after-records d t q (roundOf (x .queue)) ws (s .tables) (s .two) (s .keeps) (s .distinct)
       ∙ ap (λ (l : List (List ℕ)). cond (clears d t q) [] l) (records-without t (orphaned (seats t′)) (isRemoved [] t′) (row-gone t t′) ws (s .keeps)))
 
   pub waits-seen : (x : Terminal) (i : Input) → soundTerminal x ≡ true → recordsIn (next d x i) ≡ waitsAfter (recordsIn x) i (transition d x i)
@@ -160,9 +160,9 @@ module _ (d : Defaults) where
   round-next x (handIn r) h =
       let stays = sym (held-twice (seats (x .tables)) (roundOf (x .queue))) in
       check-cases (verdict (handInChecks x r)) (λ e. rw (e, next, hand-queue x r h e .1) stays) (λ n e. rw (e, next) stays)
-  round-next x (takeAt clock room) h =
+  round-next x (takeAt clock capacity) h =
       let t = x .tables in
-      let q = received clock (due x) room in
+      let q = received clock (due x) capacity in
       check-cases (verdict (takeChecks x))
       (λ e. let waits = take-passed x e .1 in
       let u = turn-is x h waits in
@@ -190,9 +190,9 @@ module _ (d : Defaults) where
   reset-next : (x : Terminal) (i : Input) → clearing d x i ≡ true → next d x i ≡ freshTerminal d
   unfolding taken judged
   reset-next x (handIn r) c = contradiction c refl
-  reset-next x (takeAt clock room) c =
+  reset-next x (takeAt clock capacity) c =
       check-cases (verdict (takeChecks x))
-      (λ e. rw (e, next) (reset-fresh d (x .tables) (received clock (due x) room) _ _ (rw e at c)))
+      (λ e. rw (e, next) (reset-fresh d (x .tables) (received clock (due x) capacity) _ _ (rw e at c)))
       (λ n e. contradiction (rw e at c) refl)
   reset-next x (direct q) c =
       check-cases (verdict (directChecks x))

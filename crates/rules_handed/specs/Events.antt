@@ -33,14 +33,14 @@ newestOf n rs = firstRow (sentBy n) rs
 abbrev pub requests : List (List ℕ) → List Event → List Request
 requests rs [] = []
 requests rs (enqueued r ∷ es) = requests (r ∷ rs) es
-requests rs (dequeued n clock room ∷ es) = received clock (newestOf n rs) room ∷ requests (without (sentBy n) rs) es
+requests rs (dequeued n clock capacity ∷ es) = received clock (newestOf n rs) capacity ∷ requests (without (sentBy n) rs) es
 requests rs (immediate q ∷ es) = q ∷ requests rs es
 
 -- that list after these events
 abbrev pub recordsAfter : List (List ℕ) → List Event → List (List ℕ)
 recordsAfter rs [] = rs
 recordsAfter rs (enqueued r ∷ es) = recordsAfter (r ∷ rs) es
-recordsAfter rs (dequeued n clock room ∷ es) = recordsAfter (without (sentBy n) rs) es
+recordsAfter rs (dequeued n clock capacity ∷ es) = recordsAfter (without (sentBy n) rs) es
 recordsAfter rs (immediate q ∷ es) = recordsAfter rs es
 
 -- ---- what the answers of a run show
@@ -48,7 +48,7 @@ recordsAfter rs (immediate q ∷ es) = recordsAfter rs es
 -- the input's record was judged: at a take, not with 1 or 27; at once, not with 1
 abbrev pub judges : Input → Transition → Bool
 judges (handIn r) a = false
-judges (takeAt clock room) a = not (eqb (a .response .answer) 1 || eqb (a .response .answer) 27)
+judges (takeAt clock capacity) a = not (eqb (a .response .answer) 1 || eqb (a .response .answer) 27)
 judges (direct q) a = not (eqb (a .response .answer) 1)
 
 abbrev pub listIf : {A : Type 0} → Bool → A → List A
@@ -57,7 +57,7 @@ listIf b y = cond b (y ∷ []) []
 -- of a record that a take handed out only its credential number
 abbrev pub eventOf : Input → Transition → List Event
 eventOf (handIn r) a = listIf (eqb (a .response .answer) 0) (enqueued r)
-eventOf (takeAt clock room) a = listIf (judges (takeAt clock room) a) (dequeued (credential (a .bytes)) clock room)
+eventOf (takeAt clock capacity) a = listIf (judges (takeAt clock capacity) a) (dequeued (credential (a .bytes)) clock capacity)
 eventOf (direct q) a = listIf (judges (direct q) a) (immediate q)
 
 -- what the sender of a judged record is told

@@ -16,7 +16,7 @@ use Rattle.rules_waiting.specs.Inputs.{Input, handIn, takeAt}
 -- each request's record is handed in, and taken at its clock with a buffer of its length
 abbrev pub oneByOne : List Request → List Input
 oneByOne [] = []
-oneByOne (q ∷ qs) = handIn (q .bytes) ∷ takeAt (q .clock) (q .room) ∷ oneByOne qs
+oneByOne (q ∷ qs) = handIn (q .bytes) ∷ takeAt (q .clock) (q .capacity) ∷ oneByOne qs
 
 -- each record passes 2 to 7 in the tables that it meets
 abbrev pub AllPass : Defaults → Tables → List Request → Type 0

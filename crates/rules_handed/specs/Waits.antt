@@ -22,19 +22,19 @@ use Rattle.rules_handed.specs.Events.{sentBy, judges, listIf}
 -- the record that was enqueued
 abbrev pub recordKept : Input → Transition → List (List ℕ)
 recordKept (handIn r) a = listIf (eqb (a .response .answer) 0) r
-recordKept (takeAt clock room) a = []
+recordKept (takeAt clock capacity) a = []
 recordKept (direct q) a = []
 
 -- the record that a take handed out
 abbrev pub recordTaken : Input → Transition → List (List ℕ)
 recordTaken (handIn r) a = []
-recordTaken (takeAt clock room) a = listIf (judges (takeAt clock room) a) (a .bytes)
+recordTaken (takeAt clock capacity) a = listIf (judges (takeAt clock capacity) a) (a .bytes)
 recordTaken (direct q) a = []
 
 -- the record was permitted, and enters RESET
 abbrev pub resets : Input → Transition → Bool
 resets (handIn r) a = false
-resets (takeAt clock room) a = eqb (a .response .answer) 0 && isReset (action (a .bytes))
+resets (takeAt clock capacity) a = eqb (a .response .answer) 0 && isReset (action (a .bytes))
 resets (direct q) a = eqb (a .response .answer) 0 && isReset (action (q .bytes))
 
 -- no credential row is added or removed, and the tables are not cleared
@@ -107,7 +107,7 @@ firstSeat k ps rs = firstRow (λ p. some (inSeat p) rs) (inTurn k ps)
 -- the record that an input hands out: a take that of this seat, if any record waits
 abbrev pub takenNext : Round → List Seat → List (List ℕ) → Input → List (List ℕ)
 takenNext k ps rs (handIn r) = []
-takenNext k ps rs (takeAt clock room) = listIf (not (eqb (length rs) 0)) (firstRow (inSeat (firstSeat k ps rs)) rs)
+takenNext k ps rs (takeAt clock capacity) = listIf (not (eqb (length rs) 0)) (firstRow (inSeat (firstSeat k ps rs)) rs)
 takenNext k ps rs (direct q) = []
 
 -- each answer hands out this record, where the tables were t and the queue so before the first

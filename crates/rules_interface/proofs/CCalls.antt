@@ -27,7 +27,7 @@ saidIn words t = record {
   permission = getD words 1 0;
   payload = getD words 3 0;
   reply = getD words 4 0;
-  places = record { first = getD words 5 0; many = getD words 6 0 };
+  places = record { first = getD words 5 0; count = getD words 6 0 };
   links = record { set = getD words 7 0; size = getD words 8 0 };
   tables = t;
 }
@@ -35,7 +35,7 @@ saidIn words t = record {
 -- the record whose part the payload is; a hand-in has none
 abbrev pub recordIn : Input → CCall → List ℕ
 recordIn (handIn r) c = []
-recordIn (takeAt clock room) c = take (getD (c .size) 0 0) (c .bytes)
+recordIn (takeAt clock capacity) c = take (getD (c .size) 0 0) (c .bytes)
 recordIn (direct q) c = q .bytes
 
 abbrev pub callOf : Input → CCall → Call
@@ -85,8 +85,8 @@ module _ (d : Defaults) (m : Memory) where
         says = said-back (handedIn x r) (c .words) _ (p .0 .says) (ap (λ (n : Memory). terminalAt n .tables) (p .1) ∙ hand-in-tables x r);
         keeps = p .0 .keeps;
       }
-  c-meets (takeAt clock room) c p =
-      let a = taken d (terminalAt m) clock room in
+  c-meets (takeAt clock capacity) c p =
+      let a = taken d (terminalAt m) clock capacity in
       let x = tables-left (a .terminal) (c .memory) (p .0 .keeps) in (
         record {
           hands = handed-back a (c .words) (c .size) (c .bytes) _ (p .0 .says) (p .0 .sized) (p .0 .hands) (ap (λ (y : Terminal). y .tables) x);

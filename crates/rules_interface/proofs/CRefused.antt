@@ -49,11 +49,11 @@ module _ (d : Defaults) (m : Memory) (sized : length (m .counts) ≡ 4) (c : CCa
       )
 
   -- a take that answers 1 or 27: no record either
-  pub c-nothing : (clock room : ℕ) → Promised d m (takeAt clock room) c → getD (c .words) 0 0 ≡ n → (eqb n 1 || eqb n 27) ≡ true
+  pub c-nothing : (clock capacity : ℕ) → Promised d m (takeAt clock capacity) c → getD (c .words) 0 0 ≡ n → (eqb n 1 || eqb n 27) ≡ true
       → (c .words ≡ numberWords n) × (c .size ≡ 0 ∷ []) × (c .memory ≡ m) × (c .buffer ≡ c .lent)
   unfolding offsetOf filled
-  c-nothing clock room p a e =
-      let r = take-nothing d (terminalAt m) clock room n e (sym (ap (λ (l : List ℕ). getD l 0 0) (p .0 .says)) ∙ a) in (
+  c-nothing clock capacity p a e =
+      let r = take-nothing d (terminalAt m) clock capacity n e (sym (ap (λ (l : List ℕ). getD l 0 0) (p .0 .says)) ∙ a) in (
         p .0 .says ∙ ap wordsOf r,
         p .0 .sized ∙ ap (λ (t : Transition). length (t .bytes) ∷ []) r,
         p .0 .keeps ∙ ap (λ (t : Transition). memoryOf (t .terminal)) r ∙ memory-back m sized,
@@ -61,12 +61,12 @@ module _ (d : Defaults) (m : Memory) (sized : length (m .counts) ≡ 4) (c : CCa
       )
 
   -- a take whose record is refused: the record has left its place, and nothing of the tables changes
-  pub c-refused-take : (clock room : ℕ) → Promised d m (takeAt clock room) c → soundTerminal (terminalAt m) ≡ true
+  pub c-refused-take : (clock capacity : ℕ) → Promised d m (takeAt clock capacity) c → soundTerminal (terminalAt m) ≡ true
       → eqb (length (waiting (m .queue))) 0 ≡ false → getD (c .words) 0 0 ≡ suc n
       → (c .words ≡ numberWords (suc n)) × (c .memory ≡ withQueue m (c .memory .queue)) × (c .buffer ≡ c .lent)
   unfolding offsetOf filled
-  c-refused-take clock room p h w a =
-      let r = refused-take d (terminalAt m) clock room n h w (sym (ap (λ (l : List ℕ). getD l 0 0) (p .0 .says)) ∙ a) in
+  c-refused-take clock capacity p h w a =
+      let r = refused-take d (terminalAt m) clock capacity n h w (sym (ap (λ (l : List ℕ). getD l 0 0) (p .0 .says)) ∙ a) in
       let k = p .0 .keeps ∙ ap (λ (t : Transition). memoryOf (t .terminal)) r ∙ queue-back m _ sized in (
         p .0 .says ∙ ap wordsOf r,
         k ∙ ap (withQueue m) (sym (ap (λ (b : Memory). b .queue) k)),

@@ -76,18 +76,18 @@ module _ (m : Memory) (h : Head) (reads : h ≡ headAt (m .counts) (m .devowner)
   hands-in-at r j words queue g w =
       let is = read (λ (x : Terminal). HandsIn x r (saidOf j (m .creds) (m .aces)) queue) g in record { says = w ∙ ap wordsIn (is .says); keeps = is .keeps }
 
-  pub takes-at : (d : Defaults) (clock room : ℕ) (u : Taken) (words size bytes : List ℕ) (after : Memory) (lent buffer : List ℕ)
-      → Takes d (terminal (tablesOf h (m .creds) (m .aces)) (m .queue)) clock room (takenOf u (after .creds) (after .aces)) lent (after .queue) buffer
+  pub takes-at : (d : Defaults) (clock capacity : ℕ) (u : Taken) (words size bytes : List ℕ) (after : Memory) (lent buffer : List ℕ)
+      → Takes d (terminal (tablesOf h (m .creds) (m .aces)) (m .queue)) clock capacity (takenOf u (after .creds) (after .aces)) lent (after .queue) buffer
       → words ≡ wordsIn (saidOf (u .judgement) [] []) → size ≡ u .size ∷ [] → bytes ≡ u .bytes → PutBack (u .judgement .head) after
-      → TakesAt d m clock room words size bytes after lent buffer
-  takes-at d clock room u words size bytes after lent buffer g w n b p =
-      let is = read (λ (x : Terminal). Takes d x clock room (takenOf u (after .creds) (after .aces)) lent (after .queue) buffer) g in
+      → TakesAt d m clock capacity words size bytes after lent buffer
+  takes-at d clock capacity u words size bytes after lent buffer g w n b p =
+      let is = read (λ (x : Terminal). Takes d x clock capacity (takenOf u (after .creds) (after .aces)) lent (after .queue) buffer) g in
       let tables = ap (λ (t : HandedOut). t .judgement .tables) (is .hands) in
       record {
         says = w ∙ ap (λ (t : HandedOut). wordsIn (t .judgement)) (is .hands);
         sized = n ∙ ap (λ (t : HandedOut). t .size ∷ []) (is .hands);
         hands = b ∙ ap (λ (t : HandedOut). t .bytes) (is .hands);
-        keeps = put-back (u .judgement .head) (taken d (terminalAt m) clock room .terminal) after p tables (is .leaves .keeps);
+        keeps = put-back (u .judgement .head) (taken d (terminalAt m) clock capacity .terminal) after p tables (is .leaves .keeps);
         fills = is .leaves .fills;
       }
 

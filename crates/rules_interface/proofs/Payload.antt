@@ -30,15 +30,15 @@ judged-payload : (d : Defaults) (x : Terminal) (q : Request)
 unfolding judged
 judged-payload d x q = check-cases (verdict (directChecks x)) (λ e. rw e (payload-is d (x .tables) q)) (λ n e. rw e)
 
-taken-payload : (d : Defaults) (x : Terminal) (clock room : ℕ)
-    → let a = taken d x clock room in payloadPart (length (a .response .payload)) (a .bytes) ≡ a .response .payload
+taken-payload : (d : Defaults) (x : Terminal) (clock capacity : ℕ)
+    → let a = taken d x clock capacity in payloadPart (length (a .response .payload)) (a .bytes) ≡ a .response .payload
 unfolding taken
-taken-payload d x clock room = check-cases (verdict (takeChecks x)) (λ e. rw e (payload-is d (x .tables) (received clock (due x) room))) (λ n e. rw e)
+taken-payload d x clock capacity = check-cases (verdict (takeChecks x)) (λ e. rw e (payload-is d (x .tables) (received clock (due x) capacity))) (λ n e. rw e)
 
 pub payload-found : (d : Defaults) (x : Terminal) (q : Request) → payloadIn (wordsOf (judged d x q)) (q .bytes) ≡ judged d x q .response .payload
 payload-found d x q = part-found (length (judged d x q .response .payload)) (q .bytes) ∙ judged-payload d x q
 
-pub payload-taken : (d : Defaults) (x : Terminal) (clock room : ℕ)
-    → payloadIn (wordsOf (taken d x clock room)) (taken d x clock room .bytes) ≡ taken d x clock room .response .payload
-payload-taken d x clock room =
-    let a = taken d x clock room in part-found (length (a .response .payload)) (a .bytes) ∙ taken-payload d x clock room
+pub payload-taken : (d : Defaults) (x : Terminal) (clock capacity : ℕ)
+    → payloadIn (wordsOf (taken d x clock capacity)) (taken d x clock capacity .bytes) ≡ taken d x clock capacity .response .payload
+payload-taken d x clock capacity =
+    let a = taken d x clock capacity in part-found (length (a .response .payload)) (a .bytes) ∙ taken-payload d x clock capacity

@@ -23,8 +23,9 @@ pub record CCall : Type 0 where
 -- what the input's C function promises on the memory m. The length that it speaks of is that of the buffer, and a hand-in reads the tables alone
 abbrev pub Promised : Defaults → Memory → Input → CCall → Type 0
 Promised d m (handIn r) c = HandsInAt m r (c .words) (c .memory .queue) × (c .memory ≡ withQueue m (c .memory .queue))
-Promised d m (takeAt clock room) c = TakesAt d m clock room (c .words) (c .size) (c .bytes) (c .memory) (c .lent) (c .buffer) × (length (c .lent) ≡ room)
-Promised d m (direct q) c = JudgesAt d m q (c .words) (c .memory) (c .lent) (c .buffer) × (length (c .lent) ≡ q .room)
+Promised d m (takeAt clock capacity) c =
+    TakesAt d m clock capacity (c .words) (c .size) (c .bytes) (c .memory) (c .lent) (c .buffer) × (length (c .lent) ≡ capacity)
+Promised d m (direct q) c = JudgesAt d m q (c .words) (c .memory) (c .lent) (c .buffer) × (length (c .lent) ≡ q .capacity)
 
 -- the clear button's call too; of it the memory counts alone
 abbrev pub PromisedBy : Defaults → Memory → Act → CCall → Type 0

@@ -33,7 +33,7 @@ wordsIn s =
     ∷ s .payload
     ∷ s .reply
     ∷ s .places .first
-    ∷ s .places .many
+    ∷ s .places .count
     ∷ s .links .set
     ∷ s .links .size
     ∷ []
@@ -69,12 +69,12 @@ pub record JudgesAt (d : Defaults) (m : Memory) (q : Request) (words : List ℕ)
   pub fills : buffer ≡ filled lent (judged d (terminalAt m) q .response .contents)
 
 -- a take, at a clock, with a buffer of a length: also the record's length, and the record with zeros behind it
-pub record TakesAt (d : Defaults) (m : Memory) (clock room : ℕ) (words size bytes : List ℕ) (after : Memory) (lent buffer : List ℕ) : Type 0 where
-  pub says : words ≡ wordsOf (taken d (terminalAt m) clock room)
-  pub sized : size ≡ length (taken d (terminalAt m) clock room .bytes) ∷ []
-  pub hands : bytes ≡ padded (taken d (terminalAt m) clock room .bytes)
-  pub keeps : after ≡ memoryOf (taken d (terminalAt m) clock room .terminal)
-  pub fills : buffer ≡ filled lent (taken d (terminalAt m) clock room .response .contents)
+pub record TakesAt (d : Defaults) (m : Memory) (clock capacity : ℕ) (words size bytes : List ℕ) (after : Memory) (lent buffer : List ℕ) : Type 0 where
+  pub says : words ≡ wordsOf (taken d (terminalAt m) clock capacity)
+  pub sized : size ≡ length (taken d (terminalAt m) clock capacity .bytes) ∷ []
+  pub hands : bytes ≡ padded (taken d (terminalAt m) clock capacity .bytes)
+  pub keeps : after ≡ memoryOf (taken d (terminalAt m) clock capacity .terminal)
+  pub fills : buffer ≡ filled lent (taken d (terminalAt m) clock capacity .response .contents)
 
 -- ---- lists: an answer, and a row or a length
 

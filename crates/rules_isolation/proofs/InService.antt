@@ -45,9 +45,9 @@ data Moves (d : Defaults) (x : Terminal) (i : Input) : Type 0 where
 moves : (d : Defaults) (x : Terminal) (i : Input) → Moves d x i
 unfolding handedIn taken judged
 moves d x (handIn r) = idle refl (check-cases (verdict (handInChecks x r)) (λ e. rw (e, next)) (λ n e. rw (e, next)))
-moves d x (takeAt clock room) =
+moves d x (takeAt clock capacity) =
     check-cases (verdict (takeChecks x))
-    (λ e. judges (received clock (due x) room) (rw e) (rw (e, next)))
+    (λ e. judges (received clock (due x) capacity) (rw e) (rw (e, next)))
     (λ n e. idle (rw e) (rw (e, next)))
 moves d x (direct q) = check-cases (verdict (directChecks x)) (λ e. judges q (rw e) (rw (e, next))) (λ n e. idle (rw e) (rw (e, next)))
 
@@ -161,8 +161,8 @@ turns-handed d x is = ap₂ paired (requests-are d x is) (told-are d x is) ∙ p
 requests-append : (rs : List (List ℕ)) (es fs : List Event) → requests rs (es ++ fs) ≡ requests rs es ++ requests (recordsAfter rs es) fs
 requests-append rs [] fs = refl
 requests-append rs (enqueued r ∷ es) fs = requests-append (r ∷ rs) es fs
-requests-append rs (dequeued n clock room ∷ es) fs =
-    ap (λ (qs : List Request). received clock (newestOf n rs) room ∷ qs) (requests-append (without (sentBy n) rs) es fs)
+requests-append rs (dequeued n clock capacity ∷ es) fs =
+    ap (λ (qs : List Request). received clock (newestOf n rs) capacity ∷ qs) (requests-append (without (sentBy n) rs) es fs)
 requests-append rs (immediate q ∷ es) fs = ap (λ (qs : List Request). q ∷ qs) (requests-append rs es fs)
 
 module _ (d : Defaults) (chosen : Sender → Bool) (Such : Tables → Type 0) where

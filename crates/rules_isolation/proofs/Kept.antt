@@ -147,8 +147,8 @@ module _ (d : Defaults) (chosen : Sender → Bool) (small : SmallNumbers chosen)
 
   some-removed : (go : Row → Bool) (ws : List Row) → distinctNumbers ws ≡ true
       → (s : Sender) → chosen s ≡ true → Stays (senderRowIn (without go ws) s) (senderRowIn ws s)
-  some-removed go ws apart Unauthenticated c = same refl
-  some-removed go ws apart (Partner n) c = first-without n go ws apart
+  some-removed go ws distinct Unauthenticated c = same refl
+  some-removed go ws distinct (Partner n) c = first-without n go ws distinct
 
   module _ (t : Tables) (q : Request) (h : sound t ≡ true) (safe : Harmless chosen t) where
     -- of somebody else, permitted
@@ -167,7 +167,7 @@ module _ (d : Defaults) (chosen : Sender → Bool) (small : SmallNumbers chosen)
     effect-harmless (Store Aces) o x e =
         aces-changed chosen t safe _ (stored-sound Aces t q h x) (λ p less none. none-stored p (rowOf Aces (body (q .bytes))) _ (less _ e) none)
     effect-harmless (Remove Creds key) o x e =
-        creds-changed chosen t safe _ (removed-sound Creds t (goes key (body (q .bytes))) h) (some-removed _ _ (table-parts Creds t h .apart))
+        creds-changed chosen t safe _ (removed-sound Creds t (goes key (body (q .bytes))) h) (some-removed _ _ (table-parts Creds t h .distinct))
     effect-harmless (Remove Aces key) o x e =
         aces-changed chosen t safe _ (removed-sound Aces t (goes key (body (q .bytes))) h) (λ p less none. some-without p _ _ none)
     effect-harmless (Assert k) o x e =

@@ -49,23 +49,23 @@ turns-are d t (u ∷ us) e =
     ap₂ (λ (y : Response) (vs : List Turn). record { request = u .request; response = y } ∷ vs) here more
 
 -- our senders are none of theirs
-abbrev pub Apart : (Sender → Bool) → (Sender → Bool) → Type 0
-Apart ours theirs = (s : Sender) → ours s ≡ true → theirs s ≡ false
+abbrev pub NoCommonSender : (Sender → Bool) → (Sender → Bool) → Type 0
+NoCommonSender ours theirs = (s : Sender) → ours s ≡ true → theirs s ≡ false
 
 -- so our turns are among those that are not theirs
-turns-among : (ours theirs : Sender → Bool) → Apart ours theirs → (us : List Turn) → turnsOf ours us ≡ turnsOf ours (kept (othersTurn theirs) us)
-turns-among ours theirs apart [] = refl
-turns-among ours theirs apart (u ∷ us) =
+turns-among : (ours theirs : Sender → Bool) → NoCommonSender ours theirs → (us : List Turn) → turnsOf ours us ≡ turnsOf ours (kept (othersTurn theirs) us)
+turns-among ours theirs disjoint [] = refl
+turns-among ours theirs disjoint (u ∷ us) =
     let s = sender (bytesOf u) in
-    let more = turns-among ours theirs apart us in
+    let more = turns-among ours theirs disjoint us in
     bool-cases (ours s)
-    (λ e. rw (e, apart s e, e, more))
+    (λ e. rw (e, disjoint s e, e, more))
     (λ e. bool-cases (theirs s) (λ f. rw (e, f, more)) (λ f. rw (e, f, e, more)))
 
-alone : (d : Defaults) (ours theirs : Sender → Bool) (x : Terminal) (us : List Turn) (end : Tables) → Apart ours theirs
+alone : (d : Defaults) (ours theirs : Sender → Bool) (x : Terminal) (us : List Turn) (end : Tables) → NoCommonSender ours theirs
     → AsTheBook d theirs x (kept (othersTurn theirs) us) end → Alone d ours theirs (x .tables) us end
-alone d ours theirs x us end apart e = record {
-  response = turns-among ours theirs apart us ∙ ap (turnsOf ours) (turns-are d (x .tables) (kept (othersTurn theirs) us) (e .0));
+alone d ours theirs x us end disjoint e = record {
+  response = turns-among ours theirs disjoint us ∙ ap (turnsOf ours) (turns-are d (x .tables) (kept (othersTurn theirs) us) (e .0));
   tables = e .1;
 }
 
@@ -73,11 +73,11 @@ alone d ours theirs x us end apart e = record {
 
 module _ (d : Defaults) (yards : List (List ℕ)) (x : Terminal) (is : List Input) (asked : AllIsolated yards (x .tables)) where
   -- for any senders, and any others of the yards
-  separate : (ours theirs : Sender → Bool) → Apart ours theirs → Within theirs (ofYards yards) → AgainAt d (ofYards yards) (AllIsolated yards) x is
+  separate : (ours theirs : Sender → Bool) → NoCommonSender ours theirs → Within theirs (ofYards yards) → AgainAt d (ofYards yards) (AllIsolated yards) x is
       → AloneIn d ours theirs x is (answersTo d x is) (final (next d) x is)
-  separate ours theirs apart within a =
+  separate ours theirs disjoint within a =
       rw (turns-handed d x is)
-      (alone d ours theirs x _ _ apart
+      (alone d ours theirs x _ _ disjoint
       (isolated d theirs x is
       (λ _. service d (ofYards yards) (yards-small yards) theirs within x is (λ _. yards-harmless yards (x .tables) asked)
       (again-map d (ofYards yards) _ (Premise (ofYards yards)) (λ t e _. yards-harmless yards t e) x is a))))

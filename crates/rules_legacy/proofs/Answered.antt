@@ -10,34 +10,37 @@ use Rattle.rules.specs.Checks.{verdict, numberOf}
 use Rattle.rules_legacy.specs.OldList.{badFile}
 use Rattle.rules_legacy.specs.Conversion.{rowsMade, tooManyRows, bufferTooShort, conversionVerdict, handedOut, conversionReply}
 use Rattle.rules_legacy.proofs.Stored.{rows-long, rows-size, few-rows}
+use Rattle.rules.specs.declared.Table.the-variants.{Aces}
+use Rattle.rules.specs.Sizes.{aceRowSize}
+use Rattle.rules.specs.Tables.{tableSize}
 
-module _ (f : List ℕ) (room : ℕ) where
+module _ (f : List ℕ) (capacity : ℕ) where
   -- 23, then 24, then 25: the first that applies is given, and only then
-  pub answer-is : numberOf (conversionVerdict f room) ≡ cond (badFile f) 23 (cond (tooManyRows f) 24 (cond (bufferTooShort f room) 25 0))
+  pub answer-is : numberOf (conversionVerdict f capacity) ≡ cond (badFile f) 23 (cond (tooManyRows f) 24 (cond (bufferTooShort f capacity) 25 0))
   unfolding conversionVerdict verdict
   answer-is =
       bool-cases (badFile f) (λ a. rw a)
-      (λ a. bool-cases (tooManyRows f) (λ b. rw (a, b)) (λ b. bool-cases (bufferTooShort f room) (λ c. rw (a, b, c)) (λ c. rw (a, b, c))))
+      (λ a. bool-cases (tooManyRows f) (λ b. rw (a, b)) (λ b. bool-cases (bufferTooShort f capacity) (λ c. rw (a, b, c)) (λ c. rw (a, b, c))))
 
   -- with 0 no check applies, and the rows are handed out
   pub record Converted : Type 0 where
     pub good : badFile f ≡ false
     pub few : tooManyRows f ≡ false
-    pub fits : bufferTooShort f room ≡ false
-    pub response : conversionReply f room ≡ joined (rowsMade f)
+    pub fits : bufferTooShort f capacity ≡ false
+    pub response : conversionReply f capacity ≡ joined (rowsMade f)
 
-  pub converted : numberOf (conversionVerdict f room) ≡ 0 → Converted
+  pub converted : numberOf (conversionVerdict f capacity) ≡ 0 → Converted
   unfolding conversionReply conversionVerdict verdict
   converted e =
       bool-cases (badFile f) (λ a. absurd (omega (arith, rw a at e)))
       (λ a. bool-cases (tooManyRows f) (λ b. absurd (omega (arith, rw (a, b) at e)))
-      (λ b. bool-cases (bufferTooShort f room) (λ c. absurd (omega (arith, rw (a, b, c) at e)))
+      (λ b. bool-cases (bufferTooShort f capacity) (λ c. absurd (omega (arith, rw (a, b, c) at e)))
       (λ c. record { good = a; few = b; fits = c; response = rw (a, b, c) })))
 
   -- any other answer hands nothing out
-  pub refused-nothing : (n : ℕ) → numberOf (conversionVerdict f room) ≡ suc n → conversionReply f room ≡ []
+  pub refused-nothing : (n : ℕ) → numberOf (conversionVerdict f capacity) ≡ suc n → conversionReply f capacity ≡ []
   unfolding conversionReply
-  refused-nothing n = go (conversionVerdict f room)
+  refused-nothing n = go (conversionVerdict f capacity)
     where
       go : (c : Check) → numberOf c ≡ suc n → handedOut f c ≡ []
       go Pass e = absurd (omega arith)
@@ -52,14 +55,14 @@ refused-kept f buffer n e = rw (refused-nothing f (length buffer) n e)
 -- ---- the longest result
 
 -- a buffer of 1,152 bytes never gets 25
-pub never-25 : (f : List ℕ) (few : tooManyRows f ≡ false) (room : ℕ) → 1152 ≤ room → bufferTooShort f room ≡ false
+pub never-25 : (f : List ℕ) (few : tooManyRows f ≡ false) (capacity : ℕ) → (tableSize Aces) ≤ capacity → bufferTooShort f capacity ≡ false
 unfolding bufferTooShort
-never-25 f few room h = le-ltb room (length (joined (rowsMade f))) (omega (arith, rows-size f, few-rows f few))
+never-25 f few capacity h = le-ltb capacity (length (joined (rowsMade f))) (omega (arith, rows-size f, few-rows f few))
 
 -- ---- the rows are read back
 
 -- what is handed out is a list of access rows, and those rows are the rows made
 pub rows-listed : (f : List ℕ) → listed (joined (rowsMade f)) ≡ rowsMade f
 rows-listed f =
-    let n : length (joined (rowsMade f)) / 36 ≡ length (rowsMade f) = omega (arith, rows-size f) in
-    rw (n, ← append-nil (joined (rowsMade f))) (rowsOf-joined 36 (rowsMade f) [] (rows-long f))
+    let n : length (joined (rowsMade f)) / aceRowSize ≡ length (rowsMade f) = omega (arith, rows-size f) in
+    rw (n, ← append-nil (joined (rowsMade f))) (rowsOf-joined aceRowSize (rowsMade f) [] (rows-long f))

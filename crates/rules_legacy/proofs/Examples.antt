@@ -84,7 +84,7 @@ past-the-bounds = refl
 -- ---- the checks
 
 abbrev answer : List ℕ → ℕ → ℕ
-answer f room = numberOf (conversionVerdict f room)
+answer f capacity = numberOf (conversionVerdict f capacity)
 
 pub times : ℕ → Row → List ℕ
 times zero o = []
@@ -108,11 +108,11 @@ unfolding converting oldRow anybody somebody times
 uuids = refl
 
 -- a buffer that just fits, one byte short, and none; no rows need none
-pub rooms :
+pub capacities :
     answer anybody 72 ∷ answer anybody 71 ∷ answer somebody 36 ∷ answer somebody 35 ∷ answer somebody 0 ∷ answer [] 0 ∷ []
     ≡ 0 ∷ 25 ∷ 0 ∷ 25 ∷ 25 ∷ 0 ∷ []
 unfolding converting oldRow anybody somebody
-rooms = refl
+capacities = refl
 
 -- each zero bit; resources 5, 7, 15, 17 and 63; a row that is cut, and a byte more; a bad row behind seventeen good ones that are too many, with no room
 pub bad-files :

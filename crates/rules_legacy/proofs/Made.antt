@@ -8,10 +8,11 @@ use Rattle.rules.proofs.BitLaws.{bits-in-byte, bits-small}
 use Rattle.rules_legacy.specs.OldList.{oldPermission, oldSet, inOldSet}
 use Rattle.rules_legacy.specs.Conversion.{entry}
 use Rattle.rules_legacy.proofs.BitParts.{bit-drop, bits-drop, bit-take, bit-append}
+use Rattle.rules.specs.Sizes.{aceRowSize}
 
 -- the access row a was made of the old row o for a subject of this kind
 pub record Made (kind : ℕ) (subject : List ℕ) (o a : Row) : Type 0 where
-  pub long : length a ≡ 36
+  pub long : length a ≡ aceRowSize
   pub kindIs : aceKind a ≡ kind
   pub permission : acePermission a ≡ oldPermission o
   pub plus : acePlus a ≡ false

@@ -36,9 +36,9 @@ numbers-are i (e ∷ es) h = ap₂ (λ (x : ℕ) (ns : List ℕ). x ∷ ns) (num
 
 -- ---- none stands twice
 
-words-apart : (j i : ℕ) → j < i → same (be16 i) (be16 j) ≡ false
+be16-distinct : (j i : ℕ) → j < i → same (be16 i) (be16 j) ≡ false
 unfolding same be16
-words-apart j i h =
+be16-distinct j i h =
     bool-cases (eqb (i / 256) (j / 256) && (eqb (i % 256) (j % 256) && true))
     (λ e.
     let high : i / 256 ≡ j / 256 = eqb-true (i / 256) (j / 256) (and-left _ _ e) in
@@ -49,7 +49,7 @@ words-apart j i h =
 none-numbered : (j i : ℕ) (d : List ℕ) (es : List (List ℕ)) → j < i → some (numberedAs (be16 j ++ d)) (numberedFrom i es) ≡ false
 unfolding some numberedFrom numberedAs be16
 none-numbered j i d [] h = refl
-none-numbered j i d (e ∷ es) h = or-neither _ _ (words-apart j i h) (none-numbered j (i + 1) d es (omega arith))
+none-numbered j i d (e ∷ es) h = or-neither _ _ (be16-distinct j i h) (none-numbered j (i + 1) d es (omega arith))
 
 pub numbers-distinct : (i : ℕ) (es : List (List ℕ)) → distinctNumbers (numberedFrom i es) ≡ true
 unfolding distinctNumbers numberedFrom

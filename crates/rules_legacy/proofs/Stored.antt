@@ -16,6 +16,7 @@ use Rattle.rules_legacy.specs.Conversion.{uuidEntry, connectionSubject, 
 use Rattle.rules_legacy.proofs.Made.{Made}
 use Rattle.rules_legacy.proofs.Numbered.{numbered-length, numbered-append, numbersFrom, number-is, numbers-are, numbers-distinct}
 use Rattle.rules_legacy.proofs.SameUnion.{old-long, made-uuid, made-connection, in-connection}
+use Rattle.rules.specs.Sizes.{aceRowSize}
 
 -- ---- 36 bytes
 
@@ -23,19 +24,19 @@ long-append : (s : ℕ) (ws vs : List Row) → AllLong s ws → AllLong s vs →
 long-append s [] vs a b = b
 long-append s (w ∷ ws) vs a b = (a .0, long-append s ws vs (a .1) b)
 
-made-long : (i : ℕ) (o : Row) → length o ≡ 25 → AllLong 36 (numberedFrom i (entriesOf o))
+made-long : (i : ℕ) (o : Row) → length o ≡ 25 → AllLong aceRowSize (numberedFrom i (entriesOf o))
 unfolding entriesOf numberedFrom
 made-long i o long =
-    cond-cases (λ (es : List (List ℕ)). AllLong 36 (numberedFrom i es)) (isAnybody o)
+    cond-cases (λ (es : List (List ℕ)). AllLong aceRowSize (numberedFrom i es)) (isAnybody o)
     (λ _. (made-connection i o long _ .long, (made-connection (i + 1) o long _ .long, tt)))
     (λ _. (made-uuid i o long .long, tt))
 
-all-long : (i : ℕ) (os : List Row) → AllLong 25 os → AllLong 36 (numberedFrom i (allEntries os))
+all-long : (i : ℕ) (os : List Row) → AllLong 25 os → AllLong aceRowSize (numberedFrom i (allEntries os))
 unfolding allEntries numberedFrom
 all-long i [] a = tt
 all-long i (o ∷ os) a =
     rw (numbered-append i (entriesOf o) (allEntries os))
-    (long-append 36 (numberedFrom i (entriesOf o)) _ (made-long i o (a .0)) (all-long (i + length (entriesOf o)) os (a .1)))
+    (long-append aceRowSize (numberedFrom i (entriesOf o)) _ (made-long i o (a .0)) (all-long (i + length (entriesOf o)) os (a .1)))
 
 -- ---- storable
 
@@ -103,7 +104,7 @@ all-storable i (o ∷ os) a h k good =
 -- ---- of a file
 
 module _ (f : List ℕ) where
-  pub rows-long : AllLong 36 (rowsMade f)
+  pub rows-long : AllLong aceRowSize (rowsMade f)
   unfolding rowsMade
   rows-long = all-long _ (oldRows f) (old-long f)
 
@@ -111,8 +112,8 @@ module _ (f : List ℕ) where
   unfolding rowsMade
   rows-count = numbered-length _ (allEntries (oldRows f))
 
-  pub rows-size : length (joined (rowsMade f)) ≡ length (rowsMade f) * 36
-  rows-size = length-joined 36 (rowsMade f) rows-long
+  pub rows-size : length (joined (rowsMade f)) ≡ length (rowsMade f) * aceRowSize
+  rows-size = length-joined aceRowSize (rowsMade f) rows-long
 
   -- no number stands twice
   pub rows-distinct : distinctNumbers (rowsMade f) ≡ true
@@ -142,5 +143,5 @@ module _ (f : List ℕ) where
     rows-sound good = record {
       few = few-rows;
       stores = all-storable _ (oldRows f) (old-long f) (omega arith) few-entries (or-right (not (eqb (length f % 25) 0)) _ good);
-      apart = rows-distinct;
+      distinct = rows-distinct;
     }

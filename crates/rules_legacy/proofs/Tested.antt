@@ -24,6 +24,7 @@ use Rattle.rules_legacy.proofs.Numbered.{numbered-append}
 use Rattle.rules_legacy.proofs.SameUnion.{old-long, made-uuid, made-connection, resource-is}
 use Rattle.rules_legacy.proofs.Stored.{rows-size, few-rows, rows-sound}
 use Rattle.rules_legacy.proofs.Answered.{rows-listed}
+use Rattle.rules.specs.Sizes.{aceRowSize}
 
 -- ---- what the test says of a list whose rows an access list holds
 
@@ -35,7 +36,7 @@ module _ (b : List ℕ) (whole : badSize b ≡ false) (sound : SoundRows Aces (l
       let stores = sym (every-append (storable Aces) before (w ∷ s .after)) ∙ ap (every (storable Aces)) (sym (s .stands)) ∙ sound .stores in
       or-neither _ _
       (ap not (and-left (storable Aces w) _ (and-right (every (storable Aces) before) _ stores)))
-      (none-before before w (s .after) (rw (s .stands) at (sound .apart)))
+      (none-before before w (s .after) (rw (s .stands) at (sound .distinct)))
 
   -- a row that gives too much stands among them
   some-excessive : (before : List Row) (w : Row) → Behind before w (listed b) → excessive w ≡ true → some excessive (listed b) ≡ true
@@ -91,8 +92,8 @@ module _ (f : List ℕ) (good : badFile f ≡ false) (few : tooManyRows f ≡ fa
   rows-whole =
       let n = length (joined (rowsMade f)) in
       or-neither _ _
-      (ap not (eq-eqb (n % 36) 0 (omega (arith, rows-size f))))
-      (le-ltb 32 (n / 36) (omega (arith, rows-size f, few-rows f few)))
+      (ap not (eq-eqb (n % aceRowSize) 0 (omega (arith, rows-size f))))
+      (le-ltb 32 (n / aceRowSize) (omega (arith, rows-size f, few-rows f few)))
 
   -- so never 19 or 20, and 21 exactly where a "*" row opened a security resource
   pub rows-tested : listTested (joined (rowsMade f)) .answer ≡ cond (some opensSecurity (oldRows f)) 21 0

@@ -57,13 +57,13 @@ unfoldable pub tooManyRows : List ℕ → Bool
 tooManyRows f = ltb (capacity Aces) (length (rowsMade f))
 
 unfoldable pub bufferTooShort : List ℕ → ℕ → Bool
-bufferTooShort f room = ltb room (length (joined (rowsMade f)))
+bufferTooShort f capacity = ltb capacity (length (joined (rowsMade f)))
 
 abbrev pub conversionChecks : List ℕ → ℕ → List (ℕ × Bool)
-conversionChecks f room = (23, badFile f) ∷ (24, tooManyRows f) ∷ (25, bufferTooShort f room) ∷ []
+conversionChecks f capacity = (23, badFile f) ∷ (24, tooManyRows f) ∷ (25, bufferTooShort f capacity) ∷ []
 
 unfoldable pub conversionVerdict : List ℕ → ℕ → Check
-conversionVerdict f room = verdict (conversionChecks f room)
+conversionVerdict f capacity = verdict (conversionChecks f capacity)
 
 -- the rows, or none after a refusal
 abbrev pub handedOut : List ℕ → Check → List ℕ
@@ -71,4 +71,4 @@ handedOut f Pass = joined (rowsMade f)
 handedOut f (Refuse n) = []
 
 unfoldable pub conversionReply : List ℕ → ℕ → List ℕ
-conversionReply f room = handedOut f (conversionVerdict f room)
+conversionReply f capacity = handedOut f (conversionVerdict f capacity)

@@ -29,9 +29,10 @@ use Rattle.rules_lists.specs.Lists.{listed, listTested}
 use Rattle.rules_lists.specs.Loading.{storing, Stores, Ready}
 use Rattle.rules_lists.proofs.Exact.{accepted-faultless}
 use Rattle.rules_lists.proofs.Loaded.{owner-passes, built-loaded}
+use Rattle.rules.specs.Sizes.{aceRowSize}
 
 -- a record that stores a row asks for that, or is malformed
-storing-action : (n : ℕ) (w : Row) → length w ≡ 36 → action (storing n w) ≡ storeRow Aces w
+storing-action : (n : ℕ) (w : Row) → length w ≡ aceRowSize → action (storing n w) ≡ storeRow Aces w
 unfolding storing be16 bits bit entryOf actionOf securityAction updateAction updateRows
 storing-action n w l = rw l
 
@@ -44,7 +45,7 @@ creds-stay d t q w e =
     (λ n f. rw (f, tablesAfter))
 
 -- each record passes 2 to 7 in the tables u that it meets, which have the credential rows of t
-all-pass : (d : Defaults) (t u : Tables) → sound t ≡ true → rows Creds u ≡ rows Creds t → (ws : List Row) (qs : List Request) → AllLong 36 ws
+all-pass : (d : Defaults) (t u : Tables) → sound t ≡ true → rows Creds u ≡ rows Creds t → (ws : List Row) (qs : List Request) → AllLong aceRowSize ws
     → Stores t qs ws → AllPass d u qs
 all-pass d t u h same [] [] l e = tt
 all-pass d t u h same [] (q ∷ qs) l e = absurd e
@@ -62,7 +63,7 @@ pub turns-loaded : (d : Defaults) (x : Terminal) (b : List ℕ) (qs : List Reque
     × (rows Aces (handedBack x cs .tables) ≡ listed b)
     × (withRows Aces (handedBack x cs .tables) [] ≡ withRows Aces (x .tables) [])
 turns-loaded d x b qs cs built a h none ready e =
-    let long = every-long 36 (storable Aces) (sized Aces) (listed b) (accepted-faultless b a .clean .stores) in
+    let long = every-long aceRowSize (storable Aces) (sized Aces) (listed b) (accepted-faultless b a .clean .stores) in
     let all = built-one-by-one d x qs cs built h none (all-pass d (x .tables) (x .tables) (ready .isSound) refl (listed b) qs long e) in
     let l = built-loaded d x b (oneByOne qs) cs built a ready (rw (all .1) e) in
     (all .0, rw (all .1) at (l .0), l .1, l .2)

@@ -17,7 +17,7 @@ use Rattle.rules_lists.specs.Lists.{listed, badSize, unfit, excessive, r
 -- rows without a fault: each could be stored, no number twice, none that gives too much
 pub record Clean (ws : List Row) : Type 0 where
   pub stores : every (storable Aces) ws ≡ true
-  pub apart : distinctNumbers ws ≡ true
+  pub distinct : distinctNumbers ws ≡ true
   pub modest : some excessive ws ≡ false
 
 -- the fault n of a row behind these
@@ -48,7 +48,7 @@ clean-more : (earlier : List Row) (w : Row) → Clean earlier → unfit earlier 
 unfolding unfit every some
 clean-more earlier w c u g = record {
   stores = every-append (storable Aces) earlier (w ∷ []) ∙ rw (c .stores, not-false (storable Aces w) (or-left _ _ u));
-  apart = distinct-end earlier w (c .apart) (or-right (not (storable Aces w)) (some (numberedAs w) earlier) u);
+  distinct = distinct-end earlier w (c .distinct) (or-right (not (storable Aces w)) (some (numberedAs w) earlier) u);
   modest = some-append excessive earlier (w ∷ []) ∙ rw (c .modest, g);
 }
 
@@ -59,7 +59,7 @@ row-passes earlier w after c =
     let stores = and-right (every (storable Aces) earlier) _ (sym (every-append (storable Aces) earlier (w ∷ after)) ∙ c .stores) in
     let modest = or-right (some excessive earlier) _ (sym (some-append excessive earlier (w ∷ after)) ∙ c .modest) in
     let fits = and-left (storable Aces w) (every (storable Aces) after) stores in
-    rw (fits, none-before earlier w after (c .apart), or-left (excessive w) (some excessive after) modest)
+    rw (fits, none-before earlier w after (c .distinct), or-left (excessive w) (some excessive after) modest)
 
 -- a row with a fault is refused with it
 fault-verdict : (before : List Row) (w : Row) (n : ℕ) → RowFault before w n → verdict (rowChecks before w) ≡ Refuse n
@@ -94,7 +94,7 @@ rows-told earlier (w ∷ ws) c =
 
 list-told : (b : List ℕ) → badSize b ≡ false → Response (listed b) (listTested b)
 unfolding listTested refuseIf every distinctNumbers some
-list-told b e = rw e (rows-told [] (listed b) (record { stores = refl; apart = refl; modest = refl }))
+list-told b e = rw e (rows-told [] (listed b) (record { stores = refl; distinct = refl; modest = refl }))
 
 -- 19, with row 0, for a bad size
 size-refused : (b : List ℕ) → badSize b ≡ true → listTested b ≡ said 19 0

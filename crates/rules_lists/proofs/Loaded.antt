@@ -41,6 +41,7 @@ use Rattle.rules_handed.proofs.Calls.{built-rules}
 use Rattle.rules_lists.specs.Lists.{listed, badSize, listTested}
 use Rattle.rules_lists.specs.Loading.{ownsDevice, storing, Stores, Ready, Loaded}
 use Rattle.rules_lists.proofs.Exact.{accepted-faultless}
+use Rattle.rules.specs.Sizes.{aceRowSize}
 
 -- ---- the sender
 
@@ -76,7 +77,7 @@ module _ (t : Tables) (n : ℕ) (h : sound t ≡ true) (o : ownsDevice t (Partne
 
   -- ---- the owner's record that stores w
 
-  module _ (small : n < 65536) (w : Row) (l : length w ≡ 36) where
+  module _ (small : n < 65536) (w : Row) (l : length w ≡ aceRowSize) where
     number-is : credential (storing n w) ≡ n
     unfolding storing be16
     number-is = bits-word (storing n w) 2 (omega arith) (omega arith) ∙ omega arith
@@ -89,7 +90,7 @@ module _ (t : Tables) (n : ℕ) (h : sound t ≡ true) (o : ownsDevice t (Partne
     unfolding storing be16 bits bit verdict badLength noVerb zeroBitSet mismatch unknownResource entryOf noCredential
     owner-passes = rw (l, number-is, ne-eqb n 0 not-zero, from-owner, there)
 
-  owner-may : n < 65536 → (q : Request) (w : Row) → length w ≡ 36 → q .bytes ≡ storing n w → MayStore Aces t q w
+  owner-may : n < 65536 → (q : Request) (w : Row) → length w ≡ aceRowSize → q .bytes ≡ storing n w → MayStore Aces t q w
   unfolding permissionOf storing be16 bits bit
   owner-may small q w l e = record {
     passes = rw e (owner-passes small w l);
@@ -100,7 +101,7 @@ module _ (t : Tables) (n : ℕ) (h : sound t ≡ true) (o : ownsDevice t (Partne
   }
 
 -- each may, in the tables before the first
-owners-may : (t : Tables) → sound t ≡ true → (ws : List Row) (qs : List Request) → AllLong 36 ws → Stores t qs ws → AllMayStore Aces t qs ws
+owners-may : (t : Tables) → sound t ≡ true → (ws : List Row) (qs : List Request) → AllLong aceRowSize ws → Stores t qs ws → AllMayStore Aces t qs ws
 owners-may t h [] [] l e = tt
 owners-may t h [] (q ∷ qs) l e = absurd e
 owners-may t h (w ∷ ws) [] l e = absurd e
@@ -117,19 +118,19 @@ ready-takes t r = record { isSound = r .isSound; inState = rw (r .inRfpro); noRo
 rows-loaded : (d : Defaults) (t : Tables) (ws : List Row) (qs : List Request) → Ready t → SoundRows Aces ws → Stores t qs ws → Loaded d t qs ws
 rows-loaded d t ws qs ready x e =
     let is = rows-themselves Aces ws (x .stores) in
-    let long = every-long 36 (storable Aces) (sized Aces) ws (x .stores) in
+    let long = every-long aceRowSize (storable Aces) (sized Aces) ws (x .stores) in
     subst (Loaded d t qs) is (all-stored d Aces t ws qs (ready-takes t ready) long (rw is x) (owners-may t (ready .isSound) ws qs long e))
 
 few-rows : (b : List ℕ) → badSize b ≡ false → length (listed b) ≤ 32
 unfolding badSize
-few-rows b e = rw (length-rowsOf 36 (length b / 36) b) (ltb-false 32 (length b / 36) (or-right (not (eqb (length b % 36) 0)) _ e))
+few-rows b e = rw (length-rowsOf aceRowSize (length b / aceRowSize) b) (ltb-false 32 (length b / aceRowSize) (or-right (not (eqb (length b % aceRowSize) 0)) _ e))
 
 -- an accepted list is permitted throughout
 pub accepted-loaded : (d : Defaults) (t : Tables) (b : List ℕ) (qs : List Request)
     → listTested b .answer ≡ 0 → Ready t → Stores t qs (listed b) → Loaded d t qs (listed b)
 accepted-loaded d t b qs a ready e =
     let f = accepted-faultless b a in
-    rows-loaded d t (listed b) qs ready (record { few = few-rows b (f .whole); stores = f .clean .stores; apart = f .clean .apart }) e
+    rows-loaded d t (listed b) qs ready (record { few = few-rows b (f .whole); stores = f .clean .stores; distinct = f .clean .distinct }) e
 
 -- U1: so are the access rows of the reply to a permitted RETRIEVE, which need not be a list that the test accepts
 pub reply-loaded : (d : Defaults) (t u : Tables) (q : Request) (qs : List Request)

@@ -18,6 +18,7 @@ use Rattle.rules.proofs.BitLaws.{bits-below}
 use Rattle.rules_office.specs.Office.{dashed, dash, hexByte, uuidFrom, uuidText, comma, separated, uuidSubject, roleSubject, connectionSubject}
 use Rattle.rules_office.specs.Office.{subjectText, href, choices, chosen, picked, braced, resourcesText, rowText, rowsText, listText, seasonal}
 use Rattle.rules_office.specs.Office.{rowsWritten, officeText, officeVerdict}
+use Rattle.rules.specs.Sizes.{aceRowSize}
 
 -- ---- numbers
 
@@ -123,8 +124,8 @@ list-length ws h = simp length-append (omega (arith, all-rows ws h))
 pub text-short : (t : Tables) → length (officeText t) ≤ 13069
 unfolding rowsIn
 text-short t =
-    let ws = rowsOf 36 (min (t .naces) 32) (t .aces) in
-    let few : length ws ≤ 32 = rw (length-rowsOf 36 (min (t .naces) 32) (t .aces)) (min-le-right (t .naces) 32) in
+    let ws = rowsOf aceRowSize (min (t .naces) 32) (t .aces) in
+    let few : length ws ≤ 32 = rw (length-rowsOf aceRowSize (min (t .naces) 32) (t .aces)) (min-le-right (t .naces) 32) in
     list-length (rowsWritten ws) (omega (arith, length-without seasonal ws, few))
 
 pub never-18 : (x : Terminal) → soundTerminal x ≡ true → officeVerdict x 13069 ≡ Pass

@@ -4,7 +4,7 @@ pub mod Codes
 mod Decimals
 pub mod Agree
 mod Subjects
-pub mod Apart
+pub mod Injective
 pub mod Bounds
 pub mod Visible
 pub mod Examples

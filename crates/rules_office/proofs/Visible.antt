@@ -14,6 +14,7 @@ use Rattle.rules_office.proofs.Codes.{all, all-join, all-picked}
 use Rattle.rules_office.proofs.Decimals.{isDigit, digits}
 use Rattle.rules_office.proofs.Agree.{isByte}
 use Rattle.rules_office.proofs.Subjects.{all-take, all-drop}
+use Rattle.rules.specs.Sizes.{aceRowSize}
 
 abbrev visible : ℕ → Bool
 visible b = ltb 32 b && ltb b 127
@@ -110,14 +111,14 @@ row-visible w h = joined-visible _ (rw (decimal-visible (rowNumber w), subject-v
 
 -- ---- the list
 
-rows-bytes : (n : ℕ) (b : List ℕ) → all isByte b ≡ true → all (all isByte) (rowsWritten (rowsOf 36 n b)) ≡ true
+rows-bytes : (n : ℕ) (b : List ℕ) → all isByte b ≡ true → all (all isByte) (rowsWritten (rowsOf aceRowSize n b)) ≡ true
 unfolding rowsOf without
 rows-bytes zero b h = refl
 rows-bytes (suc n) b h =
-    let more = rows-bytes n (drop 36 b) (all-drop isByte 36 b h) in
-    cond-cases (λ (ws : List Row). all (all isByte) ws ≡ true) (seasonal (take 36 b))
+    let more = rows-bytes n (drop aceRowSize b) (all-drop isByte aceRowSize b h) in
+    cond-cases (λ (ws : List Row). all (all isByte) ws ≡ true) (seasonal (take aceRowSize b))
     (λ _. more)
-    (λ _. and-both (all isByte (take 36 b)) _ (all-take isByte 36 b h) more)
+    (λ _. and-both (all isByte (take aceRowSize b)) _ (all-take isByte aceRowSize b h) more)
 
 list-visible : (ws : List Row) → all (all isByte) ws ≡ true → Visible (listText ws)
 unfolding listText rowsText ascii

@@ -138,7 +138,7 @@ officeText t = listText (rowsWritten (rows Aces t))
 
 -- 17 covers what waits too, as check 1 does (U13)
 abbrev pub officeChecks : Terminal → ℕ → List (ℕ × Bool)
-officeChecks x room = (17, not (soundTerminal x)) ∷ (18, ltb room (length (officeText (x .tables)))) ∷ []
+officeChecks x capacity = (17, not (soundTerminal x)) ∷ (18, ltb capacity (length (officeText (x .tables)))) ∷ []
 
 -- the text that is given after a verdict
 abbrev pub given : Terminal → Check → List ℕ
@@ -146,7 +146,7 @@ given x Pass = officeText (x .tables)
 given x (Refuse n) = []
 
 unfoldable pub officeVerdict : Terminal → ℕ → Check
-officeVerdict x room = verdict (officeChecks x room)
+officeVerdict x capacity = verdict (officeChecks x capacity)
 
 unfoldable pub officeReply : Terminal → ℕ → List ℕ
-officeReply x room = given x (officeVerdict x room)
+officeReply x capacity = given x (officeVerdict x capacity)

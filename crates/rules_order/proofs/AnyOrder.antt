@@ -6,7 +6,7 @@ use Rattle.rows.specs.Rows.{Row, packed, every}
 use Rattle.rows.proofs.Laws.{kept}
 use Rattle.rules.specs.declared.Tables.{Tables}
 use Rattle.rules.specs.declared.Table.the-variants.{Creds, Aces}
-use Rattle.rules.specs.Tables.{storable, rows, withRows, sound}
+use Rattle.rules.specs.Tables.{storable, rows, withRows, sound, tableSize}
 use Rattle.rules.specs.Defaults.{Defaults}
 use Rattle.rules.specs.Run.{replies, final}
 use Rattle.rules.proofs.Answers.{table-parts, rows-are, rows-count}
@@ -22,6 +22,7 @@ use Rattle.rules_order.specs.Order.{InStep, withAccess, SameAnswer, InPa
 use Rattle.rules_order.proofs.ReorderLaws.{order-length, order-every, order-distinct, order-sorted}
 use Rattle.rules_order.proofs.OneRecord.{order-is}
 use Rattle.rules_order.proofs.OneInput.{owners-next, input-step}
+use Rattle.rules.specs.Sizes.{aceRowSize}
 
 -- ---- two runs over the same inputs, with a relation between their states, and one between what is said
 
@@ -65,14 +66,14 @@ any-order d x y is s l =
 -- ---- what the relation says: nothing else differs, byte for byte
 
 -- the second terminal is the first with the access rows of the second
-pub order-whole : (x y : Terminal) → InStep x y → length (y .tables .aces) ≡ 1152 → y ≡ withAccess x (rows Aces (y .tables))
+pub order-whole : (x y : Terminal) → InStep x y → length (y .tables .aces) ≡ tableSize Aces → y ≡ withAccess x (rows Aces (y .tables))
 order-whole x y s l =
     let u = y .tables in
     let h = terminal-parts y (s .soundRight) .tables in
-    let stands : u .aces ≡ packed 1152 (rows Aces u) = kept 36 (u .naces) (u .aces) (table-is Aces u h l) ∙ ap₂ packed l (sym (rows-are Aces u h)) in
+    let stands : u .aces ≡ packed (tableSize Aces) (rows Aces u) = kept aceRowSize (u .naces) (u .aces) (table-is Aces u h l) ∙ ap₂ packed l (sym (rows-are Aces u h)) in
     ap₂ terminal
     (order-is (x .tables) u (s .tables)
-    ∙ aces-are (x .tables) (rows Aces u) (x .tables .naces) 1152 (u .aces) (s .tables .counted ∙ sym (rows-count Aces u h)) stands refl)
+    ∙ aces-are (x .tables) (rows Aces u) (x .tables .naces) (tableSize Aces) (u .aces) (s .tables .counted ∙ sym (rows-count Aces u h)) stands refl)
     (sym (s .queue))
 
 -- ---- the office's question: a sound terminal whose access rows are put in any order is sound, and in step with it
@@ -83,7 +84,7 @@ reordered-rows t ws h o =
     record {
       few = rw (← order-length o) (few-rows Aces t h);
       stores = sym (order-every (storable Aces) o) ∙ p .stores;
-      apart = sym (order-distinct o) ∙ p .apart;
+      distinct = sym (order-distinct o) ∙ p .distinct;
     }
 
 -- what waits is sound beside any tables with the same seats

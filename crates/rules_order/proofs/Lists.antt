@@ -18,6 +18,7 @@ use Rattle.rules_order.specs.Reorder.{Reordered}
 use Rattle.rules_order.specs.Order.{OrderOnly}
 use Rattle.rules.proofs.Answers.{rows-count}
 use Rattle.rules_order.proofs.ReorderLaws.{order-length, order-every, order-some, order-distinct}
+use Rattle.rules.specs.Sizes.{aceRowSize}
 
 pub list-any-order : (b c : List ℕ) → length b ≡ length c → Reordered (listed b) (listed c) → listTested b .answer ≡ 0 → listTested c ≡ accepted
 unfolding badSize
@@ -25,10 +26,10 @@ list-any-order b c l o h =
     let f = accepted-faultless b h in
     faultless-accepted c
     (record {
-      whole = ap (λ (n : ℕ). not (eqb (n % 36) 0) || ltb 32 (n / 36)) (sym l) ∙ f .whole;
+      whole = ap (λ (n : ℕ). not (eqb (n % aceRowSize) 0) || ltb 32 (n / aceRowSize)) (sym l) ∙ f .whole;
       clean = record {
         stores = sym (order-every (storable Aces) o) ∙ f .clean .stores;
-        apart = sym (order-distinct o) ∙ f .clean .apart;
+        distinct = sym (order-distinct o) ∙ f .clean .distinct;
         modest = sym (order-some excessive o) ∙ f .clean .modest;
       };
     })

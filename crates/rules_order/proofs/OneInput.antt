@@ -69,15 +69,15 @@ module _ (d : Defaults) (t : Tables) (z m : List ℕ) (o : Reordered (rows Aces 
       (check-cases (verdict (handInChecks x r))
       (λ e. rw e (record { same = record { bytes = refl; response = same-told _ _ }; queue = refl; tables = congruent }))
       (λ n e. rw e (stays (handIn r) n)))
-  stepped (takeAt clock room) =
+  stepped (takeAt clock capacity) =
       let v : verdict (takeChecks y) ≡ verdict (takeChecks x) = rw (h, k) in
-      let q = received clock (due x) room in
+      let q = received clock (due x) capacity in
       let both = judged-both q in
       rw v
       (check-cases (verdict (takeChecks x))
       (λ e. rw e
       (record { same = record { bytes = refl; response = both .0 }; queue = queue-same d t u q congruent (both .0 .answer) (both .1) _ _; tables = both .1 }))
-      (λ n e. rw e (stays (takeAt clock room) n)))
+      (λ n e. rw e (stays (takeAt clock capacity) n)))
   stepped (direct q) =
       let v : verdict (directChecks y) ≡ verdict (directChecks x) = rw (h, k) in
       let both = judged-both q in
@@ -92,9 +92,9 @@ module _ (d : Defaults) (t : Tables) (z m : List ℕ) (o : Reordered (rows Aces 
 pub owners-next : (d : Defaults) (x : Terminal) (i : Input) → length (x .tables .rowners) ≡ 64 → length (next d x i .tables .rowners) ≡ 64
 unfolding handedIn taken judged
 owners-next d x (handIn r) l = check-cases (verdict (handInChecks x r)) (λ e. rw (e, next) l) (λ n e. rw (e, next) l)
-owners-next d x (takeAt clock room) l =
+owners-next d x (takeAt clock capacity) l =
     check-cases (verdict (takeChecks x))
-    (λ e. rw (e, next) (owners-kept d (x .tables) (received clock (due x) room) l))
+    (λ e. rw (e, next) (owners-kept d (x .tables) (received clock (due x) capacity) l))
     (λ n e. rw (e, next) l)
 owners-next d x (direct q) l =
     check-cases (verdict (directChecks x)) (λ e. rw (e, next) (owners-kept d (x .tables) q l)) (λ n e. rw (e, next) l)

@@ -37,6 +37,7 @@ use Rattle.rules.proofs.ReadBack.{reply-is, owner-long, long-rows, read-rows}
 use Rattle.rules_order.specs.Reorder.{Reordered}
 use Rattle.rules_order.specs.Order.{OrderOnly, listsAccess, SameListed, SameBut}
 use Rattle.rules_order.proofs.ReorderLaws.{cond-both, order-refl, order-length, order-joined, order-union, order-some, order-stored, order-without}
+use Rattle.rules.specs.Sizes.{aceRowSize}
 
 -- ---- a record that removes access rows is a DELETE of acl2: on any other resource the action is another
 
@@ -96,7 +97,7 @@ unfolding replyTo reads listsAccess entryOf
 listed-is clock t r h =
     rw (and-left (eqb (verb r) 1) (eqb (resource r) acl2) h, eqb-true (resource r) acl2 (and-right (eqb (verb r) 1) _ h)) (reply-is clock Aces t (senderRow t (sender r)))
 
-same-listed : (owner : List ℕ) (vs ws : List Row) → length owner ≡ 16 → AllLong 36 vs → AllLong 36 ws → Reordered vs ws
+same-listed : (owner : List ℕ) (vs ws : List Row) → length owner ≡ 16 → AllLong aceRowSize vs → AllLong aceRowSize ws → Reordered vs ws
     → SameListed (owner ++ joined vs) (owner ++ joined ws)
 same-listed owner vs ws l a b o = record {
   long = simp length-append (omega (arith, order-joined o));
@@ -208,7 +209,7 @@ module _ (t : Tables) (x : List ℕ) (o : Reordered (rows Aces t) (rows Aces (wi
   effect-order d q (Store Aces) h k v w =
       let new = rowOf Aces (body (q .bytes)) in
       with-order (stored new (rows Aces t)) (stored new (rows Aces other))
-      (order-stored new o (table-parts Aces t h .apart)) (stored-sound Aces t q h v) (stored-sound Aces other q k w)
+      (order-stored new o (table-parts Aces t h .distinct)) (stored-sound Aces t q h v) (stored-sound Aces other q k w)
   effect-order d q (Remove Creds key) h k v w = record { others = refl; counted = refl; order = o }
   effect-order d q (Remove Aces key) h k v w =
       let goes = goes key (body (q .bytes)) in

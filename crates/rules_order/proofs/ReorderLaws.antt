@@ -67,16 +67,16 @@ numbered-sym : (v w : Row) → numberedAs v w ≡ numberedAs w v
 unfolding numberedAs
 numbered-sym v w = same-sym (take 2 w) (take 2 v)
 
-apart-either : (t u v d : Bool) → (not (t || u) && (not v && d)) ≡ (not (t || v) && (not u && d))
-apart-either true u v d = refl
-apart-either false u v d = and-either (not u) (not v) d
+not-either : (t u v d : Bool) → (not (t || u) && (not v && d)) ≡ (not (t || v) && (not u && d))
+not-either true u v d = refl
+not-either false u v d = and-either (not u) (not v) d
 
 pub order-distinct : {vs ws : List Row} → Reordered vs ws → distinctNumbers vs ≡ distinctNumbers ws
 unfolding distinctNumbers some
 order-distinct none = refl
 order-distinct (keep {w = w} o) = rw (order-some (numberedAs w) o, order-distinct o)
 order-distinct (swap {v = v} {w = w} {ws = ws}) =
-    rw (numbered-sym v w) (apart-either (numberedAs w v) (some (numberedAs v) ws) (some (numberedAs w) ws) (distinctNumbers ws))
+    rw (numbered-sym v w) (not-either (numberedAs w v) (some (numberedAs v) ws) (some (numberedAs w) ws) (distinctNumbers ws))
 order-distinct (then o p) = order-distinct o ∙ order-distinct p
 
 -- ---- a row stored, rows removed

@@ -64,7 +64,7 @@ pub record SameBut (r : List ℕ) (x y : Response) : Type 0 where
 -- the record that the answer to an input is about; a hand-in judges none
 abbrev pub judgedIn : Input → Transition → List ℕ
 judgedIn (handIn r) a = []
-judgedIn (takeAt clock room) a = a .bytes
+judgedIn (takeAt clock capacity) a = a .bytes
 judgedIn (direct q) a = q .bytes
 
 -- the same record is handed out, and the same but for the order is said

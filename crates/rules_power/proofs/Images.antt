@@ -5,6 +5,8 @@ use Rattle.rules.specs.declared.Tables.{Tables}
 use Rattle.rules_waiting.specs.Slots.{queueSize}
 use Rattle.rules_waiting.specs.Terminal.{Terminal, terminal}
 use Rattle.rules_power.specs.Image.{tablesImage, terminalImage, tablesSize, terminalSize, field, tablesIn, terminalIn, SizedTables, SizedTerminal}
+use Rattle.rules.specs.declared.Table.the-variants.{Aces, Creds}
+use Rattle.rules.specs.Tables.{tableSize}
 
 -- ---- lengths
 
@@ -71,8 +73,8 @@ module _ (t : Tables) (rest : List ℕ) (l : SizedTables t) where
   tables-among =
       let owner = next-field 16 4 bytes (t .devowner) _ (l .devowner) arrays in
       let owners = next-field 64 20 bytes (t .rowners) _ (l .rowners) (owner .1) in
-      let creds = next-field 936 84 bytes (t .creds) _ (l .creds) (owners .1) in
-      let aces = next-field 1152 1020 bytes (t .aces) rest (l .aces) (creds .1) in
+      let creds = next-field (tableSize Creds) 84 bytes (t .creds) _ (l .creds) (owners .1) in
+      let aces = next-field (tableSize Aces) 1020 bytes (t .aces) rest (l .aces) (creds .1) in
       same-tables t _ _ _ _ (owner .0) (owners .0) (creds .0) (aces .0)
 
 pub tables-back : (t : Tables) → SizedTables t → tablesIn (tablesImage t) ≡ t

@@ -10,7 +10,7 @@ use Rattle.rules.specs.declared.Action.{Action}
 use Rattle.rules.specs.declared.Action.the-variants.{Serve, Read, SetRowOwner, SetOwner, SetState, Store, Remove, Assert, Malformed}
 use Rattle.rules.specs.Record.{Request, body, received}
 use Rattle.rules.specs.Bodies.{nil}
-use Rattle.rules.specs.Tables.{stride, storable, withRows, sound, empty}
+use Rattle.rules.specs.Tables.{stride, storable, withRows, sound, empty, tableSize}
 use Rattle.rules.specs.Defaults.{Defaults, fresh}
 use Rattle.rules.specs.Keys.{goes}
 use Rattle.rules.specs.Action.{action}
@@ -32,13 +32,13 @@ use Rattle.rules_power.specs.Image.{SizedTables, SizedTerminal}
 -- ---- tables
 
 length-rows : (k : Table) (size : ℕ) (ws : List Row) → length ws * stride k ≤ size → SoundRows k ws → length (packed size ws) ≡ size
-length-rows k size ws room s = length-packed (stride k) size ws (every-long (stride k) (storable k) (sized k) ws (s .stores)) room
+length-rows k size ws fits s = length-packed (stride k) size ws (every-long (stride k) (storable k) (sized k) ws (s .stores)) fits
 
 rows-sized : (k : Table) (t : Tables) (ws : List Row) → SoundRows k ws → SizedTables t → SizedTables (withRows k t ws)
 rows-sized Creds t ws s l =
-    record { devowner = l .devowner; rowners = l .rowners; creds = length-rows Creds 936 ws (omega (arith, s .few)) s; aces = l .aces }
+    record { devowner = l .devowner; rowners = l .rowners; creds = length-rows Creds (tableSize Creds) ws (omega (arith, s .few)) s; aces = l .aces }
 rows-sized Aces t ws s l =
-    record { devowner = l .devowner; rowners = l .rowners; creds = l .creds; aces = length-rows Aces 1152 ws (omega (arith, s .few)) s }
+    record { devowner = l .devowner; rowners = l .rowners; creds = l .creds; aces = length-rows Aces (tableSize Aces) ws (omega (arith, s .few)) s }
 
 empty-sized : SizedTables empty
 unfolding empty nil
@@ -81,8 +81,8 @@ outcome-sized d t q l =
 pub tables-sized : (d : Defaults) (x : Terminal) (i : Input) → SizedTables (x .tables) → SizedTables (next d x i .tables)
 unfolding handedIn taken judged
 tables-sized d x (handIn r) l = check-cases (verdict (handInChecks x r)) (λ e. rw (e, next) l) (λ n e. rw (e, next) l)
-tables-sized d x (takeAt clock room) l =
-    check-cases (verdict (takeChecks x)) (λ e. rw (e, next) (outcome-sized d (x .tables) (received clock (due x) room) l)) (λ n e. rw (e, next) l)
+tables-sized d x (takeAt clock fits) l =
+    check-cases (verdict (takeChecks x)) (λ e. rw (e, next) (outcome-sized d (x .tables) (received clock (due x) fits) l)) (λ n e. rw (e, next) l)
 tables-sized d x (direct q) l =
     check-cases (verdict (directChecks x)) (λ e. rw (e, next) (outcome-sized d (x .tables) q l)) (λ n e. rw (e, next) l)
 

@@ -177,7 +177,7 @@ module _ (d : Defaults) where
   takes-inputs : (is : List Input) → takesIn (map input is) ≡ takes is
   takes-inputs [] = refl
   takes-inputs (handIn r ∷ is) = omega (arith, takes-inputs is)
-  takes-inputs (takeAt clock room ∷ is) = omega (arith, takes-inputs is)
+  takes-inputs (takeAt clock capacity ∷ is) = omega (arith, takes-inputs is)
   takes-inputs (direct q ∷ is) = omega (arith, takes-inputs is)
 
   -- nothing is asked of the take that hands it out, nor of what comes later; that take may be one that was cut

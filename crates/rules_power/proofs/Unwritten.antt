@@ -15,6 +15,8 @@ use Rattle.rules_store.proofs.Ends.{nothing}
 use Rattle.rules_power.specs.Image.{tablesImage, tablesSize, field, tablesIn, SizedTables}
 use Rattle.rules_power.specs.Day.{found, Kept}
 use Rattle.rules_power.specs.Kept.{Act, tablesAlone}
+use Rattle.rules.specs.declared.Table.the-variants.{Aces, Creds}
+use Rattle.rules.specs.Tables.{tableSize}
 
 -- ---- bytes of the tables' length are the image of the tables in them
 
@@ -33,9 +35,9 @@ pub tables-again : (b : List ℕ) → length b ≡ tablesSize → tablesImage (t
 unfolding tablesImage tablesIn
 tables-again b l =
     let none : drop 2172 b ≡ [] = drop-of-length-le b {i = 2172} (omega arith) in
-    let rows = field 1152 1020 b in
-    let last : rows ≡ drop 1020 b = sym (append-nil rows) ∙ ap (λ (r : List ℕ). rows ++ r) (sym none) ∙ field-on 1152 1020 b in
-    rw (last, field-on 936 84 b, field-on 64 20 b, field-on 16 4 b) (four b (omega arith))
+    let rows = field (tableSize Aces) 1020 b in
+    let last : rows ≡ drop 1020 b = sym (append-nil rows) ∙ ap (λ (r : List ℕ). rows ++ r) (sym none) ∙ field-on (tableSize Aces) 1020 b in
+    rw (last, field-on (tableSize Creds) 84 b, field-on 64 20 b, field-on 16 4 b) (four b (omega arith))
 
 -- ---- so
 

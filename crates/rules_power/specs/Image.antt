@@ -7,6 +7,8 @@ use lib.ListN.{length, take, drop, getD}
 use Rattle.rules.specs.declared.Tables.{Tables}
 use Rattle.rules_waiting.specs.Slots.{queueSize}
 use Rattle.rules_waiting.specs.Terminal.{Terminal, terminal}
+use Rattle.rules.specs.declared.Table.the-variants.{Aces, Creds}
+use Rattle.rules.specs.Tables.{tableSize}
 
 -- ---- written
 
@@ -35,8 +37,8 @@ tablesIn bytes = record {
   naces = getD bytes 3 0;
   devowner = field 16 4 bytes;
   rowners = field 64 20 bytes;
-  creds = field 936 84 bytes;
-  aces = field 1152 1020 bytes;
+  creds = field (tableSize Creds) 84 bytes;
+  aces = field (tableSize Aces) 1020 bytes;
 }
 
 unfoldable pub terminalIn : List ℕ → Terminal
@@ -47,8 +49,8 @@ terminalIn bytes = terminal (tablesIn bytes) (field queueSize tablesSize bytes)
 pub record SizedTables (t : Tables) : Type 0 where
   pub devowner : length (t .devowner) ≡ 16
   pub rowners : length (t .rowners) ≡ 64
-  pub creds : length (t .creds) ≡ 936
-  pub aces : length (t .aces) ≡ 1152
+  pub creds : length (t .creds) ≡ tableSize Creds
+  pub aces : length (t .aces) ≡ tableSize Aces
 
 pub record SizedTerminal (x : Terminal) : Type 0 where
   pub tables : SizedTables (x .tables)

@@ -54,17 +54,17 @@ abbrev pub recordGiven : Call → List ℕ
 recordGiven c = take (c .size) (c .bytes)
 
 -- a buffer of the length that was lent, and the payload as the part of the record r that the call's judgement names
-pub record Lends (room : ℕ) (r : List ℕ) (c : Call) : Type 0 where
-  pub sized : length (c .lent) ≡ room
+pub record Lends (capacity : ℕ) (r : List ℕ) (c : Call) : Type 0 where
+  pub sized : length (c .lent) ≡ capacity
   pub passes : c .payload ≡ payloadPart (c .judgement .payload) r
 
 -- what a call meets, on the terminal x, for the input
 abbrev pub Meets : Defaults → Terminal → Input → Call → Type 0
 Meets d x (handIn r) c = HandsIn x r (c .judgement) (c .queue)
-Meets d x (takeAt clock room) c =
-    Takes d x clock room (record { judgement = c .judgement; size = c .size; bytes = c .bytes }) (c .lent) (c .queue) (c .buffer)
-    × Lends room (recordGiven c) c
-Meets d x (direct q) c = Judges d x q (c .judgement) (c .lent) (c .queue) (c .buffer) × Lends (q .room) (q .bytes) c
+Meets d x (takeAt clock capacity) c =
+    Takes d x clock capacity (record { judgement = c .judgement; size = c .size; bytes = c .bytes }) (c .lent) (c .queue) (c .buffer)
+    × Lends capacity (recordGiven c) c
+Meets d x (direct q) c = Judges d x q (c .judgement) (c .lent) (c .queue) (c .buffer) × Lends (q .capacity) (q .bytes) c
 
 -- the terminal that a call hands back
 abbrev pub left : Call → Terminal
@@ -86,8 +86,8 @@ handedBack x (c ∷ cs) = handedBack (left c) cs
 
 abbrev pub turnOf : Input → Call → List Turn
 turnOf (handIn r) c = []
-turnOf (takeAt clock room) c =
-    cond (eqb (c .judgement .answer) 1 || eqb (c .judgement .answer) 27) [] (record { request = received clock (recordGiven c) room; response = told c } ∷ [])
+turnOf (takeAt clock capacity) c =
+    cond (eqb (c .judgement .answer) 1 || eqb (c .judgement .answer) 27) [] (record { request = received clock (recordGiven c) capacity; response = told c } ∷ [])
 turnOf (direct q) c = cond (eqb (c .judgement .answer) 1) [] (record { request = q; response = told c } ∷ [])
 
 abbrev pub callTurns : List Input → List Call → List Turn
@@ -102,10 +102,10 @@ unfolding padded
 padded-back r = take-at r (replicate (256 - length r) 0) (length r) refl
 
 -- a call tells what the answer says, where its payload is the record's
-pub told-is : (a : Transition) (room : ℕ) (r : List ℕ) (c : Call) → c .judgement ≡ said a → Leaves a (c .lent) (c .queue) (c .buffer) → Lends room r c
+pub told-is : (a : Transition) (capacity : ℕ) (r : List ℕ) (c : Call) → c .judgement ≡ said a → Leaves a (c .lent) (c .queue) (c .buffer) → Lends capacity r c
     → payloadPart (length (a .response .payload)) r ≡ a .response .payload → told c ≡ a .response
 unfolding filled
-told-is a room r c j f l p =
+told-is a capacity r c j f l p =
     let reply = a .response .contents in rw (l .passes, f .fills, j, p, take-at reply (drop (length reply) (c .lent)) (length reply) refl)
 
 -- the number of a refusal: at a take, and at once
@@ -128,29 +128,29 @@ module _ (d : Defaults) (x : Terminal) where
       bool-cases (eqb n 1 || eqb n 27) (λ e. absurd (no-such d (x .tables) q n (terminal-parts x h .tables) e refl)) (λ e. e)
 
   -- a take shows the record that it hands out, and what is told of it
-  pub take-told : (clock room : ℕ) (c : Call) → Meets d x (takeAt clock room) c
-      → (recordGiven c ≡ taken d x clock room .bytes) × (told c ≡ taken d x clock room .response)
+  pub take-told : (clock capacity : ℕ) (c : Call) → Meets d x (takeAt clock capacity) c
+      → (recordGiven c ≡ taken d x clock capacity .bytes) × (told c ≡ taken d x clock capacity .response)
   unfolding taken
-  take-told clock room c m =
-      let q = received clock (due x) room in
-      let a = taken d x clock room in
+  take-told clock capacity c m =
+      let q = received clock (due x) capacity in
+      let a = taken d x clock capacity in
       let r : recordGiven c ≡ a .bytes = ap (λ (t : HandedOut). take (t .size) (t .bytes)) (m .0 .hands) ∙ padded-back (a .bytes) in (
         r,
-        told-is a room (recordGiven c) c (ap (λ (t : HandedOut). t .judgement) (m .0 .hands)) (m .0 .leaves) (m .1)
+        told-is a capacity (recordGiven c) c (ap (λ (t : HandedOut). t .judgement) (m .0 .hands)) (m .0 .leaves) (m .1)
             (rw r (check-cases (verdict (takeChecks x)) (λ e. rw e (payload-is d (x .tables) q)) (λ n e. rw e))),
       )
 
   pub direct-told : (q : Request) (c : Call) → Meets d x (direct q) c → told c ≡ judged d x q .response
   unfolding judged
   direct-told q c m =
-      told-is (judged d x q) (q .room) (q .bytes) c (m .0 .says) (m .0 .leaves) (m .1)
+      told-is (judged d x q) (q .capacity) (q .bytes) c (m .0 .says) (m .0 .leaves) (m .1)
       (check-cases (verdict (directChecks x)) (λ e. rw e (payload-is d (x .tables) q)) (λ n e. rw e))
 
   pub call-turn : (i : Input) (c : Call) → Meets d x i c → turnOf i c ≡ judgedAt d x i
   unfolding taken judged
   call-turn (handIn r) c m = refl
-  call-turn (takeAt clock room) c m =
-      let s = take-told clock room c m in
+  call-turn (takeAt clock capacity) c m =
+      let s = take-told clock capacity c m in
       rw (s .0, s .1, ap (λ (y : Response). y .answer) (s .1))
       (check-cases (verdict (takeChecks x)) (λ e. rw (e, judged-number _ (take-passed x e .0))) (λ n e. rw (e, refused-number x n e)))
   call-turn (direct q) c m =
@@ -162,7 +162,7 @@ module _ (d : Defaults) (x : Terminal) where
 
   pub call-left : (i : Input) (c : Call) → Meets d x i c → left c ≡ next d x i
   call-left (handIn r) c m = ap₂ (λ (j : Said) (b : List ℕ). terminal (j .tables) b) (m .says) (m .keeps)
-  call-left (takeAt clock room) c m = ap₂ (λ (t : HandedOut) (b : List ℕ). terminal (t .judgement .tables) b) (m .0 .hands) (m .0 .leaves .keeps)
+  call-left (takeAt clock capacity) c m = ap₂ (λ (t : HandedOut) (b : List ℕ). terminal (t .judgement .tables) b) (m .0 .hands) (m .0 .leaves .keeps)
   call-left (direct q) c m = ap₂ (λ (j : Said) (b : List ℕ). terminal (j .tables) b) (m .0 .says) (m .0 .leaves .keeps)
 
 -- ---- the run

@@ -25,7 +25,7 @@ use Rattle.rules.proofs.Gaps.{has-number}
 use Rattle.rules_waiting.specs.Slots.{Seat, seatOf, recordOf}
 use Rattle.rules_waiting.specs.Round.{nobody, seats, held}
 use Rattle.rules_waiting.specs.Terminal.{slotSound}
-use Rattle.rules_waiting.proofs.SeatLaws.{apart, first-without}
+use Rattle.rules_waiting.proofs.SeatLaws.{distinctSeats, first-without}
 use Rattle.rules_waiting.proofs.SlotLaws.{slot-parts, slot-whole, slot-key}
 
 -- ---- the seat of a record
@@ -94,11 +94,11 @@ module _ (t : Tables) (w : Row) (h : slotSound (rows Creds t) w ≡ true) where
 -- ---- the seats of sound tables
 
 -- distinct numbers are distinct seats
-pub seats-apart : (ws : List Row) → distinctNumbers ws ≡ true → apart (map (take 2) ws) ≡ true
-unfolding distinctNumbers apart numberedAs
-seats-apart [] d = refl
-seats-apart (w ∷ ws) d =
-    and-both _ _ (ap not (some-seats (take 2 w) ws) ∙ and-left _ _ d) (seats-apart ws (and-right (not (some (numberedAs w) ws)) _ d))
+pub seats-distinct : (ws : List Row) → distinctNumbers ws ≡ true → distinctSeats (map (take 2) ws) ≡ true
+unfolding distinctNumbers distinctSeats numberedAs
+seats-distinct [] d = refl
+seats-distinct (w ∷ ws) d =
+    and-both _ _ (ap not (some-seats (take 2 w) ws) ∙ and-left _ _ d) (seats-distinct ws (and-right (not (some (numberedAs w) ws)) _ d))
 
 -- a seat among those of rows that all pass is that of a row that passes
 of-seat : (p : Row → Bool) (m : Seat) (ws : List Row) → every p ws ≡ true → some (same m) (map (take 2) ws) ≡ true → (w : Row) × (take 2 w ≡ m) × (p w ≡ true)
@@ -116,9 +116,9 @@ nobody-none ws h =
     (λ e. e)
 
 module _ (t : Tables) (h : sound t ≡ true) where
-  pub tables-apart : apart (seats t) ≡ true
-  unfolding seats apart
-  tables-apart = let s = table-parts Creds t h in and-both _ _ (not-of-false _ (nobody-none (rows Creds t) (s .stores))) (seats-apart (rows Creds t) (s .apart))
+  pub tables-distinct : distinctSeats (seats t) ≡ true
+  unfolding seats distinctSeats
+  tables-distinct = let s = table-parts Creds t h in and-both _ _ (not-of-false _ (nobody-none (rows Creds t) (s .stores))) (seats-distinct (rows Creds t) (s .distinct))
 
   pub tables-seats : length (seats t) ≤ 25
   unfolding seats
@@ -134,8 +134,8 @@ module _ (t : Tables) (h : sound t ≡ true) where
 
 -- ---- distinct seats among others are at most as many
 
-pub pigeons : (xs ys : List Seat) → apart xs ≡ true → ((m : Seat) → some (same m) xs ≡ true → some (same m) ys ≡ true) → length xs ≤ length ys
-unfolding apart some
+pub pigeons : (xs ys : List Seat) → distinctSeats xs ≡ true → ((m : Seat) → some (same m) xs ≡ true → some (same m) ys ≡ true) → length xs ≤ length ys
+unfolding distinctSeats some
 pigeons [] ys d h = omega arith
 pigeons (x ∷ xs) ys d h =
     omega (
@@ -159,5 +159,5 @@ few-slots t ws s h d =
       arith,
       length-map ws (take 2),
       tables-seats t s,
-      pigeons (map (take 2) ws) (seats t) (seats-apart ws d) (λ m i. let w = of-seat (slotSound (rows Creds t)) m ws h i in rw (← w .1) (slot-held t (w .0) (w .2))),
+      pigeons (map (take 2) ws) (seats t) (seats-distinct ws d) (λ m i. let w = of-seat (slotSound (rows Creds t)) m ws h i in rw (← w .1) (slot-held t (w .0) (w .2))),
     )

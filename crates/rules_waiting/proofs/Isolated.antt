@@ -47,9 +47,9 @@ module _ (d : Defaults) (chosen : Sender → Bool) where
       → (told x i ≡ replies (responseTo d) (tablesAfter d) b (fed x i)) × Related d chosen (next d x i .tables) (final (tablesAfter d) b (fed x i))
   unfolding handedIn taken judged
   one x b (handIn r) a e = (refl, check-cases (verdict (handInChecks x r)) (λ f. rw (f, next) e) (λ n f. rw (f, next) e))
-  one x b (takeAt clock room) a e =
+  one x b (takeAt clock capacity) a e =
       check-cases (verdict (takeChecks x))
-      (λ f. rw (f, next) (turn-step x b (received clock (due x) room) (along-first (tablesAfter d) (Premise chosen) b (fed x (takeAt clock room)) a) e))
+      (λ f. rw (f, next) (turn-step x b (received clock (due x) capacity) (along-first (tablesAfter d) (Premise chosen) b (fed x (takeAt clock capacity)) a) e))
       (λ n f. rw (f, next) (refl, e))
   one x b (direct q) a e =
       check-cases (verdict (directChecks x))
@@ -96,7 +96,7 @@ module _ (d : Defaults) (chosen : Sender → Bool) where
   judged-taken : (x : Terminal) (is : List Input) → noneDirect is ≡ true → allJudged d x is ≡ turns d x is
   judged-taken x [] n = refl
   judged-taken x (handIn r ∷ is) n = judged-taken (next d x (handIn r)) is n
-  judged-taken x (takeAt clock room ∷ is) n = ap (λ (us : List Turn). judgedAt d x (takeAt clock room) ++ us) (judged-taken (next d x (takeAt clock room)) is n)
+  judged-taken x (takeAt clock capacity ∷ is) n = ap (λ (us : List Turn). judgedAt d x (takeAt clock capacity) ++ us) (judged-taken (next d x (takeAt clock capacity)) is n)
   judged-taken x (direct q ∷ is) n = absurd (false≢true n)
 
   -- the others' records taken

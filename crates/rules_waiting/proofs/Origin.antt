@@ -132,8 +132,8 @@ module _ (p : List ℕ → Bool) where
         ap (countOf p) (handed-records x r h),
         count-append (recordsIn x) (recordIf r (verdict (handInChecks x r))),
       ))
-  counted d x (takeAt clock room ∷ is) h =
-      let q = received clock (due x) room in
+  counted d x (takeAt clock capacity ∷ is) h =
+      let q = received clock (due x) capacity in
       let s = terminal-parts x h in
       let ws = waiting (x .queue) in
       let rest = without (hasKey 0 (turn x)) ws in
@@ -143,10 +143,10 @@ module _ (p : List ℕ → Bool) where
       rw (e, next, final, count-append (droppedBy d (x .tables) q rest Pass) (allDropped d y is))
       (omega (
         arith,
-        counted d y is (rw (e, next) at (sound-next d x (takeAt clock room) h)),
+        counted d y is (rw (e, next) at (sound-next d x (takeAt clock capacity) h)),
         after-count d (x .tables) q (after (turn x)) rest (s .tables) (u .two)
-            (every-without (slotSound (rows Creds (x .tables))) (hasKey 0 (turn x)) ws (s .keeps)) (distinct-without (hasKey 0 (turn x)) ws (s .apart)),
-        first-slot (x .tables) (turn x) (u .two) ws (s .keeps) (s .apart) (u .waits),
+            (every-without (slotSound (rows Creds (x .tables))) (hasKey 0 (turn x)) ws (s .keeps)) (distinct-without (hasKey 0 (turn x)) ws (s .distinct)),
+        first-slot (x .tables) (turn x) (u .two) ws (s .keeps) (s .distinct) (u .waits),
       )))
       (λ n e. rw (e, next, final) (counted d x is h))
   counted d x (direct q ∷ is) h =
@@ -157,7 +157,7 @@ module _ (p : List ℕ → Bool) where
       (omega (
         arith,
         counted d y is (rw (ready, next) at (sound-next d x (direct q) h)),
-        after-count d (x .tables) q (roundOf (x .queue)) (waiting (x .queue)) (s .tables) (s .two) (s .keeps) (s .apart),
+        after-count d (x .tables) q (roundOf (x .queue)) (waiting (x .queue)) (s .tables) (s .two) (s .keeps) (s .distinct),
       ))
 
   -- from a terminal of any content
@@ -189,10 +189,10 @@ undisturbed-none : (d : Defaults) (x : Terminal) (is : List Input) → soundTerm
 unfolding taken judged
 undisturbed-none d x [] h u = refl
 undisturbed-none d x (handIn r ∷ is) h u = undisturbed-none d (next d x (handIn r)) is (sound-next d x (handIn r) h) (u .2)
-undisturbed-none d x (takeAt clock room ∷ is) h u =
-    rw (dropped-none d (x .tables) (received clock (due x) room) _ (verdict (takeChecks x))
+undisturbed-none d x (takeAt clock capacity ∷ is) h u =
+    rw (dropped-none d (x .tables) (received clock (due x) capacity) _ (verdict (takeChecks x))
     (every-without (slotSound (rows Creds (x .tables))) (hasKey 0 (turn x)) (waiting (x .queue)) (terminal-parts x h .keeps)) (λ e. rw (e, next) at (u .0)) (u .1))
-    (undisturbed-none d (next d x (takeAt clock room)) is (sound-next d x (takeAt clock room) h) (u .2))
+    (undisturbed-none d (next d x (takeAt clock capacity)) is (sound-next d x (takeAt clock capacity) h) (u .2))
 undisturbed-none d x (direct q ∷ is) h u =
     rw (dropped-none d (x .tables) q _ (verdict (directChecks x)) (terminal-parts x h .keeps) (λ e. rw (e, next) at (u .0)) (u .1))
     (undisturbed-none d (next d x (direct q)) is (sound-next d x (direct q) h) (u .2))

@@ -32,9 +32,9 @@ refused-hand-in x r n a =
 
 -- ---- take with 1 or 27
 
-pub take-refused : (d : Defaults) (x : Terminal) (clock room n : ℕ) → verdict (takeChecks x) ≡ Refuse n → taken d x clock room ≡ numberTransition n x
+pub take-refused : (d : Defaults) (x : Terminal) (clock capacity n : ℕ) → verdict (takeChecks x) ≡ Refuse n → taken d x clock capacity ≡ numberTransition n x
 unfolding taken
-take-refused d x clock room n e = ap (takeOf d x (received clock (due x) room)) e
+take-refused d x clock capacity n e = ap (takeOf d x (received clock (due x) capacity)) e
 
 -- a refusal's number is one of the list
 abbrev pub among : ℕ → List (ℕ × Bool) → Bool
@@ -62,23 +62,23 @@ no-such d t q n s m a =
     (λ g. contradiction (ap (λ (j : ℕ). among j es) (sym (is ∙ eqb-true n 27 (or-not-left (eqb n 1) _ m g))) ∙ f) refl))
 
 -- a take that answers 1 or 27 hands out no record and changes nothing
-pub take-nothing : (d : Defaults) (x : Terminal) (clock room n : ℕ) → (eqb n 1 || eqb n 27) ≡ true → taken d x clock room .response .answer ≡ n
-    → taken d x clock room ≡ numberTransition n x
+pub take-nothing : (d : Defaults) (x : Terminal) (clock capacity n : ℕ) → (eqb n 1 || eqb n 27) ≡ true → taken d x clock capacity .response .answer ≡ n
+    → taken d x clock capacity ≡ numberTransition n x
 unfolding taken
-take-nothing d x clock room n m a =
-    let q = received clock (due x) room in
+take-nothing d x clock capacity n m a =
+    let q = received clock (due x) capacity in
     check-cases (verdict (takeChecks x))
     (λ e. absurd (no-such d (x .tables) q n (terminal-parts x (take-passed x e .0) .tables) m (rw e at a)))
     (λ k e. rw e (ap (λ (j : ℕ). numberTransition j x) (rw e at a)))
 
-pub take-unsound : (d : Defaults) (x : Terminal) (clock room : ℕ) → soundTerminal x ≡ false → taken d x clock room ≡ numberTransition 1 x
+pub take-unsound : (d : Defaults) (x : Terminal) (clock capacity : ℕ) → soundTerminal x ≡ false → taken d x clock capacity ≡ numberTransition 1 x
 unfolding verdict
-take-unsound d x clock room e = take-refused d x clock room 1 (rw e)
+take-unsound d x clock capacity e = take-refused d x clock capacity 1 (rw e)
 
-pub take-empty : (d : Defaults) (x : Terminal) (clock room : ℕ) → soundTerminal x ≡ true → length (waiting (x .queue)) ≡ 0
-    → taken d x clock room ≡ numberTransition 27 x
+pub take-empty : (d : Defaults) (x : Terminal) (clock capacity : ℕ) → soundTerminal x ≡ true → length (waiting (x .queue)) ≡ 0
+    → taken d x clock capacity ≡ numberTransition 27 x
 unfolding verdict
-take-empty d x clock room e z = take-refused d x clock room 27 (rw (e, z))
+take-empty d x clock capacity e z = take-refused d x clock capacity 27 (rw (e, z))
 
 -- ---- any other refused take
 
@@ -88,17 +88,17 @@ unfolding verdict
 take-ready x h n = rw (h, n)
 
 -- it hands out the whole record with the refusal's number; the tables stay, the seat is emptied, and the round stands after it
-pub refused-take : (d : Defaults) (x : Terminal) (clock room n : ℕ) → soundTerminal x ≡ true → eqb (length (waiting (x .queue))) 0 ≡ false
-    → taken d x clock room .response .answer ≡ suc n
-    → taken d x clock room
+pub refused-take : (d : Defaults) (x : Terminal) (clock capacity n : ℕ) → soundTerminal x ≡ true → eqb (length (waiting (x .queue))) 0 ≡ false
+    → taken d x clock capacity .response .answer ≡ suc n
+    → taken d x clock capacity
     ≡ record {
       bytes = due x;
       response = numberTransition (suc n) x .response;
       terminal = terminal (x .tables) (queueOf (after (turn x)) (without (hasKey 0 (turn x)) (waiting (x .queue))));
     }
 unfolding taken
-refused-take d x clock room n h w a =
-    let q = received clock (due x) room in
+refused-take d x clock capacity n h w a =
+    let q = received clock (due x) capacity in
     let b = rw (take-ready x h w) at a in
     rw (take-ready x h w)
     (ap₂ (λ (o : Outcome) (y : Terminal). record { bytes = due x; response = o .response; terminal = y })
@@ -125,7 +125,7 @@ unsound-next : (d : Defaults) (x : Terminal) (i : Input) → soundTerminal x ≡
     → (judgedAt d x i ≡ []) × (turnsAt d x i ≡ []) × (droppedAt d x i ≡ []) × (keptAt d x i ≡ []) × (next d x i ≡ x)
 unfolding handedIn taken judged verdict
 unsound-next d x (handIn r) e = rw (e, next) (refl, refl, refl, refl, refl)
-unsound-next d x (takeAt clock room) e = rw (e, next) (refl, refl, refl, refl, refl)
+unsound-next d x (takeAt clock capacity) e = rw (e, next) (refl, refl, refl, refl, refl)
 unsound-next d x (direct q) e = rw (e, next) (refl, refl, refl, refl, refl)
 
 pub unsound-run : (d : Defaults) (x : Terminal) (is : List Input) → soundTerminal x ≡ false → (allJudged d x is ≡ []) × (final (next d) x is ≡ x)

@@ -11,9 +11,9 @@ use Rattle.rules_waiting.specs.Slots.{Seat, Round, anew, after}
 use Rattle.rules_waiting.specs.Round.{held, start, inTurn}
 
 -- no two seats are the same
-unfoldable pub apart : List Seat → Bool
-apart [] = true
-apart (p ∷ ps) = not (some (same p) ps) && apart ps
+unfoldable pub distinctSeats : List Seat → Bool
+distinctSeats [] = true
+distinctSeats (p ∷ ps) = not (some (same p) ps) && distinctSeats ps
 
 -- ---- the first seat that passes a test
 module _ (q : Seat → Bool) where
@@ -82,22 +82,22 @@ module _ (n : Seat) where
       cond-cases (λ (m : ℕ). m < suc (length xs)) (same n x) (λ _. omega arith) (λ e. omega (arith, index-bound xs (or-not-left (same n x) _ h e)))
 
   -- a seat of the first part is none of the second
-  apart-parts : (xs ys : List Seat) → apart (xs ++ ys) ≡ true → some (same n) xs ≡ true → some (same n) ys ≡ false
-  unfolding some apart
-  apart-parts [] ys d h = contradiction h refl
-  apart-parts (x ∷ xs) ys d h =
+  distinct-parts′ : (xs ys : List Seat) → distinctSeats (xs ++ ys) ≡ true → some (same n) xs ≡ true → some (same n) ys ≡ false
+  unfolding some distinctSeats
+  distinct-parts′ [] ys d h = contradiction h refl
+  distinct-parts′ (x ∷ xs) ys d h =
       bool-cases (same n x)
       (λ e. or-right (some (same n) xs) _ (sym (some-append (same n) xs ys) ∙ rw (same-true n x e) (not-true _ (and-left _ _ d))))
-      (λ e. apart-parts xs ys (and-right (not (some (same x) (xs ++ ys))) _ d) (rw e at h))
+      (λ e. distinct-parts′ xs ys (and-right (not (some (same x) (xs ++ ys))) _ d) (rw e at h))
 
   -- the index where the parts change places
-  index-turned : (xs ys : List Seat) → apart (xs ++ ys) ≡ true → some (same n) (xs ++ ys) ≡ true
+  index-turned : (xs ys : List Seat) → distinctSeats (xs ++ ys) ≡ true → some (same n) (xs ++ ys) ≡ true
       → Turned (length (xs ++ ys)) (length xs) (rowsBefore (same n) (xs ++ ys)) (rowsBefore (same n) (ys ++ xs))
   index-turned xs ys d h =
       let l = length-append xs ys in
       bool-cases (some (same n) xs)
       (λ e. let i = index-left xs ys e in
-      let j = index-right ys xs (apart-parts xs ys d e) in
+      let j = index-right ys xs (distinct-parts′ xs ys d e) in
       (true, omega arith, omega (arith, index-bound xs e)))
       (λ e. let f = or-not-left (some (same n) xs) _ (sym (some-append (same n) xs ys) ∙ h) e in
       let i = index-right xs ys e in
@@ -105,7 +105,7 @@ module _ (n : Seat) where
       (false, omega arith, omega (arith, index-bound ys f)))
 
 -- the index in a list rotated by s
-index-rotated : (n : Seat) (s : ℕ) (xs : List Seat) → apart xs ≡ true → some (same n) xs ≡ true → s ≤ length xs
+index-rotated : (n : Seat) (s : ℕ) (xs : List Seat) → distinctSeats xs ≡ true → some (same n) xs ≡ true → s ≤ length xs
     → Turned (length xs) s (rowsBefore (same n) xs) (rowsBefore (same n) (drop s xs ++ take s xs))
 index-rotated n s xs d h l = (rw (take-append-drop s xs, length-take-le s xs l) at (index-turned n (take s xs) (drop s xs))) d h
 
@@ -133,12 +133,12 @@ pub turn-of : (n : Seat) (l : Round) (ps : List Seat) → some (same n) (inTurn 
 unfolding inTurn
 turn-of n l ps h = sym (some-rotated (same n) (start l ps) ps) ∙ h
 
-pub turn-bound : (n : Seat) (l : Round) (ps : List Seat) → apart ps ≡ true → some (same n) ps ≡ true → rowsBefore (same n) (inTurn l ps) < length ps
+pub turn-bound : (n : Seat) (l : Round) (ps : List Seat) → distinctSeats ps ≡ true → some (same n) ps ≡ true → rowsBefore (same n) (inTurn l ps) < length ps
 unfolding inTurn
 turn-bound n l ps d h = index-rotated n (start l ps) ps d h (start-bound l ps) .2
 
 -- once p was taken, a seat behind it is nearer
-pub turn-nearer : (n p : Seat) (l : Round) (ps : List Seat) → apart ps ≡ true → some (same n) ps ≡ true → some (same p) ps ≡ true
+pub turn-nearer : (n p : Seat) (l : Round) (ps : List Seat) → distinctSeats ps ≡ true → some (same n) ps ≡ true → some (same p) ps ≡ true
     → rowsBefore (same p) (inTurn l ps) < rowsBefore (same n) (inTurn l ps)
     → rowsBefore (same n) (inTurn (after p) ps) < rowsBefore (same n) (inTurn l ps)
 unfolding inTurn start held

@@ -21,7 +21,7 @@ use Rattle.rules_waiting.specs.Inputs.{Input, handIn, takeAt, direct, ne
 use Rattle.rules_waiting.proofs.SeatLaws.{Unmoved, first-least, first-without, turn-in, turn-bound, turn-nearer}
 use Rattle.rules.proofs.CheckLaws.{check-cases}
 use Rattle.rules_waiting.proofs.SlotLaws.{round-back, slot-length}
-use Rattle.rules_waiting.proofs.Held.{tables-apart, tables-seats, seat-long, slot-held}
+use Rattle.rules_waiting.proofs.Held.{tables-distinct, tables-seats, seat-long, slot-held}
 use Rattle.rules_waiting.proofs.RowsMoved.{seats-again}
 use Rattle.rules_waiting.proofs.Sound.{terminal-parts, made-waits, hand-free, hand-keeps, own-key, turn-is, sound-next}
 use Rattle.rules_waiting.proofs.Stays.{direct-ready, queue-stays}
@@ -54,7 +54,7 @@ hand-queue x r h e =
     let s = terminal-parts x h in
     let k = roundOf (x .queue) in
     let ws = stored (slotOf r) (waiting (x .queue)) in (
-      made-waits (x .tables) k ws (s .tables) (s .two) (hand-keeps x r h e .0) (distinct-stored (slotOf r) (waiting (x .queue)) (s .apart))
+      made-waits (x .tables) k ws (s .tables) (s .two) (hand-keeps x r h e .0) (distinct-stored (slotOf r) (waiting (x .queue)) (s .distinct))
           ∙ store-absent (slotOf r) (waiting (x .queue)) (hand-free x r e),
       round-back k ws (s .two),
     )
@@ -72,7 +72,7 @@ take-queue d x q h n c e =
     let ws = without (hasKey 0 (turn x)) (waiting (x .queue)) in
     let all = every-without (slotSound (rows Creds t)) (hasKey 0 (turn x)) (waiting (x .queue)) (s .keeps) in
     rw (c, e, seats-again (seats t)) (
-      made-waits t (after (turn x)) ws (s .tables) two all (distinct-without (hasKey 0 (turn x)) (waiting (x .queue)) (s .apart)),
+      made-waits t (after (turn x)) ws (s .tables) two all (distinct-without (hasKey 0 (turn x)) (waiting (x .queue)) (s .distinct)),
       round-back (after (turn x)) ws two,
     )
 
@@ -116,7 +116,7 @@ module _ (d : Defaults) (n : Seat) where
         let ps = seats (x .tables) in
         rw (m .0, m .1, same-seats) (
           first-without (hasKey 0 n) (hasKey 0 (turn x)) (λ w i. rw (u .two, key-is n w l i) e) (waiting (x .queue)) o,
-          turn-nearer n (turn x) k ps (tables-apart (x .tables) (terminal-parts x h .tables)) g (u .there)
+          turn-nearer n (turn x) k ps (tables-distinct (x .tables) (terminal-parts x h .tables)) g (u .there)
               (first-least (occupied (waiting (x .queue))) n (inTurn k ps) (turn-in n k ps g) o .1 e),
         )
 
@@ -134,11 +134,11 @@ module _ (d : Defaults) (n : Seat) where
         let w = hand-waits x r h o in
         rw (w .0 .1) at
         (served-from is (handedIn x r .terminal) (sound-next d x (handIn r) h) (rw (u .0) g) (w .0 .0) (u .2) (omega (arith, w .1)))
-    served-from (takeAt clock room ∷ is) x h g o u m =
-        let q = received clock (due x) room in
+    served-from (takeAt clock capacity ∷ is) x h g o u m =
+        let q = received clock (due x) capacity in
         let ready = take-ready x h (some-length (hasKey 0 n) (waiting (x .queue)) o) in
         let v = rw (ready, next) at u in
-        let k = rw (ready, next) at (sound-next d x (takeAt clock room) h) in
+        let k = rw (ready, next) at (sound-next d x (takeAt clock capacity) h) in
         rw (ready, next)
         (bool-cases (same n (turn x))
         (λ f. let own : same (recordAt x) (due x) ≡ true =
@@ -196,12 +196,12 @@ pub served :
 unfolding held
 served d x is r h o u l =
     let s = terminal-parts x h in
-    let i = record-seat (x .tables) r (s .tables) (waiting (x .queue)) (s .keeps) (s .apart) o in
+    let i = record-seat (x .tables) r (s .tables) (waiting (x .queue)) (s .keeps) (s .distinct) o in
     let n = i .seat in
     subst (λ (v : List ℕ). some (same v) (map bytesOf (turns d x is)) ≡ true) (i .is)
     (served-from d n (seat-long (x .tables) (s .tables) n (i .there)) is x h (i .there) (i .waits) u
     (omega (
       arith,
-      turn-bound n (roundOf (x .queue)) (seats (x .tables)) (tables-apart (x .tables) (s .tables)) (i .there),
+      turn-bound n (roundOf (x .queue)) (seats (x .tables)) (tables-distinct (x .tables) (s .tables)) (i .there),
       tables-seats (x .tables) (s .tables),
     )))

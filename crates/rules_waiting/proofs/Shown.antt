@@ -18,7 +18,7 @@ shown (handIn r) c =
       response = record { answer = j .answer; permission = j .permission; payload = []; contents = []; places = j .places; links = j .links };
       terminal = left c;
     }
-shown (takeAt clock room) c = record { bytes = recordGiven c; response = told c; terminal = left c }
+shown (takeAt clock capacity) c = record { bytes = recordGiven c; response = told c; terminal = left c }
 shown (direct q) c = record { bytes = []; response = told c; terminal = left c }
 
 abbrev pub allShown : List Input → List Call → List Transition
@@ -30,8 +30,8 @@ allShown (i ∷ is) (c ∷ cs) = shown i c ∷ allShown is cs
 pub shown-is : (d : Defaults) (x : Terminal) (i : Input) (c : Call) → Meets d x i c → shown i c ≡ transition d x i
 unfolding handedIn judged
 shown-is d x (handIn r) c m = rw (m .says, m .keeps) (check-cases (verdict (handInChecks x r)) (λ e. rw e) (λ n e. rw e))
-shown-is d x (takeAt clock room) c m =
-    let s = take-told d x clock room c m in rw (s .0, s .1, call-left d x (takeAt clock room) c m)
+shown-is d x (takeAt clock capacity) c m =
+    let s = take-told d x clock capacity c m in rw (s .0, s .1, call-left d x (takeAt clock capacity) c m)
 shown-is d x (direct q) c m =
     rw (direct-told d x q c m, call-left d x (direct q) c m)
     (check-cases (verdict (directChecks x)) (λ e. rw (e, transition, next)) (λ n e. rw (e, transition, next)))

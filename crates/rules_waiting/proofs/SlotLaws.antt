@@ -14,7 +14,7 @@ use Rattle.rules.specs.Checks.{verdict, isPass, badLength}
 use Rattle.rules.specs.Groups.{senderChecks}
 use Rattle.rules.proofs.BitLaws.{bits-word}
 use Rattle.rules.proofs.Answers.{passed}
-use Rattle.rules_waiting.specs.Slots.{Seat, Round, anew, after, slotLong, slotsMost, slotsLong, queueSize, seatOf, padded, slotOf, recordOf, roundBytes}
+use Rattle.rules_waiting.specs.Slots.{Seat, Round, anew, after, slotSize, queueCapacity, slotsSize, queueSize, seatOf, padded, slotOf, recordOf, roundBytes}
 use Rattle.rules_waiting.specs.Slots.{roundOf, waiting, queueOf}
 use Rattle.rules_waiting.specs.Terminal.{slotSound, queueSound}
 use Rattle.rules.specs.Tables.{rows}
@@ -30,7 +30,7 @@ module _ (r : List ℕ) where
       let n : bits (drop 2 (slotOf r)) 0 16 ≡ length r = bits-word (drop 2 (slotOf r)) 0 (omega arith) (omega arith) ∙ omega arith in
       take-at r (replicate (256 - length r) 0) (bits (drop 2 (slotOf r)) 0 16) (sym n)
 
-  pub slot-long : length r ≤ 256 → length (slotOf r) ≡ 260
+  pub slot-long : length r ≤ 256 → length (slotOf r) ≡ slotSize
   unfolding slotOf padded seatOf be16
   slot-long h = simp (length-append, length-replicate) (omega arith)
 
@@ -64,7 +64,7 @@ unfolding slotSound
 slot-whole t w k = and-both _ _ (ap (same w) (sym (k .is)) ∙ same-refl w) (ap isPass (k .passes))
 
 module _ (t : Tables) (w : Row) (h : slotSound (rows Creds t) w ≡ true) where
-  pub slot-length : length w ≡ 260
+  pub slot-length : length w ≡ slotSize
   slot-length = let k = slot-parts t w h in ap length (k .is) ∙ slot-long (recordOf w) (short-record (rows Creds t) (recordOf w) (k .passes))
 
   pub slot-key : take 2 w ≡ seatOf (recordOf w)
@@ -76,8 +76,8 @@ slot-made t r e =
     let b = record-back r (short-record (rows Creds t) r e) in
     slot-whole t (slotOf r) (record { is = ap slotOf (sym b); passes = ap (λ (x : List ℕ). verdict (senderChecks (rows Creds t) x)) b ∙ e })
 
-pub slots-long : (t : Tables) (ws : List Row) → every (slotSound (rows Creds t)) ws ≡ true → AllLong 260 ws
-slots-long t ws h = every-long 260 (slotSound (rows Creds t)) (slot-length t) ws h
+pub slots-long : (t : Tables) (ws : List Row) → every (slotSound (rows Creds t)) ws ≡ true → AllLong slotSize ws
+slots-long t ws h = every-long slotSize (slotSound (rows Creds t)) (slot-length t) ws h
 
 -- ---- the memory
 
@@ -91,28 +91,28 @@ round-long anew h = refl
 round-long (after p) h = omega arith
 
 module _ (k : Round) (ws : List Row) (two : TwoLong k) where
-  slots-behind : drop 4 (queueOf k ws) ≡ packed slotsLong ws
+  slots-behind : drop 4 (queueOf k ws) ≡ packed slotsSize ws
   unfolding queueOf
-  slots-behind = drop-at (roundBytes k) (packed slotsLong ws) 3 (round-long k two)
+  slots-behind = drop-at (roundBytes k) (packed slotsSize ws) 3 (round-long k two)
 
-  pub waiting-back : length ws ≤ 25 → AllLong 260 ws → waiting (queueOf k ws) ≡ ws
+  pub waiting-back : length ws ≤ 25 → AllLong slotSize ws → waiting (queueOf k ws) ≡ ws
   unfolding waiting queueOf
-  waiting-back few long = rw (slots-behind, min-eq-left few) (rowsOf-packed 260 slotsLong ws long)
+  waiting-back few long = rw (slots-behind, min-eq-left few) (rowsOf-packed slotSize slotsSize ws long)
 
 -- two bytes of a list at its start
 pub round-back : (k : Round) (ws : List Row) → TwoLong k → roundOf (queueOf k ws) ≡ k
 unfolding roundOf queueOf
 round-back anew ws two = refl
-round-back (after p) ws two = ap (λ (q : Seat). after q) (take-at p (packed slotsLong ws) 2 two)
+round-back (after p) ws two = ap (λ (q : Seat). after q) (take-at p (packed slotsSize ws) 2 two)
 
 -- the parts of the memory's soundness
 pub record SoundQueue (t : Tables) (m : List ℕ) : Type 0 where
   pub long : eqb (length m) queueSize ≡ true
-  pub few : leb (getD m 0 0) slotsMost ≡ true
+  pub few : leb (getD m 0 0) queueCapacity ≡ true
   pub round : same (take 3 (drop 1 m)) (roundBytes (roundOf m)) ≡ true
-  pub unused : allZero (drop (getD m 0 0 * slotLong) (drop 4 m)) ≡ true
+  pub unused : allZero (drop (getD m 0 0 * slotSize) (drop 4 m)) ≡ true
   pub keeps : every (slotSound (rows Creds t)) (waiting m) ≡ true
-  pub apart : distinctNumbers (waiting m) ≡ true
+  pub distinct : distinctNumbers (waiting m) ≡ true
 
 pub queue-parts : (t : Tables) (m : List ℕ) → queueSound (rows Creds t) m ≡ true → SoundQueue t m
 unfolding queueSound
@@ -126,17 +126,17 @@ queue-whole t m p = search (and-both) depth 9
 pub queue-sound : (t : Tables) (k : Round) (ws : List Row) → TwoLong k → length ws ≤ 25 → every (slotSound (rows Creds t)) ws ≡ true → distinctNumbers ws ≡ true
     → queueSound (rows Creds t) (queueOf k ws) ≡ true
 unfolding queueOf
-queue-sound t k ws two few all apart =
+queue-sound t k ws two few all distinct =
     let long = slots-long t ws all in
     let back = waiting-back k ws two few long in
-    let size : length (packed slotsLong ws) ≡ 6500 = length-packed 260 slotsLong ws long (omega arith) in
+    let size : length (packed slotsSize ws) ≡ 6500 = length-packed slotSize slotsSize ws long (omega arith) in
     queue-whole t (queueOf k ws) (record {
-      long = eq-eqb (length (queueOf k ws)) queueSize (omega (arith, length-append (roundBytes k) (packed slotsLong ws), round-long k two));
+      long = eq-eqb (length (queueOf k ws)) queueSize (omega (arith, length-append (roundBytes k) (packed slotsSize ws), round-long k two));
       few = le-leb (length ws) 25 few;
-      round = rw (take-at (roundBytes k) (packed slotsLong ws) 3 (round-long k two), round-back k ws two) (same-refl (roundBytes k));
-      unused = rw (slots-behind k ws two) (packed-table 260 slotsLong ws (omega arith) long (omega arith) .zeros);
+      round = rw (take-at (roundBytes k) (packed slotsSize ws) 3 (round-long k two), round-back k ws two) (same-refl (roundBytes k));
+      unused = rw (slots-behind k ws two) (packed-table slotSize slotsSize ws (omega arith) long (omega arith) .zeros);
       keeps = rw back all;
-      apart = rw back apart;
+      distinct = rw back distinct;
     })
 
 -- the round of sound memory
@@ -144,7 +144,7 @@ pub round-two : (t : Tables) (m : List ℕ) → queueSound (rows Creds t) m ≡ 
 unfolding roundOf
 round-two t m h =
     cond-cases TwoLong (eqb (getD m 1 0) 0) (λ _. tt)
-    (λ _. length-take-le 2 (drop 2 m) (omega (arith, eqb-true (length m) 6504 (queue-parts t m h .long), length-drop 2 m)))
+    (λ _. length-take-le 2 (drop 2 m) (omega (arith, eqb-true (length m) queueSize (queue-parts t m h .long), length-drop 2 m)))
 
 four-bytes : (m : List ℕ) → 4 ≤ length m → m ≡ getD m 0 0 ∷ (take 3 (drop 1 m) ++ drop 4 m)
 four-bytes [] h = absurd (omega arith)
@@ -155,11 +155,11 @@ pub queue-is : (t : Tables) (m : List ℕ) → queueSound (rows Creds t) m ≡ t
 unfolding queueOf waiting
 queue-is t m h =
     let p = queue-parts t m h in
-    let six : length m ≡ 6504 = eqb-true _ _ (p .long) in
+    let six : length m ≡ queueSize = eqb-true _ _ (p .long) in
     let few : getD m 0 0 ≤ 25 = leb-true _ _ (p .few) in
     let size : length (drop 4 m) ≡ 6500 = omega (arith, length-drop 4 m) in
     let n : min (getD m 0 0) 25 ≡ getD m 0 0 = min-eq-left few in
-    let table : IsTable 260 (getD m 0 0) (drop 4 m) = record { numbered = omega arith; fits = omega arith; zeros = p .unused } in
-    let b : packed 6500 (rowsOf 260 (getD m 0 0) (drop 4 m)) ≡ drop 4 m =
-    ap (λ (k : ℕ). packed k (rowsOf 260 (getD m 0 0) (drop 4 m))) (sym size) ∙ sym (table-kept 260 (getD m 0 0) (drop 4 m) table) in
-    rw (n, length-rowsOf 260 (getD m 0 0) (drop 4 m), b, ← same-true _ _ (p .round)) (sym (four-bytes m (omega arith)))
+    let table : IsTable slotSize (getD m 0 0) (drop 4 m) = record { numbered = omega arith; fits = omega arith; zeros = p .unused } in
+    let b : packed 6500 (rowsOf slotSize (getD m 0 0) (drop 4 m)) ≡ drop 4 m =
+    ap (λ (k : ℕ). packed k (rowsOf slotSize (getD m 0 0) (drop 4 m))) (sym size) ∙ sym (table-kept slotSize (getD m 0 0) (drop 4 m) table) in
+    rw (n, length-rowsOf slotSize (getD m 0 0) (drop 4 m), b, ← same-true _ _ (p .round)) (sym (four-bytes m (omega arith)))

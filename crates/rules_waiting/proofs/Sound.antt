@@ -15,7 +15,7 @@ use Rattle.rules.specs.Outcome.{tablesAfter}
 use Rattle.rules.specs.Run.{final}
 use Rattle.rules.proofs.Answers.{passed}
 use Rattle.rules.proofs.SoundKept.{sound-kept, fresh-sound}
-use Rattle.rules_waiting.specs.Slots.{Round, anew, after, slotOf, roundOf, waiting, queueOf, emptyQueue}
+use Rattle.rules_waiting.specs.Slots.{Round, anew, after, slotOf, roundOf, waiting, queueOf, emptyQueue, slotSize}
 use Rattle.rules_waiting.specs.Round.{seats, held, occupied, inTurn, firstInTurn, sameSeats, orphaned, heldRound}
 use Rattle.rules_waiting.specs.Terminal.{Terminal, slotSound, queueSound, soundTerminal, freshTerminal, handInChecks, withRecord, handedIn, clears}
 use Rattle.rules_waiting.specs.Terminal.{queueAfter, takeChecks, turn, due, taken, directChecks, judged}
@@ -32,7 +32,7 @@ pub record Sound (x : Terminal) : Type 0 where
   pub tables : sound (x .tables) ≡ true
   pub queue : queueSound (rows Creds (x .tables)) (x .queue) ≡ true
   pub keeps : every (slotSound (rows Creds (x .tables))) (waiting (x .queue)) ≡ true
-  pub apart : distinctNumbers (waiting (x .queue)) ≡ true
+  pub distinct : distinctNumbers (waiting (x .queue)) ≡ true
   pub two : TwoLong (roundOf (x .queue))
 
 pub terminal-parts : (x : Terminal) → soundTerminal x ≡ true → Sound x
@@ -40,7 +40,7 @@ unfolding soundTerminal
 terminal-parts x h =
     let m = and-right (sound (x .tables)) _ h in
     let p = queue-parts (x .tables) (x .queue) m in
-    record { tables = and-left _ _ h; queue = m; keeps = p .keeps; apart = p .apart; two = round-two (x .tables) (x .queue) m }
+    record { tables = and-left _ _ h; queue = m; keeps = p .keeps; distinct = p .distinct; two = round-two (x .tables) (x .queue) m }
 
 pub terminal-whole : (x : Terminal) → sound (x .tables) ≡ true → queueSound (rows Creds (x .tables)) (x .queue) ≡ true → soundTerminal x ≡ true
 unfolding soundTerminal
@@ -88,11 +88,11 @@ pub hand-keeps : (x : Terminal) (r : List ℕ) → soundTerminal x ≡ true → 
 hand-keeps x r h e =
     let s = terminal-parts x h in
     let all = every-stored (slotSound (rows Creds (x .tables))) (slotOf r) (waiting (x .queue)) (slot-made (x .tables) r (hand-passed x r e)) (s .keeps) in
-    (all, few-slots (x .tables) (stored (slotOf r) (waiting (x .queue))) (s .tables) all (distinct-stored (slotOf r) (waiting (x .queue)) (s .apart)))
+    (all, few-slots (x .tables) (stored (slotOf r) (waiting (x .queue))) (s .tables) all (distinct-stored (slotOf r) (waiting (x .queue)) (s .distinct)))
 
 -- there is room: it finds at most 24 others
-pub hand-room : (x : Terminal) (r : List ℕ) → verdict (handInChecks x r) ≡ Pass → length (waiting (x .queue)) < 25
-hand-room x r e =
+pub hand-fits : (x : Terminal) (r : List ℕ) → verdict (handInChecks x r) ≡ Pass → length (waiting (x .queue)) < 25
+hand-fits x r e =
     let more : length (stored (slotOf r) (waiting (x .queue))) ≡ length (waiting (x .queue)) + 1 =
     length-stored (slotOf r) (waiting (x .queue)) ∙ rw (hand-free x r e) in
     omega (arith, hand-keeps x r (not-false _ (passed (handInChecks x r) e 1)) e .1)
@@ -145,7 +145,7 @@ pub own-key : (w : Row) → 2 ≤ length w → hasKey 0 (take 2 w) w ≡ true
 unfolding numberedAs
 own-key w l = ap (λ (p : Row → Bool). p w) (numbered-key w l) ∙ same-refl (take 2 w)
 
-pub seat-found : (w : Row) (ws : List Row) → length w ≡ 260 → occupied (w ∷ ws) (take 2 w) ≡ true
+pub seat-found : (w : Row) (ws : List Row) → length w ≡ slotSize → occupied (w ∷ ws) (take 2 w) ≡ true
 unfolding occupied some
 seat-found w ws l = rw (own-key w (omega arith))
 
@@ -185,23 +185,23 @@ sound-next d x (handIn r) h =
     check-cases (verdict (handInChecks x r))
     (λ e. rw (e, next)
     (terminal-whole _ (s .tables)
-    (made (x .tables) _ _ (s .tables) (s .two) (hand-keeps x r h e .0) (distinct-stored _ (waiting (x .queue)) (s .apart)))))
+    (made (x .tables) _ _ (s .tables) (s .two) (hand-keeps x r h e .0) (distinct-stored _ (waiting (x .queue)) (s .distinct)))))
     (λ n e. rw (e, next) h)
-sound-next d x (takeAt clock room) h =
+sound-next d x (takeAt clock capacity) h =
     let s = terminal-parts x h in
-    let q = received clock (due x) room in
+    let q = received clock (due x) capacity in
     check-cases (verdict (takeChecks x))
     (λ e. rw (e, next)
     (terminal-whole _ (sound-kept d (x .tables) q (s .tables))
     (sound-after d (x .tables) q _ _ (s .tables) (turn-is x h (take-passed x e .1) .two)
-    (every-without (slotSound (rows Creds (x .tables))) _ (waiting (x .queue)) (s .keeps)) (distinct-without _ (waiting (x .queue)) (s .apart)))))
+    (every-without (slotSound (rows Creds (x .tables))) _ (waiting (x .queue)) (s .keeps)) (distinct-without _ (waiting (x .queue)) (s .distinct)))))
     (λ n e. rw (e, next) h)
 sound-next d x (direct q) h =
     let s = terminal-parts x h in
     check-cases (verdict (directChecks x))
     (λ e. rw (e, next)
     (terminal-whole _ (sound-kept d (x .tables) q (s .tables))
-    (sound-after d (x .tables) q _ _ (s .tables) (s .two) (s .keeps) (s .apart))))
+    (sound-after d (x .tables) q _ _ (s .tables) (s .two) (s .keeps) (s .distinct))))
     (λ n e. rw (e, next) h)
 
 pub inputs-sound : (d : Defaults) (x : Terminal) (is : List Input) → soundTerminal x ≡ true → soundTerminal (final (next d) x is) ≡ true

@@ -19,28 +19,28 @@ use Rattle.rules_waiting.specs.Terminal.{takeChecks, due, takeOf, taken}
 use Rattle.rules_waiting.proofs.Refused.{take-ready}
 use Rattle.rules_waiting.proofs.Built.{refused-number}
 
-module _ (d : Defaults) (x : Terminal) (clock room : ℕ) where
+module _ (d : Defaults) (x : Terminal) (clock capacity : ℕ) where
   -- on a sound terminal where a record waits
   pub taken-is : soundTerminal x ≡ true → eqb (length (waiting (x .queue))) 0 ≡ false
-      → taken d x clock room ≡ takeOf d x (received clock (due x) room) Pass
+      → taken d x clock capacity ≡ takeOf d x (received clock (due x) capacity) Pass
   unfolding taken
-  taken-is h w = ap (takeOf d x (received clock (due x) room)) (take-ready x h w)
+  taken-is h w = ap (takeOf d x (received clock (due x) capacity)) (take-ready x h w)
 
   -- the record due is handed out; its sender is told its outcome, and the tables are its outcome's
   pub record OutcomeOfDue : Type 0 where
-    pub handed : taken d x clock room .bytes ≡ due x
-    pub response : taken d x clock room .response ≡ responseTo d (x .tables) (received clock (due x) room)
-    pub tables : taken d x clock room .terminal .tables ≡ tablesAfter d (x .tables) (received clock (due x) room)
+    pub handed : taken d x clock capacity .bytes ≡ due x
+    pub response : taken d x clock capacity .response ≡ responseTo d (x .tables) (received clock (due x) capacity)
+    pub tables : taken d x clock capacity .terminal .tables ≡ tablesAfter d (x .tables) (received clock (due x) capacity)
 
   -- with any answer but 1 and 27, so with 0
-  pub judged-take : (eqb (taken d x clock room .response .answer) 1 || eqb (taken d x clock room .response .answer) 27) ≡ false → OutcomeOfDue
+  pub judged-take : (eqb (taken d x clock capacity .response .answer) 1 || eqb (taken d x clock capacity .response .answer) 27) ≡ false → OutcomeOfDue
   unfolding taken
   judged-take a =
       check-cases (verdict (takeChecks x))
       (λ e. record { handed = rw e; response = rw e; tables = rw e })
       (λ n e. contradiction (refused-number x n e) (rw e at a))
 
-  pub permitted-take : taken d x clock room .response .answer ≡ 0 → OutcomeOfDue
+  pub permitted-take : taken d x clock capacity .response .answer ≡ 0 → OutcomeOfDue
   permitted-take a = judged-take (rw a)
 
 -- ---- RESET

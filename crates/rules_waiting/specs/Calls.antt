@@ -20,9 +20,9 @@ pub record HandsIn (x : Terminal) (r : List ℕ) (s : Said) (queue : List ℕ) :
   pub keeps : queue ≡ handedIn x r .terminal .queue
 
 -- a take, at a clock, with a buffer of a length
-pub record Takes (d : Defaults) (x : Terminal) (clock room : ℕ) (h : HandedOut) (lent queue buffer : List ℕ) : Type 0 where
-  pub hands : h ≡ handedOut (taken d x clock room)
-  pub leaves : Leaves (taken d x clock room) lent queue buffer
+pub record Takes (d : Defaults) (x : Terminal) (clock capacity : ℕ) (h : HandedOut) (lent queue buffer : List ℕ) : Type 0 where
+  pub hands : h ≡ handedOut (taken d x clock capacity)
+  pub leaves : Leaves (taken d x clock capacity) lent queue buffer
 
 -- a record is judged at once
 pub record Judges (d : Defaults) (x : Terminal) (q : Request) (s : Said) (lent queue buffer : List ℕ) : Type 0 where

@@ -25,7 +25,7 @@ pub data Input : Type 0 where
 
 abbrev pub transition : Defaults → Terminal → Input → Transition
 transition d x (handIn r) = handedIn x r
-transition d x (takeAt clock room) = taken d x clock room
+transition d x (takeAt clock capacity) = taken d x clock capacity
 transition d x (direct q) = judged d x q
 
 abbrev pub next : Defaults → Terminal → Input → Terminal
@@ -51,7 +51,7 @@ turnIf d x q (Refuse n) = []
 
 abbrev pub turnsAt : Defaults → Terminal → Input → List Turn
 turnsAt d x (handIn r) = []
-turnsAt d x (takeAt clock room) = turnIf d x (received clock (due x) room) (verdict (takeChecks x))
+turnsAt d x (takeAt clock capacity) = turnIf d x (received clock (due x) capacity) (verdict (takeChecks x))
 turnsAt d x (direct q) = []
 
 -- the records taken, in the order of their takes
@@ -60,7 +60,7 @@ turns d = collected (next d) (turnsAt d)
 
 abbrev pub judgedAt : Defaults → Terminal → Input → List Turn
 judgedAt d x (handIn r) = []
-judgedAt d x (takeAt clock room) = turnIf d x (received clock (due x) room) (verdict (takeChecks x))
+judgedAt d x (takeAt clock capacity) = turnIf d x (received clock (due x) capacity) (verdict (takeChecks x))
 judgedAt d x (direct q) = turnIf d x q (verdict (directChecks x))
 
 -- and with them those judged at once: of hand-ins and takes alone, the records taken
@@ -84,7 +84,7 @@ othersTurn chosen u = not (chosen (sender (bytesOf u)))
 abbrev pub noneDirect : List Input → Bool
 noneDirect [] = true
 noneDirect (handIn r ∷ is) = noneDirect is
-noneDirect (takeAt clock room ∷ is) = noneDirect is
+noneDirect (takeAt clock capacity ∷ is) = noneDirect is
 noneDirect (direct q ∷ is) = false
 
 -- ---- within 25 takes
@@ -93,13 +93,13 @@ noneDirect (direct q ∷ is) = false
 abbrev pub takes : List Input → ℕ
 takes [] = 0
 takes (handIn r ∷ is) = takes is
-takes (takeAt clock room ∷ is) = suc (takes is)
+takes (takeAt clock capacity ∷ is) = suc (takes is)
 takes (direct q ∷ is) = takes is
 
 -- the input's record clears the tables
 abbrev pub clearing : Defaults → Terminal → Input → Bool
 clearing d x (handIn r) = false
-clearing d x (takeAt clock room) = isPass (verdict (takeChecks x)) && clears d (x .tables) (received clock (due x) room)
+clearing d x (takeAt clock capacity) = isPass (verdict (takeChecks x)) && clears d (x .tables) (received clock (due x) capacity)
 clearing d x (direct q) = isPass (verdict (directChecks x)) && clears d (x .tables) q
 
 -- no credential row is added or removed, and the tables are not cleared
@@ -120,7 +120,7 @@ recordIf r (Refuse n) = []
 
 abbrev pub keptAt : Defaults → Terminal → Input → List (List ℕ)
 keptAt d x (handIn r) = recordIf r (verdict (handInChecks x r))
-keptAt d x (takeAt clock room) = []
+keptAt d x (takeAt clock capacity) = []
 keptAt d x (direct q) = []
 
 abbrev pub allKept : Defaults → Terminal → List Input → List (List ℕ)
@@ -133,8 +133,8 @@ droppedBy d t q ws (Refuse n) = []
 
 abbrev pub droppedAt : Defaults → Terminal → Input → List (List ℕ)
 droppedAt d x (handIn r) = []
-droppedAt d x (takeAt clock room) =
-    droppedBy d (x .tables) (received clock (due x) room) (without (hasKey 0 (turn x)) (waiting (x .queue))) (verdict (takeChecks x))
+droppedAt d x (takeAt clock capacity) =
+    droppedBy d (x .tables) (received clock (due x) capacity) (without (hasKey 0 (turn x)) (waiting (x .queue))) (verdict (takeChecks x))
 droppedAt d x (direct q) = droppedBy d (x .tables) q (waiting (x .queue)) (verdict (directChecks x))
 
 abbrev pub allDropped : Defaults → Terminal → List Input → List (List ℕ)

@@ -2,7 +2,7 @@
 -- Bytes: the count (8), the round (24), and 25 slots. A slot: the sender's credential number (16, 0 for
 -- unauthenticated senders), the record's length (16), 256 bytes of record with zeros behind it.
 -- A seat is the paper's place for a waiting record: the two bytes of that number. (Places are those of U4 here.)
-use Prim.Native.Nat.{ℕ, _-_, min}
+use Prim.Native.Nat.{ℕ, _+_, _-_, _*_, min}
 use mathlib.Core.Bool.{cond}
 use mathlib.Core.List.{List, [], _∷_, _++_}
 use lib.Dec.{eqb}
@@ -15,19 +15,19 @@ abbrev pub Seat : Type 0
 Seat = List ℕ
 
 -- bytes of a slot
-abbrev pub slotLong : ℕ
-slotLong = 260
+abbrev pub slotSize : ℕ
+slotSize = 260
 
 -- slots at most: one for each of 24 credential rows, and one for unauthenticated senders
-abbrev pub slotsMost : ℕ
-slotsMost = 25
+abbrev pub queueCapacity : ℕ
+queueCapacity = 25
 
 -- bytes of all slots, and of the memory
-abbrev pub slotsLong : ℕ
-slotsLong = 6500
+abbrev pub slotsSize : ℕ
+slotsSize = queueCapacity * slotSize
 
 abbrev pub queueSize : ℕ
-queueSize = 6504
+queueSize = 4 + slotsSize
 
 -- the seat of a record's sender
 unfoldable pub seatOf : List ℕ → Seat
@@ -61,11 +61,11 @@ roundOf m = cond (eqb (getD m 1 0) 0) anew (after (take 2 (drop 2 m)))
 
 -- the slots that are used: as many as are counted, at most as many as there is room for
 unfoldable pub waiting : List ℕ → List Row
-waiting m = rowsOf slotLong (min (getD m 0 0) slotsMost) (drop 4 m)
+waiting m = rowsOf slotSize (min (getD m 0 0) queueCapacity) (drop 4 m)
 
 -- the memory with this round and these slots
 unfoldable pub queueOf : Round → List Row → List ℕ
-queueOf k ws = length ws ∷ (roundBytes k ++ packed slotsLong ws)
+queueOf k ws = length ws ∷ (roundBytes k ++ packed slotsSize ws)
 
 -- no record waits, and the round begins anew
 abbrev pub emptyQueue : List ℕ

@@ -20,7 +20,7 @@ use Rattle.rules.specs.Checks.{verdict, isPass}
 use Rattle.rules.specs.Groups.{senderChecks}
 use Rattle.rules.specs.Outcome.{Response, numberResponse, Said, responseTo, tablesAfter, judgementOf, saidOf}
 use Rattle.rules_waiting.specs.declared.Taken.{Taken}
-use Rattle.rules_waiting.specs.Slots.{Seat, Round, after, slotLong, slotsMost, queueSize, seatOf, padded, slotOf}
+use Rattle.rules_waiting.specs.Slots.{Seat, Round, after, slotSize, queueCapacity, queueSize, seatOf, padded, slotOf}
 use Rattle.rules_waiting.specs.Slots.{recordOf, roundBytes, roundOf, waiting, queueOf, emptyQueue}
 use Rattle.rules_waiting.specs.Round.{seats, occupied, firstInTurn, sameSeats, orphaned, heldRound}
 
@@ -41,9 +41,9 @@ slotSound ws w = same w (slotOf (recordOf w)) && isPass (verdict (senderChecks w
 unfoldable pub queueSound : List Row → List ℕ → Bool
 queueSound ws m =
     eqb (length m) queueSize
-    && leb (getD m 0 0) slotsMost
+    && leb (getD m 0 0) queueCapacity
     && same (take 3 (drop 1 m)) (roundBytes (roundOf m))
-    && allZero (drop (getD m 0 0 * slotLong) (drop 4 m))
+    && allZero (drop (getD m 0 0 * slotSize) (drop 4 m))
     && every (slotSound ws) (waiting m)
     && distinctNumbers (waiting m)
 
@@ -133,7 +133,7 @@ takeOf d x q (Refuse n) = numberTransition n x
 
 -- at the take's clock, with a reply buffer of this length
 unfoldable pub taken : Defaults → Terminal → ℕ → ℕ → Transition
-taken d x clock room = takeOf d x (received clock (due x) room) (verdict (takeChecks x))
+taken d x clock capacity = takeOf d x (received clock (due x) capacity) (verdict (takeChecks x))
 
 -- ---- a record that is judged at once
 

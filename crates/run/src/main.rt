@@ -3,12 +3,12 @@
 fn main() {
     let mut input = [0u8; 32768];
     let n = io::read_full(0, &mut input);
-    let mut out = room();
+    let mut out = buffer();
     let k = report::run_text(&input[..n], &mut out);
     io::write_all(1, &out[..k]);
 }
 
 // Room for the text of every run of at most 32,768 bytes: the header, and four bytes for each byte of the run.
-fn room() -> [u8; 131092] {
+fn buffer() -> [u8; 131092] {
     [0; 131092]
 }

@@ -61,7 +61,7 @@ pub extern "C" fn tillerclover_access_list_at<'a>(
 pub extern "C" fn tillerclover_test_list_at(rows: &[u8], said: &mut [u64; 2])
     ensures { λ _. ⌜ TestsAt (was rows) (became said) ⌝ }
 {
-    let found = list_test::test_list(rows);
+    let found = list_validation::test_list(rows);
     *said = [found.answer as u64, found.row as u64];
 }
 

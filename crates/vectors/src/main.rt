@@ -9,12 +9,42 @@ use rows::part;
 use rules::ACE_ROWS;
 use rules::CRED_ROWS;
 use rules::Tables;
+use rules_waiting::QUEUE;
 use terminal::tillerclover_hand_in_at;
 use terminal::tillerclover_judge_at;
 use terminal::tillerclover_take_at;
 use vectors_reader::byte_at;
 use vectors_reader::more;
 use vectors_reader::tables_of;
+
+// What an entry holds, by the number of its tag.
+struct Tag {
+    number: u8,
+}
+
+impl Tag {
+    const TABLES: u8 = 0;
+
+    const RECORD: u8 = 1;
+
+    // the tables that must be reached
+    const REACHED: u8 = 2;
+
+    const DEFAULTS: u8 = 3;
+
+    const LIST: u8 = 4;
+
+    const OLDER_LIST: u8 = 5;
+
+    const QUEUE: u8 = 6;
+
+    // the queue that must be reached
+    const QUEUE_REACHED: u8 = 7;
+
+    const HAND_IN: u8 = 8;
+
+    const TAKE: u8 = 9;
+}
 
 // What is said of a record, in words, and the tables afterwards.
 struct Told {
@@ -32,7 +62,7 @@ struct Turn {
 // What is held from entry to entry.
 struct Progress {
     tables: Tables,
-    queue: [u8; 6504],
+    queue: [u8; QUEUE],
     // where the entry stands, and the last one with default lists
     at: usize,
     lists: usize,
@@ -52,14 +82,14 @@ fn main() {
         os::fail(path);
         return;
     }
-    let mut bytes = room();
+    let mut bytes = buffer();
     let n = io::read_full(file, &mut bytes);
     libc::close(file);
     print_result(walk(&bytes[..n]));
 }
 
 // More than the model writes. Of a longer file the last entry is cut, and counts as a difference.
-fn room() -> [u8; 400000] {
+fn buffer() -> [u8; 400000] {
     [0; 400000]
 }
 
@@ -83,7 +113,7 @@ fn print_result(p: Progress) {
 fn walk(bytes: &[u8]) -> Progress {
     let mut p = Progress {
         tables: Tables::empty(),
-        queue: [0u8; 6504],
+        queue: [0u8; QUEUE],
         at: 0,
         lists: usize::MAX,
         entry: 0,
@@ -131,16 +161,16 @@ fn differing(p: Progress) -> Progress {
 fn entry_size(s: &[u8]) -> usize {
     let tag = byte_at(s, 0);
     match tag {
-        0 => tables_size(s),
-        1 => record_size(s),
-        2 => tables_size(s),
-        3 => 3 + byte_at(s, 1) as usize + second_length(s) as usize,
-        4 => list_size(s),
-        5 => older_size(s),
-        6 => memory_size(s),
-        7 => memory_size(s),
-        8 => hand_in_size(s),
-        9 => take_size(s),
+        Tag::TABLES => tables_size(s),
+        Tag::RECORD => record_size(s),
+        Tag::REACHED => tables_size(s),
+        Tag::DEFAULTS => 3 + byte_at(s, 1) as usize + second_length(s) as usize,
+        Tag::LIST => list_size(s),
+        Tag::OLDER_LIST => older_size(s),
+        Tag::QUEUE => memory_size(s),
+        Tag::QUEUE_REACHED => memory_size(s),
+        Tag::HAND_IN => hand_in_size(s),
+        Tag::TAKE => take_size(s),
         _ => 0,
     }
 }
@@ -227,15 +257,15 @@ fn moved(p: Progress, size: usize) -> Progress {
 fn entry_done(p: Progress, s: &[u8], lists: &[u8]) -> Progress {
     let tag = byte_at(s, 0);
     match tag {
-        0 => taken(p, after(s, 1)),
-        1 => judged(p, after(s, 1), lists),
-        2 => reached(p, after(s, 1)),
-        3 => listed(p),
-        4 => tested(p, after(s, 1)),
-        5 => converted(p, after(s, 1)),
-        6 => lent(p, after(s, 1)),
-        7 => kept(p, after(s, 1)),
-        8 => handed_in(p, after(s, 1)),
+        Tag::TABLES => taken(p, after(s, 1)),
+        Tag::RECORD => judged(p, after(s, 1), lists),
+        Tag::REACHED => reached(p, after(s, 1)),
+        Tag::DEFAULTS => listed(p),
+        Tag::LIST => tested(p, after(s, 1)),
+        Tag::OLDER_LIST => converted(p, after(s, 1)),
+        Tag::QUEUE => lent(p, after(s, 1)),
+        Tag::QUEUE_REACHED => kept(p, after(s, 1)),
+        Tag::HAND_IN => handed_in(p, after(s, 1)),
         _ => taken_turn(p, after(s, 1), lists),
     }
 }
@@ -262,7 +292,7 @@ fn reached(p: Progress, bytes: &[u8]) -> Progress {
 fn tested(p: Progress, s: &[u8]) -> Progress {
     let length = be16(s) as usize;
     let expected = after(after(s, 2), length);
-    let found = list_test::test_list(part(s, 2, length));
+    let found = list_validation::test_list(part(s, 2, length));
     let mut next = p;
     next.tested = more(p.tested);
     if (found.answer == byte_at(expected, 0)) & (found.row == byte_at(expected, 1) as usize) {
@@ -289,9 +319,9 @@ fn converted(p: Progress, s: &[u8]) -> Progress {
     }
 }
 
-// Converts an older list with the first `room` bytes of the buffer, or all where it has fewer.
-fn convert_within(file: &[u8], buffer: &mut [u8], room: usize) -> Converted {
-    let n = text::within(buffer, room);
+// Converts an older list with the first `capacity` bytes of the buffer, or all where it has fewer.
+fn convert_within(file: &[u8], buffer: &mut [u8], capacity: usize) -> Converted {
+    let n = text::within(buffer, capacity);
     list_convert::convert(file, &mut buffer[..n])
 }
 
@@ -315,8 +345,8 @@ fn kept(p: Progress, s: &[u8]) -> Progress {
 }
 
 // Zeros stand behind the bytes.
-fn memory_of(s: &[u8]) -> [u8; 6504] {
-    let mut queue = [0u8; 6504];
+fn memory_of(s: &[u8]) -> [u8; QUEUE] {
+    let mut queue = [0u8; QUEUE];
     text::put(&mut queue, 0, part(s, 2, be16(s) as usize));
     queue
 }
@@ -382,24 +412,24 @@ fn taken_turn(p: Progress, s: &[u8], lists: &[u8]) -> Progress {
     }
 }
 
-// Takes with the first `room` bytes of the buffer, or all where it has fewer.
+// Takes with the first `capacity` bytes of the buffer, or all where it has fewer.
 fn take_within(
     t: Tables,
-    queue: &mut [u8; 6504],
+    queue: &mut [u8; QUEUE],
     creds: &[u8],
     aces: &[u8],
     clock: u32,
     buffer: &mut [u8],
-    room: usize,
+    capacity: usize,
 ) -> Turn {
-    let n = text::within(buffer, room);
+    let n = text::within(buffer, capacity);
     take(t, queue, creds, aces, clock, &mut buffer[..n])
 }
 
 // Takes on these tables.
 fn take(
     t: Tables,
-    queue: &mut [u8; 6504],
+    queue: &mut [u8; QUEUE],
     creds: &[u8],
     aces: &[u8],
     clock: u32,
@@ -482,25 +512,25 @@ fn judged(p: Progress, s: &[u8], lists: &[u8]) -> Progress {
     }
 }
 
-// Judges a record with the first `room` bytes of the buffer, or all where it has fewer.
+// Judges a record with the first `capacity` bytes of the buffer, or all where it has fewer.
 fn judge_within(
     t: Tables,
-    queue: &mut [u8; 6504],
+    queue: &mut [u8; QUEUE],
     creds: &[u8],
     aces: &[u8],
     clock: u32,
     record: &[u8],
     buffer: &mut [u8],
-    room: usize,
+    capacity: usize,
 ) -> Told {
-    let n = text::within(buffer, room);
+    let n = text::within(buffer, capacity);
     judge(t, queue, creds, aces, clock, record, &mut buffer[..n])
 }
 
 // Judges a record on these tables.
 fn judge(
     t: Tables,
-    queue: &mut [u8; 6504],
+    queue: &mut [u8; QUEUE],
     creds: &[u8],
     aces: &[u8],
     clock: u32,
@@ -534,7 +564,7 @@ fn judge(
 }
 
 // Hands a record in beside these tables: what is said, in words.
-fn hand_in(t: Tables, queue: &mut [u8; 6504], record: &[u8]) -> [u64; 9] {
+fn hand_in(t: Tables, queue: &mut [u8; QUEUE], record: &[u8]) -> [u64; 9] {
     let counts = counts_of(t);
     let devowner = t.devowner;
     let rowners = t.rowners;

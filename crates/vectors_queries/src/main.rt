@@ -10,6 +10,28 @@ use vectors_reader::byte_at;
 use vectors_reader::more;
 use vectors_reader::tables_of;
 
+// What an entry holds, by the number of its tag.
+struct Tag {
+    number: u8,
+}
+
+impl Tag {
+    const TABLES: u8 = 0;
+
+    const STORE: u8 = 1;
+
+    const IMAGE: u8 = 2;
+
+    // a question of isolation
+    const QUESTION: u8 = 3;
+
+    const STEP: u8 = 4;
+
+    const CURRENT: u8 = 5;
+
+    const RUN: u8 = 6;
+}
+
 // What was put to the library, and how much of it differs.
 struct Progress {
     entry: u64,
@@ -34,14 +56,14 @@ fn main() {
         os::fail(path);
         return;
     }
-    let mut bytes = room();
+    let mut bytes = buffer();
     let n = io::read_full(file, &mut bytes);
     libc::close(file);
     print_result(walk(&bytes[..n]));
 }
 
 // More than the model writes. Of a longer file the last entry is cut, and counts as a difference.
-fn room() -> [u8; 200000] {
+fn buffer() -> [u8; 200000] {
     [0; 200000]
 }
 
@@ -81,9 +103,9 @@ fn walk(bytes: &[u8]) -> Progress {
             return differing(p);
         }
         let body = after(part(rest, 0, size), 3);
-        let t = one_of(tag == 0, body, tables);
-        let m = one_of(tag == 1, body, store);
-        let i = one_of(tag == 2, body, image);
+        let t = one_of(tag == Tag::TABLES, body, tables);
+        let m = one_of(tag == Tag::STORE, body, store);
+        let i = one_of(tag == Tag::IMAGE, body, image);
         tables = t;
         store = m;
         image = i;
@@ -121,13 +143,13 @@ fn compared(p: Progress, same: bool) -> Progress {
 // An entry that is put to the library; tables, a store and an image only become the current ones.
 fn answered(p: Progress, tag: u8, s: &[u8], tables: &[u8], store: &[u8], image: &[u8]) -> Progress {
     match tag {
-        0 => p,
-        1 => p,
-        2 => p,
-        3 => asked(p, s, tables),
-        4 => stepped(p, s, store, image),
-        5 => located(p, s, store),
-        6 => stored(p, s, store, image),
+        Tag::TABLES => p,
+        Tag::STORE => p,
+        Tag::IMAGE => p,
+        Tag::QUESTION => asked(p, s, tables),
+        Tag::STEP => stepped(p, s, store, image),
+        Tag::CURRENT => located(p, s, store),
+        Tag::RUN => stored(p, s, store, image),
         _ => differing(p),
     }
 }

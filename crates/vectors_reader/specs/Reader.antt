@@ -6,6 +6,8 @@ use lib.ListN.{take, drop, getD, replicate}
 use Rattle.text.specs.Buffer.{written}
 use Rattle.rules.specs.declared.Tables.{Tables}
 use Rattle.rules.specs.Bits.{bits}
+use Rattle.rules.specs.declared.Table.the-variants.{Aces, Creds}
+use Rattle.rules.specs.Tables.{tableSize}
 
 -- n bytes, of which the first are these
 abbrev pub padded : ℕ → List ℕ → List ℕ
@@ -26,6 +28,6 @@ tablesIn bytes = record {
   naces = getD bytes 3 0;
   devowner = padded 16 (drop 4 bytes);
   rowners = padded 64 (drop 20 bytes);
-  creds = padded 936 (counted (drop 84 bytes));
-  aces = padded 1152 (counted (afterCounted (drop 84 bytes)));
+  creds = padded (tableSize Creds) (counted (drop 84 bytes));
+  aces = padded (tableSize Aces) (counted (afterCounted (drop 84 bytes)));
 }

@@ -4,6 +4,7 @@ use Rattle.rows.specs.Rows.{Row, hasKey, numberedAs}
 use Rattle.rows.specs.Contracts.{placeOf}
 use Rattle.rows.proofs.Laws.{numbered-key}
 use Rattle.check_rows.proofs.numbered_place.Tie as tie
+use Rattle.rules.specs.Sizes.{aceRowSize, credRowSize}
 
 by-number : (w v : Row) (ws : List Row) (key : List ℕ) → 2 ≤ length v → key ≡ take 2 v → v ≡ w → placeOf (hasKey 0 key) ws ≡ placeOf (numberedAs w) ws
 by-number w v ws key h e is = rw (e, numbered-key v h, is)
@@ -11,14 +12,14 @@ by-number w v ws key h e is = rw (e, numbered-key v h, is)
 returns : tie.Need-returns
 returns c =
     let made = c .before .before .before in
-    let l : length (made .cred-row .result) ≡ 39 = search needs in
+    let l : length (made .cred-row .result) ≡ credRowSize = search needs in
     let told = made .before .enum-told .given .1 in
     rw told ((rw told at (c .place .ensures)) ∙ by-number _ _ _ _ (omega arith) (c .before .part .ensures) (made .cred-row .ensures))
 
 returns-2 : tie.Need-returns-2
 returns-2 c =
     let made = c .before .before .before in
-    let l : length (made .ace-row .result) ≡ 36 = search needs in
+    let l : length (made .ace-row .result) ≡ aceRowSize = search needs in
     let told = made .before .enum-told2 .given .1 in
     rw told ((rw told at (c .place2 .ensures)) ∙ by-number _ _ _ _ (omega arith) (c .before .part2 .ensures) (made .ace-row .ensures))
 

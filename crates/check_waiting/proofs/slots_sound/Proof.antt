@@ -1,20 +1,21 @@
 -- `slots_sound`: by the law of a loop that tests each row.
 use Rattle.rows.proofs.Prelude.{refl, sym, _∙_, _*_, _≤_, length, length-take-le, needs, not-false, not-true}
-use Rattle.rows.proofs.Laws.{EveryInv, every-fails, every-turn, every-end, a-row, next-room}
+use Rattle.rows.proofs.Laws.{EveryInv, every-fails, every-turn, every-end, a-row, next-fits}
 use Rattle.rules.specs.Tables.{rowsIn}
 use Rattle.rules_waiting.specs.Terminal.{slotSound}
+use Rattle.rules_waiting.specs.Slots.{slotSize}
 use Rattle.check_waiting.proofs.slots_sound.Tie as tie
 use Rattle.rules.specs.declared.Table.the-variants.{Creds}
 
 abbrev Inv-loop : tie.InvT-loop
-Inv-loop ncreds creds slots count rest₀ left₀ rest left = EveryInv (slotSound (rowsIn Creds ncreds creds)) 260 count slots rest left × (left * 260 ≤ length rest)
+Inv-loop ncreds creds slots count rest₀ left₀ rest left = EveryInv (slotSound (rowsIn Creds ncreds creds)) slotSize count slots rest left × (left * slotSize ≤ length rest)
 
 abbrev μ-loop : tie.MeasureT-loop
 μ-loop ncreds creds slots count rest₀ left₀ rest left = left
 
 -- a turn has a row
-row-here : (c : tie.In-loop Inv-loop μ-loop) → 260 ≤ length (c .before .loop .rest .now)
-row-here c = a-row 260 _ (c .before .loop .rest .now) (c .loop-test .taken) (c .before .loop .inv .1)
+row-here : (c : tie.In-loop Inv-loop μ-loop) → slotSize ≤ length (c .before .loop .rest .now)
+row-here c = a-row slotSize _ (c .before .loop .rest .now) (c .loop-test .taken) (c .before .loop .inv .1)
 
 returns : tie.Need-returns Inv-loop μ-loop
 returns c =
@@ -26,14 +27,14 @@ loop-again c =
     let test = c .before in
     let turn = test .before .before .before in (
       every-turn _ _ _ _ _ _ (turn .before .loop .inv .0) (turn .loop-test .taken) (sym (test .before .slot-sound .ensures) ∙ not-false _ (test .if1 .left)),
-      next-room 260 _ (turn .before .loop .rest .now) (turn .loop-test .taken) (turn .before .loop .inv .1),
+      next-fits slotSize _ (turn .before .loop .rest .now) (turn .loop-test .taken) (turn .before .loop .inv .1),
     )
 
 pub slots-sound-spec : {M : Type 1} → Rattle.check_waiting.proofs.slots_sound.Statement.statement M
 slots-sound-spec = tie.close (tie.spec
     Inv-loop μ-loop (λ c. (refl, c .before .pre))
-    (λ c. sym (length-take-le 260 (c .before .before .loop .rest .now) (row-here (c .before))))
-    (λ c κs. length-take-le 260 (c .before .before .loop .rest .now) (row-here (c .before)))
+    (λ c. sym (length-take-le slotSize (c .before .before .loop .rest .now) (row-here (c .before))))
+    (λ c κs. length-take-le slotSize (c .before .before .loop .rest .now) (row-here (c .before)))
     returns (λ c. row-here (c .before .before .before)) (λ c. row-here (c .before .before .before))
     (λ c. search needs) (λ c. search needs) (λ c. search needs) loop-again
     (λ c. every-end _ _ _ _ _ _ (c .before .loop .inv .0) (c .loop-test .left)))

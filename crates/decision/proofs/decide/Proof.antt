@@ -28,7 +28,7 @@ module _ (t : Tables) (q : Request) (k : Caller) (c : Check) (is : k ≡ callerO
   refused n d r f = turned _ _ _ _ c _ n d (stop-all (senderChecks (rows Creds t) (q .bytes)) _ n checked r) r (f ∙ ap (λ (x : Caller). nothingGranted x c) is)
 
   -- where 2 to 7 pass, the decision is that of the rest
-  rest-decides : (b : List ℕ) → b ≡ body (q .bytes) → c ≡ Pass → granted (q .clock) t k b (q .room) ≡ decided t q
+  rest-decides : (b : List ℕ) → b ≡ body (q .bytes) → c ≡ Pass → granted (q .clock) t k b (q .capacity) ≡ decided t q
   unfolding granted decided
   rest-decides b e p =
       rw (e, is, caller-row t (q .bytes)) (ap (decisionBy _ _ _ _) (skip-all (senderChecks (rows Creds t) (q .bytes)) _ checked p refl))

@@ -10,7 +10,7 @@ use Rattle.rules.specs.Permission.{permissionOf}
 use Rattle.rules.specs.Action.{actionOf}
 use Rattle.rules.specs.Reading.{replyTo, tooShort}
 use Rattle.rules.specs.Checks.{verdict}
-use Rattle.rules.specs.Groups.{requestChecks, stateChecks, rowChecks, roomChecks}
+use Rattle.rules.specs.Groups.{requestChecks, stateChecks, rowChecks, capacityChecks}
 use Rattle.rules.specs.Callers.{callerRow}
 use Rattle.rules.specs.Decision.{granted}
 use Rattle.rules.proofs.CheckLaws.{stop-all, skip-all, last}
@@ -39,11 +39,11 @@ module _ (s : tie.Start) where
   abbrev of-rows : List (ℕ × Bool)
   of-rows = rowChecks (s .args .clock) tables row (now (s .args .b)) asked
 
-  abbrev room : List (ℕ × Bool)
-  room = roomChecks (s .args .capacity) (length (replyTo (s .args .clock) tables row (s .args .caller .header)))
+  abbrev capacity : List (ℕ × Bool)
+  capacity = capacityChecks (s .args .capacity) (length (replyTo (s .args .clock) tables row (s .args .caller .header)))
 
   abbrev all : List (ℕ × Bool)
-  all = (requests ++ (states ++ of-rows)) ++ room
+  all = (requests ++ (states ++ of-rows)) ++ capacity
 
 -- ---- what was found before the checks
 
@@ -72,7 +72,7 @@ returns c =
     let told = c .before in
     let call = told .before .before in
     let s = start (call .before) in
-    turned _ _ _ _ _ _ _ _ (stop-all (requests s ++ (states s ++ of-rows s)) (room s) _
+    turned _ _ _ _ _ _ _ _ (stop-all (requests s ++ (states s ++ of-rows s)) (capacity s) _
     (stop-all (requests s) (states s ++ of-rows s) _ (first call) (told .enum-told2 .given .1)) (told .enum-told2 .given .1))
     (told .enum-told2 .given .1) (c .turned-away .ensures)
 
@@ -96,7 +96,7 @@ returns-2 c =
     let call = told .before .before in
     let s = start (requested call .before) in
     let no = told .enum-told4 .given .1 in
-    turned _ _ _ _ _ _ _ _ (stop-all (requests s ++ (states s ++ of-rows s)) (room s) _
+    turned _ _ _ _ _ _ _ _ (stop-all (requests s ++ (states s ++ of-rows s)) (capacity s) _
     (past call (stop-all (states s) (of-rows s) _ (second call) no)) no) no (c .turned-away2 .ensures)
 
 abbrev in-state : tie.After-check-rows → tie.After-check-states
@@ -121,7 +121,7 @@ returns-3 c =
     let call = told .before .before in
     let s = start-of-rows call in
     let no = told .enum-told6 .given .1 in
-    turned _ _ _ _ _ _ _ _ (stop-all (requests s ++ (states s ++ of-rows s)) (room s) _ (third call) no) no (c .turned-away3 .ensures)
+    turned _ _ _ _ _ _ _ _ (stop-all (requests s ++ (states s ++ of-rows s)) (capacity s) _ (third call) no) no (c .turned-away3 .ensures)
 
 -- back from the check of the capacity
 abbrev with-rows : tie.After-check-capacity → tie.After-check-rows
@@ -131,7 +131,7 @@ whole : (c : tie.After-check-capacity) → let s = start-of-rows (with-rows c) i
 unfolding tooShort
 whole c =
     let s = start-of-rows (with-rows c) in
-    skip-all (requests s ++ (states s ++ of-rows s)) (room s) (third (with-rows c)) (c .before .before .enum-told5 .given .1)
+    skip-all (requests s ++ (states s ++ of-rows s)) (capacity s) (third (with-rows c)) (c .before .before .enum-told5 .given .1)
     (last _ _ (rw (← c .before .reply-length .ensures) (c .check-capacity .ensures)))
 
 returns-4 : tie.Need-returns-4

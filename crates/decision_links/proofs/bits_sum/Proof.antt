@@ -16,7 +16,7 @@ bits-sum-spec = tie.close (tie.spec
     Inv-loop μ-loop (λ c. at-first _)
     (λ c. omega (arith, c .before .loop .inv .low)) (λ c. omega (arith, c .loop-test .taken))
     (λ c. omega (arith, c .loop-test .taken)) (λ c κs. search needs)
-    (λ c. omega (arith, c .before .before .loop .inv .room, c .link-bit .ensures .1))
+    (λ c. omega (arith, c .before .before .loop .inv .capacity, c .link-bit .ensures .1))
     (λ c. omega (arith, c .before .loop-test .taken)) (λ c. omega (arith, c .before .loop-test .taken))
     (λ c. next _ _ _ _ (c .before .before .loop .inv) (c .before .loop-test .taken) _ (c .link-bit .ensures .0) (c .link-bit .ensures .1))
     (λ c. at-last _ _ _ _ (c .before .loop .inv) (c .loop-test .left)))

@@ -4,19 +4,20 @@ use Rattle.rows.specs.Rows.{rowsOf}
 use Rattle.rows.specs.Contracts.{placeFrom}
 use Rattle.rows.proofs.Laws.{from-row, length-rowsOf}
 use Rattle.rules_isolation.specs.Question.{letsAlter}
+use Rattle.rules.specs.Sizes.{aceRowSize}
 use Rattle.isolation.proofs.altering_row.Tie as tie
 
 abbrev Inv-loop : tie.InvT-loop
 Inv-loop aces count cred connection i₀ i =
     let passes = letsAlter cred connection in
-    (i ≤ count) × (placeFrom 0 passes (rowsOf 36 count aces) ≡ placeFrom i passes (drop i (rowsOf 36 count aces)))
+    (i ≤ count) × (placeFrom 0 passes (rowsOf aceRowSize count aces) ≡ placeFrom i passes (drop i (rowsOf aceRowSize count aces)))
 
 abbrev μ-loop : tie.MeasureT-loop
 μ-loop aces count cred connection i₀ i = count - i
 
 -- what is said of row i
 told : (c : tie.After-lets-alter Inv-loop μ-loop) → let l = c .before .before .before in let a = l .before .before .before .args in
-    c .lets-alter .result ≡ letsAlter (now (a .cred)) (a .connection) (take 36 (drop (l .loop .i * 36) (now (a .aces))))
+    c .lets-alter .result ≡ letsAlter (now (a .cred)) (a .connection) (take aceRowSize (drop (l .loop .i * aceRowSize) (now (a .aces))))
 told c =
     let a = c .before .before .before .before .before .before .args in
     c .lets-alter .ensures ∙ ap (letsAlter (now (a .cred)) (a .connection)) (c .before .part .ensures)
@@ -37,7 +38,7 @@ returns-2 : tie.Need-returns-2 Inv-loop μ-loop
 unfolding placeFrom
 returns-2 c =
     let a = c .before .before .before .before .args in
-    let few : length (rowsOf 36 (a .count) (now (a .aces))) ≤ c .before .loop .i = rw length-rowsOf (c .loop-test .left) in
+    let few : length (rowsOf aceRowSize (a .count) (now (a .aces))) ≤ c .before .loop .i = rw length-rowsOf (c .loop-test .left) in
     sym (c .before .loop .inv .1 ∙ rw (drop-of-length-le _ few))
 
 pub altering-row-spec : {M : Type 1} → Rattle.isolation.proofs.altering_row.Statement.statement M

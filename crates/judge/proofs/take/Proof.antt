@@ -18,8 +18,8 @@ start c = c .before .before .before .before .before .before .before
 abbrev lists : tie.Start → Defaults
 lists s = defaults (now (s .args .default-creds)) (now (s .args .default-aces))
 
-abbrev room : tie.Start → ℕ
-room s = length (now (s .args .reply))
+abbrev capacity : tie.Start → ℕ
+capacity s = length (now (s .args .reply))
 
 -- back from the record to the checks that passed, from the decision to the record, and from the seat that was left to the decision
 abbrev found : tie.After-due-record → tie.After-enum-told
@@ -42,7 +42,7 @@ can-take : (c : tie.After-enum-told) → (soundTerminal (terminal-of c) ≡ true
 can-take c =
     let call = c .before .before in
     let s = start call in
-    ready (lists s) (terminal-of c .tables) (now (s .args .queue)) (s .args .clock) (room s) _ (call .check-take .ensures) (c .enum-told .given .1)
+    ready (lists s) (terminal-of c .tables) (now (s .args .queue)) (s .args .clock) (capacity s) _ (call .check-take .ensures) (c .enum-told .given .1)
 
 is-sound : (c : tie.After-enum-told) → sound (terminal-of c .tables) ≡ true
 is-sound c = terminal-parts (terminal-of c) (can-take c .0) .tables
@@ -55,7 +55,7 @@ request c =
     let call = told .before .before in
     let s = start call in
     let x = terminal-of told in
-    handed (lists s) (x .tables) (x .queue) (s .args .clock) (room s) _ (call .check-take .ensures)
+    handed (lists s) (x .tables) (x .queue) (s .args .clock) (capacity s) _ (call .check-take .ensures)
     (told .enum-told .given .1) _ (due .due-record .ensures) _ (part-of c .part .ensures)
 
 leaves : (c : tie.After-decide) → let due = due-of c in IsQueue (terminal-of (found due) .queue) × (length (due .due-record .result .seat) ≡ 2)
@@ -92,7 +92,7 @@ returns c =
     let call = told .before .before in
     let s = start call in
     nothing-taken (lists s) (s .args .h) (now (s .args .creds)) (now (s .args .aces)) (now (s .args .queue))
-    (s .args .clock) (room s) _ (call .check-take .ensures) _ (told .enum-told2 .given .1) _ (c .refused .ensures) _ refl _
+    (s .args .clock) (capacity s) _ (call .check-take .ensures) _ (told .enum-told2 .given .1) _ (c .refused .ensures) _ refl _
 
 returns-2 : tie.Need-returns-2
 returns-2 c =
@@ -106,7 +106,7 @@ returns-2 c =
     let x = terminal-of told in
     let q = request made in
     let r = no .enum-told4 .given .1 in
-    one-taken (lists s) (x .tables) (x .queue) (s .args .clock) (room s) _ (call .check-take .ensures)
+    one-taken (lists s) (x .tables) (x .queue) (s .args .clock) (capacity s) _ (call .check-take .ensures)
     (told .enum-told .given .1) _ (due .due-record .ensures) _ (part-of made .part .ensures) _ _ _ _
     (turned-said (lists s) (s .args .h) (now (s .args .creds)) (now (s .args .aces))
     q (is-sound told) _ (made .decide .ensures) _ r _ (c .before .refused2 .ensures))
@@ -137,7 +137,7 @@ returns-3 c =
     let call = told .before .before in
     let s = start call in
     let x = terminal-of told in
-    one-taken (lists s) (x .tables) (x .queue) (s .args .clock) (room s) _ (call .check-take .ensures)
+    one-taken (lists s) (x .tables) (x .queue) (s .args .clock) (capacity s) _ (call .check-take .ensures)
     (told .enum-told .given .1) _ (due .due-record .ensures) _ (part-of made .part .ensures) _ _ _ _
     (done .execute-queued .ensures .0 .says) (done .execute-queued .ensures .0 .fills)
     (done .execute-queued .ensures .1

@@ -1,15 +1,15 @@
 -- `count_made`: what is counted and what the rows left become are what the file becomes. The measure is the number of rows left.
 -- Assumes nothing.
 use Rattle.rows.proofs.Prelude.{_≡_, ap, _∙_, _+_, _*_, _/_, _≤_, arith, length, needs}
-use Rattle.rows.proofs.Laws.{a-row, next-room}
+use Rattle.rows.proofs.Laws.{a-row, next-fits}
 use Rattle.rules_legacy.specs.OldList.{oldRows}
 use Rattle.rules_legacy.specs.Conversion.{entriesOf, rowsMade}
 use Rattle.rules_legacy.proofs.Stored.{rows-count}
-use Rattle.list_convert.proofs.Files.{many, many-more, many-end, twice-at-most}
+use Rattle.list_convert.proofs.Files.{count, many-more, many-end, twice-at-most}
 use Rattle.list_convert.proofs.count_made.Tie as tie
 
 abbrev Inv-loop : tie.InvT-loop
-Inv-loop file total₀ rest₀ left₀ total rest left = (left * 25 ≤ length rest) × (total + many left rest ≡ many (length file / 25) file)
+Inv-loop file total₀ rest₀ left₀ total rest left = (left * 25 ≤ length rest) × (total + count left rest ≡ count (length file / 25) file)
 
 abbrev μ-loop : tie.MeasureT-loop
 μ-loop file total₀ rest₀ left₀ total rest left = left
@@ -32,7 +32,7 @@ loop-again c =
     let turn = made .before .before in
     let l = turn .before .loop in
     let e = made .made-count .ensures ∙ ap (λ r. length (entriesOf r)) (made .before .part .ensures) in (
-      next-room 25 (l .left) (l .rest .now) (turn .loop-test .taken) (l .inv .0),
+      next-fits 25 (l .left) (l .rest .now) (turn .loop-test .taken) (l .inv .0),
       omega (arith, e, l .inv .1, many-more (l .left) (l .rest .now) (turn .loop-test .taken)),
     )
 

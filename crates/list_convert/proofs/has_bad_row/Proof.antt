@@ -1,7 +1,7 @@
 -- `has_bad_row`: whether some row is bad is whether some row of the rest is. The measure is the number of rows left.
 -- Assumes nothing.
 use Rattle.rows.proofs.Prelude.{refl, sym, ap, _∙_, _*_, _/_, _≤_, arith, length, needs}
-use Rattle.rows.proofs.Laws.{a-row, next-room}
+use Rattle.rows.proofs.Laws.{a-row, next-fits}
 use Rattle.rules_legacy.specs.OldList.{oldRows, badRow}
 use Rattle.list_convert.proofs.Files.{SomeInv, some-found, some-turn, some-end}
 use Rattle.list_convert.proofs.has_bad_row.Tie as tie
@@ -31,7 +31,7 @@ loop-again c =
     let turn = told .before .before in
     let l = turn .before .loop in
     let e = told .is-bad .ensures ∙ ap badRow (told .before .part .ensures) in (
-      next-room 25 (l .left) (l .rest .now) (turn .loop-test .taken) (l .inv .0),
+      next-fits 25 (l .left) (l .rest .now) (turn .loop-test .taken) (l .inv .0),
       some-turn _ _ _ _ _ _ (l .inv .1) (turn .loop-test .taken) (sym e ∙ test .if1 .left),
     )
 

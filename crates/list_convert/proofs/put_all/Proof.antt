@@ -3,16 +3,16 @@
 use Rattle.rows.proofs.Prelude.{ap, _∙_, _+_, _*_, _≤_, arith, length, now, needs}
 use Rattle.text.proofs.Buffers.{Writing, writing-start, writing-step, writing-end, writing-length}
 use Rattle.rows.specs.Rows.{joined}
-use Rattle.rows.proofs.Laws.{a-row, next-room}
+use Rattle.rows.proofs.Laws.{a-row, next-fits}
 use Rattle.rules_legacy.specs.OldList.{oldRows}
 use Rattle.rules_legacy.specs.Conversion.{entriesOf, rowsMade}
 use Rattle.rules_legacy.proofs.Stored.{rows-count}
-use Rattle.list_convert.proofs.Files.{many, many-more, two-at-most, bytesFrom, bytes-more, bytes-end}
+use Rattle.list_convert.proofs.Files.{count, many-more, two-at-most, bytesFrom, bytes-more, bytes-end}
 use Rattle.list_convert.proofs.put_all.Tie as tie
 
 abbrev Inv-loop : tie.InvT-loop
 Inv-loop out₀ file p₀ number₀ rest₀ left₀ out p number rest left =
-    (left * 25 ≤ length rest) × ((number + many left rest ≤ 33) × Writing out₀ 0 (joined (rowsMade file)) (bytesFrom number left rest) out p)
+    (left * 25 ≤ length rest) × ((number + count left rest ≤ 33) × Writing out₀ 0 (joined (rowsMade file)) (bytesFrom number left rest) out p)
 
 abbrev μ-loop : tie.MeasureT-loop
 μ-loop out₀ file p₀ number₀ rest₀ left₀ out p number rest left = left
@@ -36,7 +36,7 @@ loop-again c =
     let l = turn .before .loop in
     let e = row .part .ensures in
     let m = made .made-count .ensures ∙ ap (λ r. length (entriesOf r)) e in (
-      next-room 25 (l .left) (l .rest .now) (turn .loop-test .taken) (l .inv .0),
+      next-fits 25 (l .left) (l .rest .now) (turn .loop-test .taken) (l .inv .0),
       (
         omega (arith, m, l .inv .1 .0, many-more (l .left) (l .rest .now) (turn .loop-test .taken)),
         rw m (writing-step _ _ (l .inv .1 .1) (bytes-more (l .number) (l .left) (l .rest .now) (turn .loop-test .taken)) (rw e at (put .put-made .ensures))),

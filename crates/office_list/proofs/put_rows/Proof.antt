@@ -3,19 +3,20 @@ use Rattle.rows.proofs.Prelude.{true, _*_, _≤_, arith, length, length-drop, n
 use Rattle.text.proofs.Buffers.{Writing, writing-start, writing-step, writing-end, writing-length}
 use Rattle.rows.proofs.Laws.{a-row, take-rest}
 use Rattle.rules_office.specs.Office.{rowsText}
+use Rattle.rules.specs.Sizes.{aceRowSize}
 use Rattle.office_list.proofs.Ends.{entries, entries-take, entries-end}
 use Rattle.office_list.proofs.put_rows.Tie as tie
 
 abbrev Inv-loop : tie.InvT-loop
 Inv-loop out₀ at rows count p₀ first₀ rest₀ left₀ out p first rest left =
-    (left * 36 ≤ length rest) × Writing out₀ at (entries true count rows) (entries first left rest) out p
+    (left * aceRowSize ≤ length rest) × Writing out₀ at (entries true count rows) (entries first left rest) out p
 
 abbrev μ-loop : tie.MeasureT-loop
 μ-loop out₀ at rows count p₀ first₀ rest₀ left₀ out p first rest left = left
 
 -- a turn has a row
-row-here : (c : tie.In-loop Inv-loop μ-loop) → 36 ≤ length (c .before .loop .rest .now)
-row-here c = a-row 36 _ (c .before .loop .rest .now) (c .loop-test .taken) (c .before .loop .inv .0)
+row-here : (c : tie.In-loop Inv-loop μ-loop) → aceRowSize ≤ length (c .before .loop .rest .now)
+row-here c = a-row aceRowSize _ (c .before .loop .rest .now) (c .loop-test .taken) (c .before .loop .inv .0)
 
 loop-again : tie.Need-loop-again Inv-loop μ-loop
 loop-again c =

@@ -3,23 +3,24 @@ use Rattle.rows.proofs.Prelude.{refl, sym, _≤_, length, length-take-le, needs
 use Rattle.rows.proofs.Laws.{a-row}
 use Rattle.rows.proofs.Union.{UnionInv, union-turn, union-end}
 use Rattle.rules.specs.Permission.{grants}
+use Rattle.rules.specs.Sizes.{aceRowSize}
 use Rattle.permission.proofs.rows_grant.Tie as tie
 
 abbrev Inv-loop : tie.InvT-loop
 Inv-loop clock aces count cred connection e total₀ rest₀ left₀ total rest left =
-    UnionInv (grants clock cred connection e) 36 count aces rest left total
+    UnionInv (grants clock cred connection e) aceRowSize count aces rest left total
 
 abbrev μ-loop : tie.MeasureT-loop
 μ-loop clock aces count cred connection e total₀ rest₀ left₀ total rest left = left
 
 -- a turn has a row
-row-here : (c : tie.In-loop Inv-loop μ-loop) → 36 ≤ length (c .before .loop .rest .now)
-row-here c = a-row 36 _ (c .before .loop .rest .now) (c .loop-test .taken) (c .before .loop .inv .room)
+row-here : (c : tie.In-loop Inv-loop μ-loop) → aceRowSize ≤ length (c .before .loop .rest .now)
+row-here c = a-row aceRowSize _ (c .before .loop .rest .now) (c .loop-test .taken) (c .before .loop .inv .fits)
 
 pub rows-grant-spec : {M : Type 1} → Rattle.permission.proofs.rows_grant.Statement.statement M
 rows-grant-spec = tie.close (tie.spec
-    Inv-loop μ-loop (λ c. record { room = c .before .before .pre; union = refl })
-    (λ c. sym (length-take-le 36 (c .before .before .loop .rest .now) (row-here (c .before))))
+    Inv-loop μ-loop (λ c. record { fits = c .before .before .pre; union = refl })
+    (λ c. sym (length-take-le aceRowSize (c .before .before .loop .rest .now) (row-here (c .before))))
     (λ c κs. search needs) (λ c. row-here (c .before .before))
     (λ c. row-here (c .before .before))
     (λ c. search needs) (λ c. search needs) (λ c. search needs)

@@ -6,32 +6,33 @@ use Rattle.rows.proofs.Laws.{a-row}
 use Rattle.rows.proofs.Union.{UnionInv, union-turn, union-end}
 use Rattle.rules.specs.Directory.{resourceOf}
 use Rattle.rules.specs.Permission.{grants}
+use Rattle.rules.specs.Sizes.{aceRowSize}
 use Rattle.permission_row.specs.ByLink.{byLink, ofLink}
 use Rattle.permission.proofs.rows_grant_links.Tie as tie
 
 -- what each link was given so far
 module _ (gives : ℕ → List ℕ → ℕ) (count : ℕ) (rows : List ℕ) where
   pub record LinksInv (rest : List ℕ) (left : ℕ) (total : List ℕ) : Type 0 where
-    pub room : left * 36 ≤ length rest
+    pub fits : left * aceRowSize ≤ length rest
     pub sofar : ℕ → ℕ
     pub total-is : total ≡ byLink sofar
-    pub each : (n : ℕ) → UnionInv (gives n) 36 count rows rest left (sofar n)
+    pub each : (n : ℕ) → UnionInv (gives n) aceRowSize count rows rest left (sofar n)
 
   module _ (rest : List ℕ) (left : ℕ) (total : List ℕ) (inv : LinksInv rest left total) where
-    pub turn : 0 < left → (next : List ℕ) → next ≡ byLink (λ n. bitOr (ofLink total n) (gives n (take 36 rest)))
-        → LinksInv (take (length rest - 36) (drop 36 rest)) (left - 1) next
+    pub turn : 0 < left → (next : List ℕ) → next ≡ byLink (λ n. bitOr (ofLink total n) (gives n (take aceRowSize rest)))
+        → LinksInv (take (length rest - aceRowSize) (drop aceRowSize rest)) (left - 1) next
     unfolding byLink
     turn more next e =
-        let after : (n : ℕ) → _ = λ n. union-turn (gives n) 36 count rows rest left _ (inv .each n) more (gives n (take 36 rest)) refl in
+        let after : (n : ℕ) → _ = λ n. union-turn (gives n) aceRowSize count rows rest left _ (inv .each n) more (gives n (take aceRowSize rest)) refl in
         record {
-          room = after 0 .room;
-          sofar = λ n. bitOr (inv .sofar n) (gives n (take 36 rest));
-          total-is = e ∙ ap (λ (l : List ℕ). byLink (λ n. bitOr (ofLink l n) (gives n (take 36 rest)))) (inv .total-is);
+          fits = after 0 .fits;
+          sofar = λ n. bitOr (inv .sofar n) (gives n (take aceRowSize rest));
+          total-is = e ∙ ap (λ (l : List ℕ). byLink (λ n. bitOr (ofLink l n) (gives n (take aceRowSize rest)))) (inv .total-is);
           each = after;
         }
 
-    pub finish : left ≤ 0 → total ≡ byLink (λ n. unionOf (gives n) (rowsOf 36 count rows))
-    finish none = inv .total-is ∙ ap byLink (fun-ext (λ n. union-end (gives n) 36 count rows rest left _ (inv .each n) none))
+    pub finish : left ≤ 0 → total ≡ byLink (λ n. unionOf (gives n) (rowsOf aceRowSize count rows))
+    finish none = inv .total-is ∙ ap byLink (fun-ext (λ n. union-end (gives n) aceRowSize count rows rest left _ (inv .each n) none))
 
 abbrev Inv-loop : tie.InvT-loop
 Inv-loop clock aces count cred connection total₀ rest₀ remaining₀ total rest remaining =
@@ -41,15 +42,15 @@ abbrev μ-loop : tie.MeasureT-loop
 μ-loop clock aces count cred connection total₀ rest₀ remaining₀ total rest remaining = remaining
 
 -- a turn has a row
-row-here : (c : tie.In-loop Inv-loop μ-loop) → 36 ≤ length (c .before .loop .rest .now)
-row-here c = a-row 36 _ (c .before .loop .rest .now) (c .loop-test .taken) (c .before .loop .inv .room)
+row-here : (c : tie.In-loop Inv-loop μ-loop) → aceRowSize ≤ length (c .before .loop .rest .now)
+row-here c = a-row aceRowSize _ (c .before .loop .rest .now) (c .loop-test .taken) (c .before .loop .inv .fits)
 
 pub rows-grant-links-spec : {M : Type 1} → Rattle.permission.proofs.rows_grant_links.Statement.statement M
 unfolding byLink
 rows-grant-links-spec = tie.close (tie.spec
     Inv-loop μ-loop
-    (λ c. record { room = c .before .before .pre; sofar = λ n. 0; total-is = refl; each = λ n. record { room = c .before .before .pre; union = refl } })
-    (λ c. sym (length-take-le 36 (c .before .before .loop .rest .now) (row-here (c .before))))
+    (λ c. record { fits = c .before .before .pre; sofar = λ n. 0; total-is = refl; each = λ n. record { fits = c .before .before .pre; union = refl } })
+    (λ c. sym (length-take-le aceRowSize (c .before .before .loop .rest .now) (row-here (c .before))))
     (λ c κs. search needs) (λ c. row-here (c .before .before))
     (λ c. row-here (c .before .before))
     (λ c. search needs) (λ c. search needs) (λ c. search needs)

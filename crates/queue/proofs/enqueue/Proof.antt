@@ -1,7 +1,7 @@
 -- `enqueue`: the slot stored, and the count.
 use Rattle.rows.proofs.Prelude.{ap, _∙_, arith, length, now, needs}
 use Rattle.rules_waiting.proofs.SlotLaws.{slot-long}
-use Rattle.queue.proofs.Laws.{slots-table, room, rows-few, kept-is}
+use Rattle.queue.proofs.Laws.{slots-table, fits, rows-few, kept-is}
 use Rattle.queue.proofs.enqueue.Tie as tie
 
 store-requires : tie.Need-store-requires
@@ -9,7 +9,7 @@ store-requires c κs =
     let s = c .before .before .before .before .before .before in
     let made = c .before .before .slot-of .ensures in (
       slots-table (now (s .args .queue)) (s .pre .0),
-      (ap length made ∙ slot-long _ (s .pre .3), room (now (s .args .queue)) (now (s .args .«record»)) _ (s .pre .0) (s .pre .1) made),
+      (ap length made ∙ slot-long _ (s .pre .3), fits (now (s .args .queue)) (now (s .args .«record»)) _ (s .pre .0) (s .pre .1) made),
     )
 
 cast-queue : tie.Need-cast-queue

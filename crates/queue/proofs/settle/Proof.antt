@@ -1,7 +1,7 @@
 -- `settle`: the slots, then the head.
 use Rattle.rows.proofs.Prelude.{ap, _∙_, cond, List, arith, getD, now, needs}
 use Rattle.rows.specs.Rows.{Row, rowsOf, without}
-use Rattle.rules_waiting.specs.Slots.{anew, roundOf, queueOf}
+use Rattle.rules_waiting.specs.Slots.{anew, roundOf, queueOf, slotSize}
 use Rattle.rules_waiting.specs.Round.{seatsIn, orphaned, heldRound}
 use Rattle.queue.proofs.Laws.{slotsOf, slots-table, slots-rows, between-long, changed, few-left}
 use Rattle.queue.proofs.settle.Tie as tie
@@ -24,7 +24,7 @@ returns c =
     let m = now (s .args .queue) in
     let after = seatsIn (s .args .count) (now (s .args .creds)) in
     let k = heldRound after (cond (s .args .was-held) (roundOf m) anew) in
-    changed m (s .pre) k (without (orphaned after) (rowsOf 260 (getD m 0 0) (slotsOf m))) _ _ _ _
+    changed m (s .pre) k (without (orphaned after) (rowsOf slotSize (getD m 0 0) (slotsOf m))) _ _ _ _
     (call .drop-orphans .ensures .0) (call .drop-orphans .ensures .1) (turn .round-after .ensures) (head .put-head .ensures)
     ∙ ap (λ (ws : List Row). queueOf k (without (orphaned after) ws)) (slots-rows m (s .pre))
 

@@ -4,16 +4,17 @@ use Rattle.rules.specs.declared.Tables.{Tables}
 use Rattle.rules.specs.Tables.{tablesOf}
 use Rattle.queue_turn.proofs.DueLaws.{due-small, slot-whole-long, due-record-is}
 use Rattle.queue_turn.proofs.due_record.Tie as tie
+use Rattle.rules_waiting.specs.Slots.{slotSize}
 
 -- the tables, lent in parts
 abbrev tables : tie.Start → Tables
 tables s = tablesOf (s .args .h) (now (s .args .creds)) (now (s .args .aces))
 
 slice-is : (c : tie.After-part)
-    → let d = c .before .before in now (c .part .result) ≡ take 260 (drop (d .due-slot .result * 260) (drop 4 (now (d .before .before .args .queue))))
-slice-is c = let d = c .before .before in c .part .ensures ∙ ap (λ (b : List ℕ). take 260 (drop (d .due-slot .result * 260) b)) (c .before .after .ensures)
+    → let d = c .before .before in now (c .part .result) ≡ take slotSize (drop (d .due-slot .result * slotSize) (drop 4 (now (d .before .before .args .queue))))
+slice-is c = let d = c .before .before in c .part .ensures ∙ ap (λ (b : List ℕ). take slotSize (drop (d .due-slot .result * slotSize) b)) (c .before .after .ensures)
 
-slice-long : (c : tie.After-part) → length (now (c .part .result)) ≡ 260
+slice-long : (c : tie.After-part) → length (now (c .part .result)) ≡ slotSize
 slice-long c =
     let d = c .before .before in
     let s = d .before .before in

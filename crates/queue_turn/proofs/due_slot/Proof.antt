@@ -2,7 +2,8 @@
 use Rattle.rows.proofs.Prelude.{_≡_, arith, length, now, needs}
 use native.Mathlib.Nat.{min-le-right}
 use Rattle.rules.specs.declared.Tables.{Tables}
-use Rattle.rules.specs.Tables.{tablesOf}
+use Rattle.rules.specs.Tables.{tablesOf, tableSize}
+use Rattle.rules.specs.declared.Table.the-variants.{Creds}
 use Rattle.queue.specs.Queue.{IsQueue}
 use Rattle.queue.proofs.Laws.{slots-table}
 use Rattle.queue.proofs.Queues.{sound-queue}
@@ -20,7 +21,7 @@ next-slot-requires : tie.Need-next-slot-requires
 next-slot-requires c κs =
     let h = c .before .before in
     let s = h .before .before .before in
-    let l : length (now (s .args .creds)) ≡ 936 = search needs in (
+    let l : length (now (s .args .creds)) ≡ tableSize Creds = search needs in (
       omega (arith, h .held .ensures, min-le-right (s .args .h .ncreds) 24),
       omega (arith, queue s .long),
       slots-table (now (s .args .m)) (queue s) .fits,

@@ -31,7 +31,7 @@ loop-again c =
 pub first-waiting-spec : {M : Type 1} → Rattle.queue_turn.proofs.first_waiting.Statement.statement M
 first-waiting-spec = tie.close (tie.spec
     Inv-loop μ-loop
-    (λ c. record { room = c .before .before .pre .0; slot = refl })
+    (λ c. record { fits = c .before .before .pre .0; slot = refl })
     slice-aggregate-find (λ c κs. search needs) (λ c. search needs) returns (λ c. search needs) (λ c. search needs) (λ c. search needs)
     (λ c. search needs) (λ c. search needs) (λ c. search needs) loop-again
     (λ c. none _ _ _ _ (c .before .loop .rest .now) _ (c .before .loop .inv) (c .loop-test .left)))

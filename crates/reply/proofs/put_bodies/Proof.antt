@@ -4,16 +4,17 @@ use Rattle.text.proofs.Buffers.{Writing, writing-start, writing-step, writing-e
 use Rattle.rows.proofs.Laws.{a-row, take-rest}
 use Rattle.reply.proofs.RowBytes.{bodies, bodies-take, bodies-end}
 use Rattle.reply.proofs.put_bodies.Tie as tie
+use Rattle.rules.specs.Sizes.{credRowSize}
 
 abbrev Inv-loop : tie.InvT-loop
-Inv-loop out₀ at creds count p₀ rest₀ left₀ out p rest left = (left * 39 ≤ length rest) × Writing out₀ at (bodies count creds) (bodies left rest) out p
+Inv-loop out₀ at creds count p₀ rest₀ left₀ out p rest left = (left * credRowSize ≤ length rest) × Writing out₀ at (bodies count creds) (bodies left rest) out p
 
 abbrev μ-loop : tie.MeasureT-loop
 μ-loop out₀ at creds count p₀ rest₀ left₀ out p rest left = left
 
 -- a turn has a row
-row-here : (c : tie.In-loop Inv-loop μ-loop) → 39 ≤ length (c .before .loop .rest .now)
-row-here c = a-row 39 _ (c .before .loop .rest .now) (c .loop-test .taken) (c .before .loop .inv .0)
+row-here : (c : tie.In-loop Inv-loop μ-loop) → credRowSize ≤ length (c .before .loop .rest .now)
+row-here c = a-row credRowSize _ (c .before .loop .rest .now) (c .loop-test .taken) (c .before .loop .inv .0)
 
 loop-again : tie.Need-loop-again Inv-loop μ-loop
 loop-again c =

@@ -2,12 +2,14 @@
 use Rattle.rows.proofs.Prelude.{_≡_, arith, length, now, needs, ne-eqb}
 use Rattle.reply.proofs.RowBytes.{row-part, bodies-held}
 use Rattle.rules.specs.Reading.{rowBytes}
+use Rattle.rules.specs.declared.Table.the-variants.{Creds}
+use Rattle.rules.specs.Tables.{tableSize}
 use Rattle.reply.proofs.put_rows.Tie as tie
 
 put-bodies-requires : tie.Need-put-bodies-requires
 put-bodies-requires c κs =
     let held = c .before .before in
-    let l : length (now (held .before .before .before .args .creds)) ≡ 936 = search needs in
+    let l : length (now (held .before .before .before .args .creds)) ≡ tableSize Creds = search needs in
     omega (arith, held .held .ensures)
 
 pub put-rows-spec : {M : Type 1} → Rattle.reply.proofs.put_rows.Statement.statement M

@@ -19,11 +19,11 @@ use Rattle.report.proofs.judge_one.Tie as tie
 abbrev told : Said → Judged
 told s = record { answer = s .answer; permission = s .permission; tables = s .tables }
 
-as-judged : (t : Tables) (h : Head) → h ≡ headOf t → (q : Request) (s : Said) (room queue buffer : List ℕ)
-    → Judges noDefaults (terminal (tablesOf h (t .creds) (t .aces)) emptyQueue) q s room queue buffer → told s ≡ judgedAs t q
-as-judged t h is q s room queue buffer g =
+as-judged : (t : Tables) (h : Head) → h ≡ headOf t → (q : Request) (s : Said) (lent queue buffer : List ℕ)
+    → Judges noDefaults (terminal (tablesOf h (t .creds) (t .aces)) emptyQueue) q s lent queue buffer → told s ≡ judgedAs t q
+as-judged t h is q s lent queue buffer g =
     let a = as-outcome noDefaults (terminal t emptyQueue) q (fresh-whole t) in
-    let whole = subst (λ (k : Head). Judges noDefaults (terminal (tablesOf k (t .creds) (t .aces)) emptyQueue) q s room queue buffer) is g in
+    let whole = subst (λ (k : Head). Judges noDefaults (terminal (tablesOf k (t .creds) (t .aces)) emptyQueue) q s lent queue buffer) is g in
     ap told (whole .says)
     ∙ ap₂ (λ (r : Response) (u : Tables). record { answer = r .answer; permission = r .permission; tables = u }) (a .response) (a .tables)
 

@@ -4,10 +4,11 @@ use Rattle.rows.proofs.Prelude.{ne-eqb}
 use Rattle.rows.specs.Rows.{withRow}
 use Rattle.rules.specs.Bodies.{everySecond, aceRowOf}
 use Rattle.rules.proofs.TableLaws.{put-whole}
+use Rattle.rules.specs.Sizes.{aceRowSize}
 use Rattle.row_body.proofs.ace_row.Tie as tie
 
 -- the body over zeros, and the latest second over the last four
-opened : (b x y : List ℕ) → length b ≡ 28 → x ≡ withRow 28 0 b (replicate 36 0) → y ≡ withRow 4 8 (replicate 4 255) x → y ≡ b ++ everySecond
+opened : (b x y : List ℕ) → length b ≡ 28 → x ≡ withRow 28 0 b (replicate aceRowSize 0) → y ≡ withRow 4 8 (replicate 4 255) x → y ≡ b ++ everySecond
 unfolding withRow everySecond
 opened b x y l e f =
     let front = b ++ (0 ∷ 0 ∷ 0 ∷ 0 ∷ []) in
@@ -30,5 +31,5 @@ unfolding aceRowOf
 ace-row-spec = tie.close (tie.spec
     (λ c. search needs) (λ c κs. search needs) (λ c. search needs) (λ c κs. search needs) (λ c. search needs) (λ c. search needs)
     (λ c κs. search needs)
-    (λ c. simp (c .before .before .before .match .keys1) (put-whole 36 _ (replicate 36 0) _ refl (c .before .put-row .ensures))) returns-2
-    (λ c. simp (ne-eqb _ 36 (c .match .rest .0 .1), ne-eqb _ 28 (c .match .rest .1))))
+    (λ c. simp (c .before .before .before .match .keys1) (put-whole aceRowSize _ (replicate aceRowSize 0) _ refl (c .before .put-row .ensures))) returns-2
+    (λ c. simp (ne-eqb _ aceRowSize (c .match .rest .0 .1), ne-eqb _ 28 (c .match .rest .1))))

@@ -5,10 +5,11 @@ use lib.Seq.{set-at}
 use Rattle.rows.specs.Rows.{withRow}
 use Rattle.rules.specs.Bodies.{credRowOf}
 use Rattle.rules.specs.Roles.{unasserted}
+use Rattle.rules.specs.Sizes.{credBodySize, credRowSize}
 use Rattle.row_body.proofs.cred_row.Tie as tie
 
 -- twenty bytes over zeros, and the last byte two places later
-opened : (b p x : List ℕ) → length b ≡ 21 → p ≡ take 20 b → x ≡ withRow 20 0 p (replicate 39 0)
+opened : (b p x : List ℕ) → length b ≡ 21 → p ≡ take 20 b → x ≡ withRow 20 0 p (replicate credRowSize 0)
     → set x 22 (getD b 20 0) ≡ unasserted (take 20 b ++ (0 ∷ 0 ∷ drop 20 b))
 unfolding withRow
 opened b p x l is e =
@@ -39,4 +40,4 @@ cred-row-spec = tie.close (tie.spec
     let b = now (at .before .before .args .b) in
     (ap length (c .part .ensures) ∙ length-take-le 20 b (omega (arith, at .match .keys2)), omega arith))
     (λ c. search needs) (λ c. search needs) (λ c. simp (c .before .before .before .match .keys1) (c .before .put-row .ensures))
-    returns-2 (λ c. simp (ne-eqb _ 23 (c .match .rest .0 .1), ne-eqb _ 21 (c .match .rest .1))))
+    returns-2 (λ c. simp (ne-eqb _ credBodySize (c .match .rest .0 .1), ne-eqb _ 21 (c .match .rest .1))))

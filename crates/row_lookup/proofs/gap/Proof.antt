@@ -14,7 +14,7 @@ use Rattle.row_lookup.proofs.gap.Tie as tie
 before-is : (test : Row → Bool) (ws : List Row) (i : ℕ) → placeFrom 0 test ws ≡ At i → i ≡ rowsBefore test ws
 before-is test ws i p = omega (arith, place-before test 0 i ws p)
 
-gap-is : (test : Row → Bool) (ws : List Row) (i n : ℕ) → placeFrom 0 test ws ≡ At i → n ≡ length ws → record { first = i; many = n - i } ≡ gapOf test ws
+gap-is : (test : Row → Bool) (ws : List Row) (i n : ℕ) → placeFrom 0 test ws ≡ At i → n ≡ length ws → record { first = i; count = n - i } ≡ gapOf test ws
 unfolding gapOf
 gap-is test ws i n p e = rw (some-place 0 test ws ∙ ap isAt p, before-is test ws i p, e)
 

@@ -13,7 +13,7 @@ abbrev μ-loop : tie.MeasureT-loop
 
 module _ (bytes₀ row bytes : List ℕ) (i : ℕ) (inv : Inv-loop bytes₀ row 0 bytes i) where
   turn : length row ≤ length bytes₀ → i < length row → Inv-loop bytes₀ row 0 (set bytes i (getD row i 0)) (i + 1)
-  turn room h = (omega arith, length-set bytes i (getD row i 0) ∙ inv .1, rw (inv .2, copy-suc i row bytes₀ h (omega arith), add-one))
+  turn fits h = (omega arith, length-set bytes i (getD row i 0) ∙ inv .1, rw (inv .2, copy-suc i row bytes₀ h (omega arith), add-one))
 
   end : length row ≤ i → bytes ≡ row ++ drop (length row) bytes₀
   end h = let e : i ≡ length row = omega arith in inv .2 ∙ rw (e, take-length)

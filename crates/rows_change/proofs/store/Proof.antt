@@ -51,7 +51,7 @@ add-result c =
     let at = c .before .before .before .before in
     let s = start (at .before .before) in
     let two : 2 ≤ s .args .stride = s .pre .0 .numbered in
-    let room = end-inside _ _ _ _ (s .pre .0) (missing at) (s .pre .1 .1) in
+    let fits = end-inside _ _ _ _ (s .pre .0) (missing at) (s .pre .1 .1) in
     omega (arith, le-mul-of-pos-right {m = s .args .stride} (s .args .count) (omega arith), s .good .0 .0)
 
 pub store-spec : {M : Type 1} → Rattle.rows_change.proofs.store.Statement.statement M

@@ -49,14 +49,14 @@ fn a_day_by_hand() {
     let outcome = show(&tables, 200, asserted(0x0304, 0x0102, 300));
     assert_eq!((outcome.response.answer, outcome.response.permission), (ROLES_FULL, 0));
     assert_eq!(outcome.tables, tables.bytes());
-    // A second later the first is over: the other moves up.
+    // A second later the first has expired: the other moves up.
     let outcome = show(&tables, 201, asserted(0x0304, 0x0102, 300));
     assert_eq!((outcome.response.answer, outcome.response.permission), (PERMITTED, MAY_RETRIEVE | MAY_UPDATE));
     assert_eq!(places(&outcome), "00000007ffffffff 030401020000012c".replace(' ', ""));
 }
 
 #[test]
-fn roles_that_are_over_go_first() {
+fn expired_roles_go_first() {
     let after = |shown: &[Asserted], clock, next| {
         let outcome = show(&with_foreman(shown), clock, next);
         assert_eq!(outcome.response.answer, PERMITTED);
@@ -77,7 +77,7 @@ fn roles_that_are_over_go_first() {
     assert_eq!(after(&[seven, eight], 20, later), [later, eight]);
     assert_eq!(after(&[eight, seven], 20, later), [eight, later]);
     assert_eq!(after(&[seven, eight], 21, later), [eight, later]);
-    // An earlier last second counts too, also one that is over.
+    // An earlier last second counts too, also one that is past.
     let earlier = asserted(1, 7, 3);
     assert_eq!(after(&[seven, eight], 10, earlier), [earlier, eight]);
     assert_eq!(after(&[], 10, earlier), [earlier]);

@@ -2,7 +2,7 @@
 use Rattle.rows.proofs.Prelude.{_*_, _/_, _≤_, arith, length, now, needs}
 use native.Mathlib.Nat.{div-add-mod'}
 use Rattle.text.proofs.Buffers.{Writing, writing-start, writing-step, writing-end, writing-length}
-use Rattle.rows.proofs.Laws.{a-row, next-room}
+use Rattle.rows.proofs.Laws.{a-row, next-fits}
 use Rattle.rules.proofs.BodyLaws.{positive}
 use Rattle.effect_fresh.proofs.DefaultLaws.{rowsFrom, from-take, from-end}
 use Rattle.effect_fresh.proofs.defaults.put_listed.Tie as tie
@@ -30,7 +30,7 @@ loop-again c =
     let turn = row .before .before in
     let l = turn .before .loop in
     let long = turn .before .before .longest-of .result in (
-      next-room long (l .left) (l .rest .now) (turn .loop-test .taken) (l .inv .0),
+      next-fits long (l .left) (l .rest .now) (turn .loop-test .taken) (l .inv .0),
       writing-step _ _ (l .inv .1)
           (from-take (turn .before .before .before .before .before .args .table) long (l .left) (l .rest .now) (turn .loop-test .taken))
           (rw (row .part .ensures) at (put .put-listed-row .ensures)),

@@ -1,6 +1,0 @@
--- `holds_other`: the two tests.
-use borrow.Author.Needs.{needs}
-use Rattle.roles.proofs.holds_other.Tie as tie
-
-pub holds-other-spec : {M : Type 1} → Rattle.roles.proofs.holds_other.Statement.statement M
-holds-other-spec = tie.close (tie.spec (λ c κs. search needs) (λ c κs. search needs) (λ c. rw (c .same-role .ensures, c .before .in-force .ensures)))
