@@ -68,6 +68,11 @@ sums: lib ## writes the kit's identity and the archive's sum to packaging/KIT
 targets: target/staticlib/libterminal.a ## compiles the library for all processors of docs/TARGETS.md, into target/lib
 	targets/build.sh
 
+# Where both are asked for at once, the archives come first.
+ifneq ($(filter targets,$(MAKECMDGOALS)),)
+install dist: | targets
+endif
+
 # only where it is missing or older than a source
 target/staticlib/libterminal.a: $(SOURCES)
 	rt staticlib terminal
