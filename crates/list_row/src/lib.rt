@@ -5,7 +5,7 @@ use fields::after;
 use row_format::is_nil;
 use rows::part;
 use rules::ACE_ROW;
-use text::put;
+use text::direct::put;
 ghost use mathlib.Core.Path.{_≡_};
 ghost use mathlib.Core.List.{_++_};
 ghost use Prim.Native.Nat.{_+_, _≤_, _<_};

@@ -4,6 +4,7 @@ use fields::ace;
 use fields::be16;
 use office_resources::put_resources;
 use rules::Subject;
+use text::direct;
 use text::put;
 use text::put_byte;
 use text::put_decimal;
@@ -41,9 +42,9 @@ fn put_dash(out: &mut [u8], at: usize, i: usize) -> usize
     ensures { λ r. ⌜ Puts (now (out .entry)) at (dash i) (now (out .exit)) r ⌝ }
 {
     if is_dashed(i) {
-        return put(out, at, b"-");
+        return direct::put(out, at, b"-");
     }
-    put(out, at, b"")
+    direct::put(out, at, b"")
 }
 
 // Byte i of a UUID: a dash before some, and two digits.
@@ -70,9 +71,9 @@ fn put_uuid(out: &mut [u8], at: usize, u: &[u8]) -> usize
 fn put_uuid_subject(out: &mut [u8], at: usize, row: &[u8]) -> usize
     ensures { λ r. ⌜ Puts (now (out .entry)) at (uuidSubject (now (row .entry))) (now (out .exit)) r ⌝ }
 {
-    let p = put(out, at, b"{\"uuid\":\"");
+    let p = direct::put(out, at, b"{\"uuid\":\"");
     let p = put_uuid(out, p, ace::subject(row));
-    put(out, p, b"\"}")
+    direct::put(out, p, b"\"}")
 }
 
 // A key and a number.
@@ -88,7 +89,7 @@ fn put_role_subject(out: &mut [u8], at: usize, row: &[u8]) -> usize
 {
     let p = put_number(out, at, b"{\"authority\":\"", ace::authority(row));
     let p = put_number(out, p, b"\",\"role\":\"", ace::role(row));
-    put(out, p, b"\"}")
+    direct::put(out, p, b"\"}")
 }
 
 fn put_connection_subject(out: &mut [u8], at: usize, row: &[u8]) -> usize
@@ -116,7 +117,7 @@ fn put_subject(out: &mut [u8], at: usize, row: &[u8]) -> usize
 fn put_keyed_subject(out: &mut [u8], at: usize, row: &[u8]) -> usize
     ensures { λ r. ⌜ Puts (now (out .entry)) at (ascii ",\"subject\":" ++ subjectText (now (row .entry))) (now (out .exit)) r ⌝ }
 {
-    let p = put(out, at, b",\"subject\":");
+    let p = direct::put(out, at, b",\"subject\":");
     put_subject(out, p, row)
 }
 
@@ -124,7 +125,7 @@ fn put_keyed_subject(out: &mut [u8], at: usize, row: &[u8]) -> usize
 fn put_keyed_resources(out: &mut [u8], at: usize, row: &[u8]) -> usize
     ensures { λ r. ⌜ Puts (now (out .entry)) at (ascii ",\"resources\":[" ++ resourcesText (now (row .entry))) (now (out .exit)) r ⌝ }
 {
-    let p = put(out, at, b",\"resources\":[");
+    let p = direct::put(out, at, b",\"resources\":[");
     put_resources(out, p, row)
 }
 
@@ -137,5 +138,5 @@ pub fn put_row(out: &mut [u8], at: usize, row: &[u8]) -> usize
     let p = put_keyed_subject(out, p, row);
     let p = put_keyed_resources(out, p, row);
     let p = put_number(out, p, b"],\"permission\":", ace::permission(row));
-    put(out, p, b"}")
+    direct::put(out, p, b"}")
 }

@@ -13,6 +13,7 @@ use rules::ACES;
 use rules::CRED_ROWS;
 use rules::Head;
 use rules_waiting::QUEUE;
+use text::direct;
 use text::put;
 ghost use mathlib.Core.Path.{_≡_};
 ghost use mathlib.Core.Bool.{cond};
@@ -53,7 +54,7 @@ fn put_entry(out: &mut [u8], at: usize, first: bool, row: &[u8]) -> usize
     ensures { λ r. ⌜ Puts (now (out .entry)) at (cond (seasonal (now (row .entry))) [] (comma first ++ rowText (now (row .entry)))) (now (out .exit)) r ⌝ }
 {
     if is_seasonal(row) {
-        return put(out, at, b"");
+        return direct::put(out, at, b"");
     }
     let p = put_comma(out, at, first);
     put_row(out, p, row)

@@ -2,6 +2,7 @@
 // Every public function is total: a byte past the buffer's end is not written, and the position goes on.
 use fields::ace;
 use rules::Resource;
+use text::direct;
 use text::put;
 ghost use mathlib.Core.Bool.{cond};
 ghost use mathlib.Core.List.{[], _++_, map};
@@ -17,9 +18,9 @@ pub fn put_comma(out: &mut [u8], at: usize, first: bool) -> usize
     ensures { λ r. ⌜ Puts (now (out .entry)) at (comma first) (now (out .exit)) r ⌝ }
 {
     if first {
-        return put(out, at, b"");
+        return direct::put(out, at, b"");
     }
-    put(out, at, b",")
+    direct::put(out, at, b",")
 }
 
 // The names of the application resources, which stand in `names` after the five of security.
@@ -27,14 +28,14 @@ fn put_application(out: &mut [u8], at: usize, n: u16) -> usize
     ensures { λ r. ⌜ Puts (now (out .entry)) at (ascii (lookup n (drop 5 names) "")) (now (out .exit)) r ⌝ }
 {
     match n {
-        Resource::WEIGHT => put(out, at, b"/weight"),
-        Resource::TARE => put(out, at, b"/tare"),
-        Resource::ZERO => put(out, at, b"/zero"),
-        Resource::TICKET => put(out, at, b"/ticket"),
-        Resource::LAMP => put(out, at, b"/lamp"),
-        Resource::CALIB => put(out, at, b"/calib"),
-        Resource::DISPLAY => put(out, at, b"/display"),
-        Resource::YARD => put(out, at, b"/yard"),
+        Resource::WEIGHT => direct::put(out, at, b"/weight"),
+        Resource::TARE => direct::put(out, at, b"/tare"),
+        Resource::ZERO => direct::put(out, at, b"/zero"),
+        Resource::TICKET => direct::put(out, at, b"/ticket"),
+        Resource::LAMP => direct::put(out, at, b"/lamp"),
+        Resource::CALIB => direct::put(out, at, b"/calib"),
+        Resource::DISPLAY => direct::put(out, at, b"/display"),
+        Resource::YARD => direct::put(out, at, b"/yard"),
         _ => put(out, at, b""),
     }
 }
@@ -59,12 +60,12 @@ fn put_item(out: &mut [u8], at: usize, first: bool, named: bool, n: u16) -> usiz
     ensures { λ r. ⌜ Puts (now (out .entry)) at (cond named (comma first ++ braced (href (lookup n names ""))) []) (now (out .exit)) r ⌝ }
 {
     if !named {
-        return put(out, at, b"");
+        return direct::put(out, at, b"");
     }
     let p = put_comma(out, at, first);
-    let q = put(out, p, b"{\"href\":\"");
+    let q = direct::put(out, p, b"{\"href\":\"");
     let r = put_name(out, q, n);
-    put(out, r, b"\"}")
+    direct::put(out, r, b"\"}")
 }
 
 // A wildcard's text, if the row names it.
@@ -72,7 +73,7 @@ fn put_wildcard(out: &mut [u8], at: usize, first: bool, named: bool, text: &[u8]
     ensures { λ r. ⌜ Puts (now (out .entry)) at (cond named (comma first ++ now (text .entry)) []) (now (out .exit)) r ⌝ }
 {
     if !named {
-        return put(out, at, b"");
+        return direct::put(out, at, b"");
     }
     let p = put_comma(out, at, first);
     put(out, p, text)
