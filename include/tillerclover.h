@@ -8,7 +8,7 @@
  * What a function returns, writes into a buffer and leaves in the terminal depends on its arguments alone. The functions keep
  * no state between calls, allocate nothing, do no input or output, never fail and always return. So any number of threads may
  * call them at once, each with a terminal and a buffer of its own. A caller that shares a terminal between threads holds a
- * lock during each call. A thread needs 16 KiB of free stack for a call; docs/BENCHMARKS.md has the measured depth.
+ * lock during each call. A thread needs 8 KiB of free stack for a call; docs/BENCHMARKS.md has the measured depth.
  *
  * What may overlap. Bytes that a call only reads (record, default rows, list, file) may overlap each other. Bytes that it
  * writes (the terminal, the reply, the text, the rows) must overlap nothing else that the call is given, and nothing else may

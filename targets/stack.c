@@ -8,7 +8,7 @@
 
 enum {
     /* what the header says that a call may need, twice as much that is painted, and what painting needs itself */
-    PROMISED = 16 * 1024,
+    PROMISED = 8 * 1024,
     PAINTED = 2 * PROMISED,
     OWN = 64,
     PAINT = 0xA7,

@@ -22,11 +22,12 @@ ghost use Rattle.rules.specs.Checks.{refuseIf, verdict};
 ghost use Rattle.rules.specs.Groups.{senderChecks};
 ghost use Rattle.rules.specs.Callers.{placeFor, callerOf, lacksRow, callerChecks};
 ghost use Rattle.rules.specs.Words.{was};
+ghost use Rattle.rules.specs.Sizes.{credRowSize};
 
 // The place of the first of the credential rows that has a number. Its low byte is compared first: numbers differ there.
 fn find_number(rows: &[u8], count: usize, n: u16) -> Found
-    requires { ⌜ count * 39 ≤ length (now rows) ⌝ }
-    ensures { λ r. ⌜ r ≡ placeOf (numbered n) (rowsOf 39 count (was rows)) ⌝ }
+    requires { ⌜ count * credRowSize ≤ length (now rows) ⌝ }
+    ensures { λ r. ⌜ r ≡ placeOf (numbered n) (rowsOf credRowSize count (was rows)) ⌝ }
 {
     let high = (n / 256) as u8;
     let low = (n % 256) as u8;

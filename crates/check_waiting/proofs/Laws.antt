@@ -24,6 +24,7 @@ use Rattle.rules.proofs.Answers.{passed, long-enough}
 use Rattle.rules_waiting.specs.Slots.{seatOf, padded, slotOf, recordOf, roundBytes, roundOf, waiting, queueSize, slotSize}
 use Rattle.rules_waiting.specs.Terminal.{slotSound, queueSound}
 use Rattle.rules_waiting.proofs.SlotLaws.{is-pass}
+use Rattle.rules.specs.Sizes.{credRowSize}
 
 -- the round's bytes: zeros, or 1 and a seat
 pub round-is : (m : List ℕ) → 4 ≤ length m
@@ -174,14 +175,14 @@ some-at passes s n i b h e =
 
 -- the key is looked for at a place, and then by a search
 module _ (n count : ℕ) (b key : List ℕ) (few : count ≡ min n 24) where
-  pub near : (i : ℕ) (h : Bool) → i < count → h ≡ hasKey 0 key (take 39 (drop (i * 39) b)) → h ≡ true → true ≡ some (hasKey 0 key) (rowsIn Creds n b)
+  pub near : (i : ℕ) (h : Bool) → i < count → h ≡ hasKey 0 key (take credRowSize (drop (i * credRowSize) b)) → h ≡ true → true ≡ some (hasKey 0 key) (rowsIn Creds n b)
   unfolding rowsIn
-  near i h l e t = sym (ap (λ (k : ℕ). some (hasKey 0 key) (rowsOf 39 k b)) (sym few) ∙ some-at (hasKey 0 key) 39 count i b l (sym e ∙ t))
+  near i h l e t = sym (ap (λ (k : ℕ). some (hasKey 0 key) (rowsOf credRowSize k b)) (sym few) ∙ some-at (hasKey 0 key) credRowSize count i b l (sym e ∙ t))
 
-  pub searched : (p : Found) → p ≡ placeFrom 0 (hasKey 0 key) (rowsOf 39 count b) → isAt p ≡ some (hasKey 0 key) (rowsIn Creds n b)
+  pub searched : (p : Found) → p ≡ placeFrom 0 (hasKey 0 key) (rowsOf credRowSize count b) → isAt p ≡ some (hasKey 0 key) (rowsIn Creds n b)
   unfolding rowsIn
   searched p e =
-      ap isAt e ∙ sym (some-place 0 (hasKey 0 key) (rowsOf 39 count b)) ∙ ap (λ (k : ℕ). some (hasKey 0 key) (rowsOf 39 k b)) few
+      ap isAt e ∙ sym (some-place 0 (hasKey 0 key) (rowsOf credRowSize count b)) ∙ ap (λ (k : ℕ). some (hasKey 0 key) (rowsOf credRowSize k b)) few
 
 not-not : (b : Bool) → not (not b) ≡ b
 not-not true = refl

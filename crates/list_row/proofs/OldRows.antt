@@ -15,6 +15,7 @@ use Rattle.rules_legacy.proofs.BitParts.{bit-drop}
 use Rattle.rules_legacy.proofs.Made.{made}
 use Rattle.rules_legacy.proofs.SameUnion.{made-uuid, made-connection}
 use Rattle.rules_legacy.proofs.Stored.{set-known}
+use Rattle.rules.specs.Sizes.{aceRowSize}
 
 -- ---- the fields
 
@@ -56,7 +57,7 @@ exact {o} text h p =
 -- the row that is made, where an old row has its 25 bytes and a subject its 16
 pub row-is : {o₁ o₂ o₃ o₄ : List ℕ} {r₁ r₂ r₃ r₄ : ℕ} (i kind : ℕ) (subject row set : List ℕ) (b : ℕ) → kind < 4 → length subject ≡ 16 → length row ≡ 25
     → b ≡ getD (take 25 row) 16 0 → b < 256 → set ≡ oldSet (take 25 row)
-    → Puts (replicate 36 0) 0 (i / 256 ∷ i % 256 ∷ (kind * 64 + b / 8 * 2) ∷ 0 ∷ []) o₁ r₁ → Puts o₁ r₁ set o₂ r₂ → Puts o₂ r₂ (take 16 subject) o₃ r₃
+    → Puts (replicate aceRowSize 0) 0 (i / 256 ∷ i % 256 ∷ (kind * 64 + b / 8 * 2) ∷ 0 ∷ []) o₁ r₁ → Puts o₁ r₁ set o₂ r₂ → Puts o₂ r₂ (take 16 subject) o₃ r₃
     → Puts o₃ r₃ everySecond o₄ r₄
     → o₄ ≡ be16 i ++ entry kind subject row
 row-is i kind subject row set b k l m e n f p q r s =
@@ -74,8 +75,8 @@ written-at [] (suc at) s h = absurd (omega arith)
 written-at (b ∷ o) (suc at) s h = ap (λ (l : List ℕ). b ∷ l) (written-at o at s (omega arith))
 
 -- the part from `at` on is lent, and comes back as y
-pub row-put : (o : List ℕ) (at : ℕ) (text made y : List ℕ) → length o ≤ largest → at + 36 ≤ length o → length text ≡ 36 → made ≡ text
-    → y ≡ withRow 36 0 made (take (length o - at) (drop at o)) → Puts o at text (take at o ++ (y ++ drop (length o - at) (drop at o))) (at + 36)
+pub row-put : (o : List ℕ) (at : ℕ) (text made y : List ℕ) → length o ≤ largest → at + aceRowSize ≤ length o → length text ≡ aceRowSize → made ≡ text
+    → y ≡ withRow aceRowSize 0 made (take (length o - at) (drop at o)) → Puts o at text (take at o ++ (y ++ drop (length o - at) (drop at o))) (at + aceRowSize)
 unfolding withRow
 row-put o at text made y h fits l m e = record {
   next = omega arith;
@@ -94,11 +95,11 @@ two-long i row l e =
     rw (e, append-nil) (omega (arith, length-append (be16 i ++ connectionEntry 1 row) (be16 (i + 1) ++ connectionEntry 0 row)))
 
 -- the position after the first of the two
-pub after-first : {o o₁ : List ℕ} {at r₁ : ℕ} (i connection : ℕ) (row : Row) → length row ≡ 25 → length o ≤ largest → at + 36 ≤ length o
-    → Puts o at (be16 i ++ connectionEntry connection row) o₁ r₁ → r₁ ≡ at + 36
+pub after-first : {o o₁ : List ℕ} {at r₁ : ℕ} (i connection : ℕ) (row : Row) → length row ≡ 25 → length o ≤ largest → at + aceRowSize ≤ length o
+    → Puts o at (be16 i ++ connectionEntry connection row) o₁ r₁ → r₁ ≡ at + aceRowSize
 after-first i connection row l h fits p = omega (arith, p .next, made-connection i row l connection .long)
 
-pub one-long : (i : ℕ) (row : Row) → length row ≡ 25 → isAnybody row ≡ false → length (joined (numberedFrom i (entriesOf row))) ≡ 36
+pub one-long : (i : ℕ) (row : Row) → length row ≡ 25 → isAnybody row ≡ false → length (joined (numberedFrom i (entriesOf row))) ≡ aceRowSize
 unfolding entriesOf numberedFrom joined
 one-long i row l e = rw (e, append-nil) (made-uuid i row l .long)
 

@@ -15,6 +15,7 @@ ghost use Rattle.rows.specs.Rows.{joined};
 ghost use Rattle.rules.specs.Bits.{be16};
 ghost use Rattle.rules_legacy.specs.OldList.{isAnybody, badRow};
 ghost use Rattle.rules_legacy.specs.Conversion.{entry, connectionEntry, entriesOf, numberedFrom};
+ghost use Rattle.rules.specs.Sizes.{aceRowSize};
 
 // Bytes of an old row.
 pub const OLD_ROW: usize = 25;
@@ -91,7 +92,7 @@ fn row_made(number: u16, kind: u8, subject: &[u8], row: &[u8]) -> [u8; ACE_ROW]
 
 // That row in the buffer, which holds it, in one copy.
 fn put_row(out: &mut [u8], at: usize, number: u16, kind: u8, subject: &[u8], row: &[u8]) -> usize
-    requires { ⌜ (kind < 4) × (length (now subject) ≡ 16) × (length (now row) ≡ 25) × (at + 36 ≤ length (now out)) ⌝ }
+    requires { ⌜ (kind < 4) × (length (now subject) ≡ 16) × (length (now row) ≡ 25) × (at + aceRowSize ≤ length (now out)) ⌝ }
     ensures { λ r. ⌜ Puts (now (out .entry)) at (be16 number ++ entry kind (now (subject .entry)) (now (row .entry))) (now (out .exit)) r ⌝ }
 {
     let made = row_made(number, kind, subject, row);
@@ -101,7 +102,7 @@ fn put_row(out: &mut [u8], at: usize, number: u16, kind: u8, subject: &[u8], row
 
 // An access row for a connection.
 fn put_connection(out: &mut [u8], at: usize, number: u16, connection: u8, row: &[u8]) -> usize
-    requires { ⌜ (length (now row) ≡ 25) × (at + 36 ≤ length (now out)) ⌝ }
+    requires { ⌜ (length (now row) ≡ 25) × (at + aceRowSize ≤ length (now out)) ⌝ }
     ensures { λ r. ⌜ Puts (now (out .entry)) at (be16 number ++ connectionEntry connection (now (row .entry))) (now (out .exit)) r ⌝ }
 {
     let mut subject = [0u8; SUBJECT_BYTES];

@@ -1,6 +1,7 @@
 -- `likely_places`: nothing is asked of the places but that there are 256.
 use Rattle.rows.proofs.Prelude.{_≡_, refl, _+_, _-_, _*_, _≤_, _<_, arith, length, getD, now, needs}
 use Rattle.check_waiting.proofs.likely_places.Tie as tie
+use Rattle.rules.specs.Sizes.{credRowSize}
 
 abbrev Inv-loop : tie.InvT-loop
 Inv-loop ncreds creds rows count places₀ i₀ places i = (length places ≡ 256) × (count ≤ 24)
@@ -10,8 +11,8 @@ abbrev μ-loop : tie.MeasureT-loop
 
 -- the low byte is one
 low : (c : tie.After-shared-slice-known Inv-loop μ-loop)
-    → getD (now (c .before .before .before .before .before .args .creds)) (c .before .before .loop .i * 39 + 1) 0 < 256
-low c = omega (arith, c .shared-slice-known .given (c .before .before .loop .i * 39 + 1))
+    → getD (now (c .before .before .before .before .before .args .creds)) (c .before .before .loop .i * credRowSize + 1) 0 < 256
+low c = omega (arith, c .shared-slice-known .given (c .before .before .loop .i * credRowSize + 1))
 
 pub likely-places-spec : {M : Type 1} → Rattle.check_waiting.proofs.likely_places.Statement.statement M
 likely-places-spec = tie.close (tie.spec
