@@ -1,5 +1,6 @@
 // A text that nearly always fits, copied where it is put: faster than `put`, and more code at each call.
-// What does not fit is put as `put` does.
+// What goes over the buffer's end is put as `put` does.
+use crate::advance;
 use crate::copy;
 ghost use Rattle.text.specs.Buffer.{Puts};
 
@@ -9,10 +10,11 @@ pub fn put(out: &mut [u8], at: usize, text: &[u8]) -> usize
     ensures { λ r. ⌜ Puts (now (out .entry)) at (now (text .entry)) (now (out .exit)) r ⌝ }
 {
     let size = out.len();
-    if at < size {
-        if text.len() <= size - at {
-            return copy(out, at, text);
-        }
+    if size <= at {
+        return advance(at, text.len());
+    }
+    if text.len() <= size - at {
+        return copy(out, at, text);
     }
     crate::put(out, at, text)
 }
