@@ -39,11 +39,11 @@ def states_picture():
 ALLOWED = {
     "stateAllows state Serve": "eqb state rfnop",
     "stateAllows state Read": "true",
-    "stateAllows state (SetRowOwner n)": "writeAllowed state 1",
-    "stateAllows state (SetOwner owned)": "writeAllowed state 0 && (not (eqb state sreset) || eqb owned 1)",
-    "stateAllows state (SetState target)": "writeAllowed state 3",
-    "stateAllows state (Store k)": "writeAllowed state 2",
-    "stateAllows state (Remove k key)": "writeAllowed state 2",
+    "stateAllows state (SetRowOwner n)": "writeAllowed state rowOwnerWrite",
+    "stateAllows state (SetOwner owned)": "writeAllowed state doxmWrite && (not (eqb state sreset) || eqb owned 1)",
+    "stateAllows state (SetState target)": "writeAllowed state targetWrite",
+    "stateAllows state (Store k)": "writeAllowed state rowWrite",
+    "stateAllows state (Remove k key)": "writeAllowed state rowWrite",
     "stateAllows state (Assert c)": "eqb state rfnop && eqb c 1",
 }
 

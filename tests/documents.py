@@ -222,7 +222,7 @@ def layouts():
 
 def plain_number(text, constants):
     """A number, or a sum or product of numbers and constants."""
-    return sum(math.prod(int(constants.get(f.strip(), f.strip())) for f in part.split("*")) for part in text.split("+"))
+    return sum(math.prod(int(constants.get(f.strip().removeprefix("Permission::"), f.strip())) for f in part.split("*")) for part in text.split("+"))
 
 
 def struct_fields():

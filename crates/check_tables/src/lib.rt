@@ -1,11 +1,15 @@
 // Whether tables are sound.
 // The head, then each table: room for its rows, zeros after them, each row storable, distinct numbers.
-use row_format::capacity_of;
+use row_format::aces_held;
+use row_format::creds_held;
 use row_format::is_nil;
-use row_format::row_storable;
 use row_format::stride_of;
+use rules::ACE_ROW;
 use rules::ACE_ROWS;
+use rules::ACES;
+use rules::CRED_ROW;
 use rules::CRED_ROWS;
+use rules::CREDS;
 use rules::Head;
 use rules::Table;
 ghost use mathlib.Core.Path.{_≡_};
@@ -13,6 +17,7 @@ ghost use mathlib.Core.List.{[]};
 ghost use Prim.Native.Nat.{_*_, _≤_};
 ghost use lib.ListN.{length};
 ghost use Rattle.rows.specs.Rows.{rowsOf, every};
+ghost use Rattle.rules.specs.declared.Table.the-variants.{Creds, Aces};
 ghost use Rattle.rules.specs.Tables.{stride, storable, capacity, rowsSound, headSound, sound, tablesOf, tableSize};
 ghost use Rattle.rules.specs.Words.{was, before};
 
@@ -21,17 +26,10 @@ fn each_storable(table: Table, rows: &[u8], count: usize) -> bool
     requires { ⌜ count * stride table ≤ length (now rows) ⌝ }
     ensures { λ r. ⌜ r ≡ every (storable table) (rowsOf (stride table) count (was rows)) ⌝ }
 {
-    let long = stride_of(table);
-    let mut rest = rows;
-    let mut left = count;
-    while 0 < left {
-        if !row_storable(table, &rest[..long]) {
-            return false;
-        }
-        rest = &rest[long..];
-        left -= 1;
+    match table {
+        Table::Creds => creds_held(rows, count),
+        Table::Aces => aces_held(rows, count),
     }
-    true
 }
 
 // Whether each of the first `count` rows is one that a body could store; one that is cut short is not.
@@ -46,19 +44,40 @@ pub fn rows_storable(table: Table, rows: &[u8], count: usize) -> bool
     each_storable(table, rows, count)
 }
 
-fn rows_sound(table: Table, count: usize, bytes: &[u8]) -> bool
-    requires { ⌜ length (now bytes) ≡ tableSize table ⌝ }
-    ensures { λ r. ⌜ r ≡ rowsSound table count (was bytes) ⌝ }
+fn creds_sound(count: usize, bytes: &[u8]) -> bool
+    requires { ⌜ length (now bytes) ≡ tableSize Creds ⌝ }
+    ensures { λ r. ⌜ r ≡ rowsSound Creds count (was bytes) ⌝ }
 {
-    let most = capacity_of(table);
+    let most = CREDS as usize;
     if most < count {
         return false;
     }
-    let long = stride_of(table);
-    let end = count * long;
-    rows::all_zero(bytes, end)
-        & each_storable(table, bytes, count)
-        & rows_distinct::distinct(bytes, long, count)
+    let end = count * CRED_ROW;
+    if !creds_held(bytes, count) {
+        return false;
+    }
+    if !rows::all_zero(bytes, end) {
+        return false;
+    }
+    rows_distinct::distinct(bytes, CRED_ROW, count)
+}
+
+fn aces_sound(count: usize, bytes: &[u8]) -> bool
+    requires { ⌜ length (now bytes) ≡ tableSize Aces ⌝ }
+    ensures { λ r. ⌜ r ≡ rowsSound Aces count (was bytes) ⌝ }
+{
+    let most = ACES as usize;
+    if most < count {
+        return false;
+    }
+    let end = count * ACE_ROW;
+    if !aces_held(bytes, count) {
+        return false;
+    }
+    if !rows::all_zero(bytes, end) {
+        return false;
+    }
+    rows_distinct::distinct(bytes, ACE_ROW, count)
 }
 
 fn head_sound(h: Head) -> bool
@@ -75,5 +94,5 @@ pub fn tables_sound<'a>(h: Head, creds: &'a [u8; CRED_ROWS], aces: &'a [u8; ACE_
 {
     let ncreds = h.ncreds as usize;
     let naces = h.naces as usize;
-    head_sound(h) & rows_sound(Table::Creds, ncreds, creds) & rows_sound(Table::Aces, naces, aces)
+    head_sound(h) & creds_sound(ncreds, creds) & aces_sound(naces, aces)
 }

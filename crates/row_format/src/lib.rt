@@ -19,11 +19,14 @@ use rules::Subject;
 use rules::Table;
 use rules::UUID_SIZE;
 ghost use mathlib.Core.Path.{_≡_};
+ghost use Prim.Native.Nat.{_*_, _≤_};
 ghost use lib.ListN.{length};
+ghost use Rattle.rows.specs.Rows.{rowsOf, every};
 ghost use Rattle.rules.specs.Bodies.{isNil, ownerBody, stateBody, credStorable, subjectStorable, aceStorable};
 ghost use Rattle.rules.specs.Roles.{rolesSound, credHeld};
-ghost use Rattle.rules.specs.Sizes.{credRowSize};
-ghost use Rattle.rules.specs.Tables.{stride, capacity, storable};
+ghost use Rattle.rules.specs.Sizes.{credRowSize, aceRowSize};
+ghost use Rattle.rules.specs.Words.{was};
+ghost use Rattle.rules.specs.Tables.{stride, capacity};
 
 // Bytes of a row.
 // Rules out: one length for both tables; a credential row without its places for roles.
@@ -77,17 +80,25 @@ pub fn state_body(b: &[u8]) -> bool
 
 // What a body of 23 bytes may say of a credential.
 // Rules out: number 0; two bits of the type; an authority without a role.
-pub fn cred_storable(row: &[u8]) -> bool
+fn cred_storable(row: &[u8]) -> bool
     ensures { λ r. ⌜ r ≡ credStorable (now (row .entry)) ⌝ }
 {
     if row.len() != CRED_BODY {
         return false;
     }
-    let numbered = be16(row) != 0;
-    let named = !is_nil(cred::subject(row));
-    let role = (cred::role(row) != 0) | (cred::authority(row) == 0);
-    let typed = u16::count_ones(cred::type_bits(row)) <= 1;
-    numbered & named & role & typed & (cred::zeros(row) == 0)
+    if be16(row) == 0 {
+        return false;
+    }
+    if is_nil(cred::subject(row)) {
+        return false;
+    }
+    if cred::zeros(row) != 0 {
+        return false;
+    }
+    if 1 < u16::count_ones(cred::type_bits(row)) {
+        return false;
+    }
+    (cred::role(row) != 0) | (cred::authority(row) == 0)
 }
 
 // The places hold the roles that are there, different ones, and behind them zeros.
@@ -97,77 +108,122 @@ fn roles_sound(row: &[u8]) -> bool
 {
     let first = cred::role_place(row, 0);
     if no_role(first) {
-        return rows::all_zero(row, CRED_BODY);
+        return short_zero(after(row, CRED_BODY));
     }
     let second = cred::role_place(row, 1);
     if no_role(second) {
-        return rows::all_zero(row, CRED_BODY + CRED_PLACE);
+        return short_zero(after(row, CRED_BODY + CRED_PLACE));
     }
     !same_role(first, second)
 }
 
-// A credential row that the table may hold.
-// Rules out: a body without its places; a role twice; the second place used before the first.
-pub fn cred_held(row: &[u8]) -> bool
-    ensures { λ r. ⌜ r ≡ credHeld (now (row .entry)) ⌝ }
-{
-    if row.len() != CRED_ROW {
-        return false;
-    }
-    cred_storable(cred::body(row)) & roles_sound(row)
-}
-
-fn subject_storable(row: &[u8]) -> bool
-    ensures { λ r. ⌜ r ≡ subjectStorable (now (row .entry)) ⌝ }
-{
-    let subject = ace::subject(row);
-    let kind = ace::kind(row);
-    match kind {
-        Subject::UUID => !is_nil(subject),
-        Subject::ROLE => short_zero(part(subject, 0, 12)) & (ace::role(row) != 0),
-        Subject::CONNECTION => short_zero(part(subject, 0, 15)) & (ace::connection_zeros(row) == 0),
-        _ => false,
-    }
-}
-
-// An access row that a body could store.
-// Rules out: a resource in the set that is unknown; role 0 as a subject; a first second later than the last.
-pub fn ace_storable(row: &[u8]) -> bool
-    ensures { λ r. ⌜ r ≡ aceStorable (now (row .entry)) ⌝ }
-{
-    if row.len() != ACE_ROW {
-        return false;
-    }
-    // by itself: the compiler then compares the eight bytes of the set at once
-    if !ace::set_known(row) {
-        return false;
-    }
-    let numbered = be16(row) != 0;
-    let zeros = ace::zeros(row) == 0;
-    let period = ace::first(row) <= ace::last(row);
-    numbered & zeros & subject_storable(row) & period
-}
-
-// The same as `cred_held`, for each row of a table: where nothing is asserted, as in most rows, the body is all there is to test.
+// A credential row that the table may hold: where nothing is asserted, as in most rows, the body is all there is to test.
 fn cred_row_held(row: &[u8]) -> bool
     ensures { λ r. ⌜ r ≡ credHeld (now (row .entry)) ⌝ }
 {
     if row.len() != CRED_ROW {
         return false;
     }
-    if short_zero(after(row, CRED_BODY)) {
-        return cred_storable(cred::body(row));
+    if !cred_storable(cred::body(row)) {
+        return false;
     }
-    cred_held(row)
+    roles_sound(row)
 }
 
-// A row that the table may hold.
-// Rules out: one table's test for both; a row of the other table's length.
-pub fn row_storable(table: Table, row: &[u8]) -> bool
-    ensures { λ r. ⌜ r ≡ storable table (now (row .entry)) ⌝ }
+// Whether each of `count` credential rows is one that the table may hold. Its test stands in the code once, in this loop.
+pub fn creds_held(rows: &[u8], count: usize) -> bool
+    requires { ⌜ count * credRowSize ≤ length (now rows) ⌝ }
+    ensures { λ r. ⌜ r ≡ every credHeld (rowsOf credRowSize count (was rows)) ⌝ }
 {
-    match table {
-        Table::Creds => cred_row_held(row),
-        Table::Aces => ace_storable(row),
+    let mut rest = rows;
+    let mut left = count;
+    while 0 < left {
+        if !cred_row_held(&rest[..CRED_ROW]) {
+            return false;
+        }
+        rest = &rest[CRED_ROW..];
+        left -= 1;
     }
+    true
+}
+
+// One row.
+pub fn cred_held(row: &[u8]) -> bool
+    ensures { λ r. ⌜ r ≡ credHeld (now (row .entry)) ⌝ }
+{
+    if row.len() != CRED_ROW {
+        return false;
+    }
+    creds_held(row, 1)
+}
+
+fn subject_storable(row: &[u8]) -> bool
+    requires { ⌜ length (now row) ≡ aceRowSize ⌝ }
+    ensures { λ r. ⌜ r ≡ subjectStorable (now (row .entry)) ⌝ }
+{
+    let subject = ace::subject(row);
+    let kind = ace::kind(row);
+    if !short_zero(part(subject, 0, 8)) {
+        return kind == Subject::UUID;
+    }
+    if kind == Subject::UUID {
+        return !short_zero(part(subject, 8, 8));
+    }
+    if !short_zero(part(subject, 8, 4)) {
+        return false;
+    }
+    if kind == Subject::ROLE {
+        return ace::role(row) != 0;
+    }
+    (kind == Subject::CONNECTION)
+        & short_zero(part(subject, 12, 3))
+        & (ace::connection_zeros(row) == 0)
+}
+
+fn ace_row_held(row: &[u8]) -> bool
+    ensures { λ r. ⌜ r ≡ aceStorable (now (row .entry)) ⌝ }
+{
+    if row.len() != ACE_ROW {
+        return false;
+    }
+    if !ace::set_known(row) {
+        return false;
+    }
+    if be16(row) == 0 {
+        return false;
+    }
+    if ace::zeros(row) != 0 {
+        return false;
+    }
+    if ace::last(row) < ace::first(row) {
+        return false;
+    }
+    subject_storable(row)
+}
+
+// Whether each of `count` access rows is one that a body could store. Its test stands in the code once, in this loop.
+pub fn aces_held(rows: &[u8], count: usize) -> bool
+    requires { ⌜ count * aceRowSize ≤ length (now rows) ⌝ }
+    ensures { λ r. ⌜ r ≡ every aceStorable (rowsOf aceRowSize count (was rows)) ⌝ }
+{
+    let mut rest = rows;
+    let mut left = count;
+    while 0 < left {
+        if !ace_row_held(&rest[..ACE_ROW]) {
+            return false;
+        }
+        rest = &rest[ACE_ROW..];
+        left -= 1;
+    }
+    true
+}
+
+// An access row that a body could store.
+pub fn ace_storable(row: &[u8]) -> bool
+    ensures { λ r. ⌜ r ≡ aceStorable (now (row .entry)) ⌝ }
+{
+    if row.len() != ACE_ROW {
+        return false;
+    }
+    aces_held(row, 1)
 }

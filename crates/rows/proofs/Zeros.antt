@@ -1,10 +1,11 @@
 -- Bytes that are all 0: a union of bytes is 0 where each is, and the bytes of a list are where those of its parts are.
 -- Assumes nothing.
 use Rattle.rows.proofs.Prelude.{_≡_, refl, sym, ap, _∙_, Bool, true, _&&_, List, [], _∷_, _++_, ℕ, zero, suc, _+_, _≤_, _<_, add-one, arith, length}
-use Rattle.rows.proofs.Prelude.{take, drop, getD, drop-of-length-le, take-append-drop, drop-cons, drop-drop, eqb, bitOr, ne-eqb}
+use Rattle.rows.proofs.Prelude.{take, drop, getD, drop-of-length-le, take-append-drop, drop-cons, drop-drop, eqb, bitOr, ne-eqb, _-_, and-left, and-right, bool-cases, contradiction}
 use mathlib.Core.Bool.{and-assoc, and-comm}
 use lib.Bits.{or-add-and, and-le-r}
 use lib.Dec.{eqb·suc-zero}
+use lib.Seq.{take-add}
 use Rattle.rows.specs.Rows.{allZero}
 
 -- ---- unions
@@ -44,3 +45,42 @@ zeros-append (x ∷ a) b = rw (zeros-append a b, and-assoc)
 -- n bytes, and those after them
 pub zeros-part : (n i : ℕ) (b : List ℕ) → allZero (drop i b) ≡ (allZero (take n (drop i b)) && allZero (drop (i + n) b))
 zeros-part n i b = rw (← drop-drop n i b) (ap allZero (sym (take-append-drop n (drop i b))) ∙ zeros-append (take n (drop i b)) (drop n (drop i b)))
+
+-- zeros from i on are zeros from k on, which is later
+later : (i k : ℕ) (b : List ℕ) → i ≤ k → allZero (drop i b) ≡ true → allZero (drop k b) ≡ true
+later i k b h e =
+    let at : i + (k - i) ≡ k = omega arith in
+    ap (λ (j : ℕ). allZero (drop j b)) (sym at) ∙ and-right (allZero (take (k - i) (drop i b))) _ (sym (zeros-part (k - i) i b) ∙ e)
+
+-- n bytes from i on, and those from k on, which begins within them or just behind
+pub overlap : (n i k : ℕ) (b : List ℕ) → i ≤ k → k ≤ i + n → (allZero (take n (drop i b)) && allZero (drop k b)) ≡ allZero (drop i b)
+overlap n i k b h l =
+    let parts = zeros-part n i b in
+    bool-cases (allZero (drop i b))
+    (λ e. rw (e, and-left (allZero (take n (drop i b))) (allZero (drop (i + n) b)) (sym parts ∙ e), later i k b h e))
+    (λ e. rw e (bool-cases (allZero (take n (drop i b)))
+    (λ t. rw t (bool-cases (allZero (drop k b)) (λ z. contradiction (parts ∙ rw (t, later k (i + n) b l z)) e) (λ z. z)))
+    (λ t. rw t)))
+
+-- four parts of one length
+pub in-four : (q i : ℕ) (b : List ℕ)
+    → allZero (take (q + q + q + q) (drop i b))
+    ≡ ((allZero (take q (drop i b)) && allZero (take q (drop (i + q) b))) && (allZero (take q (drop (i + q + q) b)) && allZero (take q (drop (i + q + q + q) b))))
+in-four q i b =
+    let l = drop i b in
+    let two : i + (q + q) ≡ i + q + q = omega arith in
+    let three : i + (q + q + q) ≡ i + q + q + q = omega arith in
+    rw (
+      take-add (q + q + q) q l,
+      take-add (q + q) q l,
+      take-add q q l,
+      zeros-append,
+      zeros-append,
+      zeros-append,
+      drop-drop q i b,
+      drop-drop (q + q) i b,
+      drop-drop (q + q + q) i b,
+      two,
+      three,
+      and-assoc,
+    )
