@@ -7,13 +7,22 @@
  * new one: whatever is left of the byte that was being written, and of every other byte in the same image or in the marks.
  * That is proved (docs/PROOFS.md). docs/STORE.md has a drawing, what it costs, and other ways to store.
  *
- * When the power comes on, read the whole store from the device. Then find the current image:
+ * When the power comes on, read the whole store from the device. Then load the current image. If the image is the tables
+ * alone, no record waits after a load, so the waiting records are zeros:
+ *
+ *     uint64_t at;
+ *     if (tillerclover_store_current(store, sizeof store, n, &at) == TILLERCLOVER_STORE_DONE) {
+ *         memcpy(&terminal.tables, store + at, sizeof terminal.tables);
+ *         memset(&terminal.waiting, 0, sizeof terminal.waiting);
+ *     }
+ *
+ * If the image is the whole terminal, it has the waiting records too:
  *
  *     uint64_t at;
  *     if (tillerclover_store_current(store, sizeof store, n, &at) == TILLERCLOVER_STORE_DONE)
- *         memcpy(&terminal.tables, store + at, n);
+ *         memcpy(&terminal, store + at, sizeof terminal);
  *
- * The content of new memory is the current image too. So hand it to the library as it is: tables that are not sound get
+ * The content of new memory is the current image too. So give it to the library as it is: tables that are not sound get
  * answer 1, and tillerclover_is_sound says so at once, until those of tillerclover_clear are stored.
  *
  * To store an image:
@@ -29,7 +38,11 @@
  *     }
  *
  * With DONE the image is stored, and only now the record is answered. A run takes n + 1 writes at most. A device that asks
- * for more has a cell that does not keep its byte: the image from before is then still current, or the new one.
+ * for more has a cell that does not keep its byte: the image from before is then still current, or the new one. A store that
+ * does not end with DONE leaves a terminal in memory that the device may not hold. So answer nobody, and load again or end:
+ *
+ *     if (answer != TILLERCLOVER_STORE_DONE)
+ *         load_again_or_end();
  *
  * Three things are supposed of the device:
  * - A cell whose write was cut reads the same value from then on, be it any value. No proof covers a cell that reads now

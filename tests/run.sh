@@ -3,6 +3,7 @@
 #
 #     tests/run.sh              all tests
 #     tests/run.sh NAME..       some of them; an unknown name lists them all
+#     tests/run.sh --list       their names
 #
 # The last line counts the tests that passed and failed; a failure makes the script exit with 1.
 set -uo pipefail
@@ -248,6 +249,16 @@ foreign() {
     return 1
 }
 
+# The blocks of code that the store's header prints, each as a macro: tests/loads.c compiles them as they are printed.
+header_lines() {
+    awk '
+        BEGIN { split("LOAD_tables LOAD_whole STORE_LINES FAILED_LINES", name, " ") }
+        sub(/^ \*     /, "") { if (!inside) printf "#define %s", name[++blocks]; inside = 1; printf " \\\n    %s", $0; next }
+        { if (inside) print ""; inside = 0 }
+        END { exit blocks == 4 ? 0 : 1 }' include/tillerclover_store.h || { echo "tillerclover_store.h does not print four blocks of code"; return 1; }
+}
+
+
 # The store over a simulated EEPROM whose power is cut, alone and under a terminal, also under the sanitizers; and against the model.
 test_store() {
     need cc gcc && need c++ g++ && need_cargo && library || return 1
@@ -255,9 +266,11 @@ test_store() {
     for language in c11 c++11; do
         compiles $language '#include "tillerclover_store.h"' || { cat "$work/log" && return 1; }
     done
-    for name in store powercut; do
-        c_program "$name" -O2 "tests/$name.c" && log "$work/$name" && cat "$work/log" &&
-            c_program sanitized -g -fsanitize=address,undefined -fno-sanitize-recover=all "tests/$name.c" && log "$work/sanitized" || return 1
+    header_lines >"$work/header-lines.h" || return 1
+    for name in store powercut loads; do
+        c_program "$name" -O2 "-I$work" "tests/$name.c" && log "$work/$name" && cat "$work/log" &&
+            c_program sanitized -g -fsanitize=address,undefined -fno-sanitize-recover=all "-I$work" "tests/$name.c" &&
+            log "$work/sanitized" || return 1
     done
     log in_model cargo run --quiet --profile gate --locked --features linked --bin stores && tail -n 1 "$work/log"
 }
@@ -467,6 +480,10 @@ expect_file() {
 
 # ---- the list
 
+if [ "${1-}" = --list ]; then
+    printf '%s\n' "${ALL[@]}"
+    exit
+fi
 if [ $# -eq 0 ]; then
     set -- "${ALL[@]}"
 fi
