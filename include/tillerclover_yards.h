@@ -41,7 +41,8 @@ enum {
     TILLERCLOVER_SENDER_LENGTH = 2
 };
 
-/* Why the senders of a list may not be isolated: the first reason that applies is given. */
+/* Why the senders of a list may not be isolated. Reasons 1 to 3 are of the whole list, and the first that applies is given.
+ * Then the entries are looked at one by one, and the first entry with reason 4 or 5 is given, 4 if it has both. */
 enum tillerclover_isolation_reason {
     /* they are isolated */
     TILLERCLOVER_ISOLATED = 0,

@@ -4,10 +4,10 @@
     tests/documents.py            compares
     tests/documents.py --write    first makes the pictures and tables of docs/PICTURES.md, ANSWERS.md and SECURITY-MODEL.md anew
 
-README.md       the layers with crates.txt; what must be believed with what the contracts cite
+ARCHITECTURE.md the layers with crates.txt; what must be believed with what the contracts cite
 PROOFS.md       each theorem that its tables name is exported with a statement by a file named; each function stands in the file or crate;
                 each public function with a `requires` is in the table of what is asked for; each function for C is an entry point
-README.md, SECURITY.md, CHANGELOG.md, SECURITY-MODEL.md, ASSESSOR.md, ANSWERS.md, TARGETS.md, BENCHMARKS.md, PICTURES.md
+README.md, ARCHITECTURE.md, INTEGRATION.md, SECURITY.md, CHANGELOG.md, SECURITY-MODEL.md, ASSESSOR.md, ANSWERS.md, TARGETS.md, BENCHMARKS.md, PICTURES.md
                 each theorem that is named before its file, as `name` (crate/proofs/File.antt), stands there, and each
                 `crate::function` is one
 CHANGELOG.md    its first heading is the interface's version, and it names the format's; the lengths of tables, rows and waiting records are today's
@@ -33,7 +33,8 @@ from answers import ANSWERS, answers, check_header_rules, order_picture, sequenc
 from sources import HEADER, Changed, asks, contracts, exports, faults, fault, found, functions_of, number, read, right_side, rows_of  # noqa: E402
 
 PAGE, MODEL = "docs/PICTURES.md", "docs/SECURITY-MODEL.md"
-CITED = ["README.md", "SECURITY.md", "CHANGELOG.md", MODEL, "docs/ASSESSOR.md", "docs/ANSWERS.md", "docs/GLOSSARY.md", "docs/TARGETS.md", "docs/BENCHMARKS.md", PAGE]
+HOUSE = "docs/ARCHITECTURE.md"
+CITED = ["README.md", HOUSE, "docs/INTEGRATION.md", "SECURITY.md", "CHANGELOG.md", MODEL, "docs/ASSESSOR.md", "docs/ANSWERS.md", "docs/GLOSSARY.md", "docs/TARGETS.md", "docs/BENCHMARKS.md", PAGE]
 
 
 # ---- layouts
@@ -311,10 +312,10 @@ def crates():
 
 
 def layers():
-    """(layer, crates) from the top, as README.md has them."""
-    table = re.search(r"\| layer \| crates \|\n\|---\|---\|\n((?:\|.*\|\n)+)", read("README.md"))
+    """(layer, crates) from the top, as ARCHITECTURE.md has them."""
+    table = re.search(r"\| layer \| crates \|\n\|---\|---\|\n((?:\|.*\|\n)+)", read(HOUSE))
     if not table:
-        raise Changed("README.md has no table of layers")
+        raise Changed(f"{HOUSE} has no table of layers")
     rows = [line.strip("|").split("|") for line in table.group(1).strip().split("\n")]
     return [(row[0].strip(), re.findall(r"`(\w+)`", row[1])) for row in rows]
 
@@ -324,17 +325,17 @@ def check_layers():
     for level, (layer, names) in enumerate(layers()):
         for name in names:
             if name not in listed:
-                fault(f"README.md: '{name}' of the layer '{layer}' is no crate of crates.txt")
+                fault(f"{HOUSE}: '{name}' of the layer '{layer}' is no crate of crates.txt")
             if name in place:
-                fault(f"README.md: {name} stands in two layers")
+                fault(f"{HOUSE}: {name} stands in two layers")
             place[name] = level
     for name, below in listed.items():
         if name not in place:
-            fault(f"README.md: {name} stands in no layer")
+            fault(f"{HOUSE}: {name} stands in no layer")
             continue
         for other in below:
             if other in place and place[other] < place[name]:
-                fault(f"README.md: {name} stands below {other}, which it depends on")
+                fault(f"{HOUSE}: {name} stands below {other}, which it depends on")
 
 
 def layers_picture():
@@ -354,16 +355,16 @@ def layers_picture():
 
 
 def check_believed():
-    """README names the crates whose specs/ a contract cites."""
+    """ARCHITECTURE names the crates whose specs/ a contract cites."""
     cited = set()
     for path in glob.glob("crates/*/src/**/*.rt", recursive=True):
         cited |= set(re.findall(r"^ghost use Rattle·(\w+?)(?:·specs)?\.specs\.", read(path), re.M))
-    sentence = re.search(r"^What must be believed is (.*?)\. The theorem", read("README.md"), re.M)
+    sentence = re.search(r"^What must be believed is (.*?)\. The theorem", read(HOUSE), re.M)
     if not sentence:
-        raise Changed("README.md does not say what must be believed")
+        raise Changed(f"{HOUSE} does not say what must be believed")
     named = set(re.findall(r"`(\w+)`", sentence.group(1)))
     for name in sorted(cited ^ named):
-        where = "a contract cites it, and README.md does not name it" if name in cited else "README.md names it, and no contract cites it"
+        where = f"a contract cites it, and {HOUSE} does not name it" if name in cited else f"{HOUSE} names it, and no contract cites it"
         fault(f"what must be believed: {name}/specs: {where}")
 
 

@@ -408,7 +408,7 @@ test_refuse() {
 
 # What the documents and the header say of the sources is so; each sentence of the papers has its row.
 test_documents() {
-    need python3 python3 && log tests/documents.py && log tests/trace.py
+    need python3 python3 && log tests/documents.py && log tests/trace.py && log tests/way.py
 }
 
 # The library on the other processors, under emulation.
