@@ -115,7 +115,8 @@ dist: $(ARCHIVE) $(TOOL) $(filter-out -,$(TERMINAL)) ## writes target/dist/tille
 	@sed -i -e 's|^prefix=.*|prefix=$${pcfiledir}/../..|' -e 's|^libdir=.*|libdir=$${prefix}/lib|' \
 	    -e 's|^includedir=.*|includedir=$${prefix}/include|' $(DIST)/lib/pkgconfig/tillerclover.pc
 	@tar -ch --exclude=target bindings/rust | tar -x -C $(DIST)
-	@cp -R README.md SECURITY.md CHANGELOG.md CONTRIBUTING.md docs examples packaging/KIT $(DIST)/
+	@cp -R SECURITY.md CHANGELOG.md CONTRIBUTING.md docs examples packaging/KIT $(DIST)/
+	@cp packaging/README-release.md $(DIST)/README.md
 	CARGOFLAGS="$(CARGOFLAGS)" packaging/sbom.py $(MAJOR).$(MINOR) $(ARCHIVE) $(TOOL) $(TERMINAL) >$(DIST)/sbom.json && packaging/sbom.py --check $(DIST)/sbom.json
 	cd $(DIST) && find . -type f ! -name SHA256SUMS | LC_ALL=C sort | xargs sha256sum >SHA256SUMS
 	cd target/dist && tar --sort=name --owner=0 --group=0 --numeric-owner --mode=go=rX,u+rw --mtime="@$$(git log -1 --format=%ct)" \

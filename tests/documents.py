@@ -18,7 +18,7 @@ ANSWERS.md      the tables with those made from the header, the words of names.r
 tillerclover.h  offsets, lengths and shifts with the definitions; so the rules in short: moves, writes, endpoints
 tillerclover_yards.h
                 the identity and the reasons' numbers with the definitions
-GLOSSARY.md     sorted; each word of CONTRIBUTING's table stands there, and each name in code letters is in the sources
+GLOSSARY.md     sorted; each name in code letters is in the sources
 SECURITY-MODEL.md   the trust boundary with the functions of the headers
 """
 import difflib
@@ -582,10 +582,6 @@ def check_glossary():
     words = [cells[0].replace("`", "") for cells in rows_of(page)[1:]]
     if words != sorted(words, key=str.lower):
         fault("GLOSSARY.md: the words are not in their order")
-    table = read("CONTRIBUTING.md").split("## Words")[1].split("\n## ")[0].split("Three rules")[0]
-    for name in {name for cells in rows_of(table)[1:] for name in re.findall(r"`(\w+)`", cells[-1])}:
-        if f"`{name}`" not in page:
-            fault(f"GLOSSARY.md: CONTRIBUTING.md has the word {name}, and it stands not there")
     sources = "\n".join(read(path) for path in glob.glob("crates/*/specs/*.antt") + glob.glob("crates/*/src/**/*.rt", recursive=True))
     known = set(re.findall(r"\w+", sources))
     for name in set(re.findall(r"`(\w+)`", page)) - known:
