@@ -465,8 +465,9 @@ def files_of(cells):
 
 def check_proofs():
     text = read("docs/PROOFS.md")
+    claims = text.split("## Twelve claims")[1].split("\n## ")[0]
     theorems, told = text.split("## Theorems over the definitions")[1].split("## Contracts")
-    for cells in rows_of(theorems)[1:]:
+    for cells in [row[1:] for row in rows_of(claims)[1:]] + rows_of(theorems)[1:]:
         paths = files_of(cells[1:])
         for name in re.findall(r"`([^`]+)`", cells[1]):
             if not any(exports(path, name) for path in paths):
