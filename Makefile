@@ -78,7 +78,7 @@ target/staticlib/libterminal.a: $(SOURCES)
 	rt staticlib terminal
 	@touch $@
 
-tool/target/release/tillerclover: $(ARCHIVE) $(wildcard tool/src/* bindings/rust/src/*)
+tool/target/release/tillerclover: $(ARCHIVE) $(wildcard tool/src/* answers/src/* bindings/rust/src/*)
 	cd tool && TILLERCLOVER_LIB=$(abspath $(ARCHIVE)) cargo build --release $(CARGOFLAGS)
 
 target/terminal: $(ARCHIVE) $(wildcard examples/terminal/*.[ch])

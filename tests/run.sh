@@ -54,7 +54,7 @@ need_component() {
     return 1
 }
 
-# The crates that the tool needs, from Debian's packages.
+# The crates that the answers and the tool need, from Debian's packages.
 CRATES=(chrono chrono-tz clap clap_complete crc32fast indicatif libc serde serde_json strsim tabwriter tempfile toml)
 need_crates() {
     local crate packages=()
@@ -103,13 +103,14 @@ run_program() { [ -n "${LIBRARY_BUILT-}" ] || log rt check run; }
 
 in_model() { (cd model && "$@"); }
 in_binding() { (cd bindings/rust && "$@"); }
+in_answers() { (cd answers && "$@"); }
 in_tool() { (cd tool && "$@"); }
 # in_package COMMAND..: in the binding as it is packaged, with nothing of the repository but the archive
 packaged=$root/bindings/rust/target/packaged
 in_package() { (cd "$packaged/tillerclover-0.1.0" && TILLERCLOVER_LIB=$root/target/staticlib CARGO_TARGET_DIR=$packaged/target "$@"); }
 
-# tool_cargo COMMAND..: cargo on the tool with Debian's crates; a lock file of other crates is none for these. The options follow
-# the command, since clippy passes on only those
+# tool_cargo COMMAND..: cargo on the tool, and with --workspace on the answers too, with Debian's crates; a lock file of other crates
+# is none for these. The options follow the command, since clippy passes on only those
 tool_cargo() { (cd tool && rm -f Cargo.lock && cargo "$1" --config ../tests/debian.toml --quiet --offline "${@:2}"); }
 
 # ---- the tests
@@ -124,6 +125,7 @@ test_layout() {
     log rt fmt --check || failed=1
     log in_model cargo fmt --check || failed=1
     log in_binding cargo fmt --check || failed=1
+    log in_answers cargo fmt --check || failed=1
     log in_tool cargo fmt --check || failed=1
     mapfile -t files < <(c_files)
     log clang-format --dry-run --Werror "${files[@]}" || failed=1
@@ -131,13 +133,13 @@ test_layout() {
     return "$failed"
 }
 
-# No warning of clippy in the model, the binding and the tool, with their tests and programs.
+# No warning of clippy in the model, the binding, the answers and the tool, with their tests and programs.
 test_clippy() {
     need_component clippy clippy rust-clippy && need_crates && library || return 1
     local failed=0
     log in_model cargo clippy --quiet --locked --all-targets --features yardstick -- -D warnings || failed=1
     log in_binding cargo clippy --quiet --locked --all-targets --features measure -- -D warnings || failed=1
-    log tool_cargo clippy --all-targets -- -D warnings || failed=1
+    log tool_cargo clippy --workspace --all-targets -- -D warnings || failed=1
     return "$failed"
 }
 
@@ -171,9 +173,9 @@ test_crates() {
     need_crates && log tool_cargo build "${CRATES[@]/#/--package=}"
 }
 
-# The command tillerclover: its own tests, its words compared with what the library decides, and as people use it.
+# The answers and the command tillerclover: their own tests, their words compared with what the library decides, and as people use it.
 test_tool() {
-    need_crates && need python3 python3 && library && log tool_cargo test && log tool_cargo build && log tests/tool.sh tool/target/debug/tillerclover
+    need_crates && need python3 python3 && library && log tool_cargo test --workspace && log tool_cargo build && log tests/tool.sh tool/target/debug/tillerclover
 }
 
 # The library and the model give the same for 300,000 records, and for as many questions of isolation as `yards` asks.

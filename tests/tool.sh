@@ -63,11 +63,13 @@ yard() {
 
 # The commands that the documents show, run as they stand, and the packages that they name.
 part_documents() {
-    sed -n '/^\[dependencies\]/,/^\[dev-/s/^\([a-z0-9_-]*\) = .*/\1/p' "$root/tool/Cargo.toml" | grep -v '^tillerclover$' | tr _ - | sort >needed
+    sed -s -n '/^\[dependencies\]/,/^\[dev-/s/^\([a-z0-9_-]*\) = .*/\1/p' "$root"/{answers,tool}/Cargo.toml |
+        grep -vx 'tillerclover\|answers' | tr _ - | sort -u >needed
     sed -n 's/.*librust-{\(.*\)}-dev.*/\1/p' "$root/docs/TOOL.md" | tr , '\n' | sort >named
     cmp -s needed named || fault "docs/TOOL.md names other packages than the tool needs: $(diff needed named | head -n 5)"
     sed -n 's/^CRATES=(\(.*\))/\1 sha2/p' "$root/tests/run.sh" | tr ' _' '\n-' | sort >installed
     cmp -s needed installed || fault "tests/run.sh installs other packages than the tool needs: $(diff needed installed | head -n 5)"
+    ! grep -n 'std::\(env\|fs\|net\|os\|process\|thread\|time\)\b' -r "$root/answers/src" || fault "the answers need more than they are given"
     "$root/tests/shown.py" "$program" "$root/README.md" "$root/docs/TOOL.md" || fault "the documents show something else"
     local form length
     while IFS='|' read -r _ form length _; do

@@ -126,7 +126,7 @@ def check_code(name):
 def test_files():
     """The files that hold tests, and the cases of the comparison, by their names; two of the model and its mutants may share one."""
     found = {}
-    for pattern in ("model/src/systematic.rs", "model/src/tests/**/*.rs", "model/tests/**/*.rs", "bindings/rust/tests/*.rs", "tool/tests/*.rs", "tests/*.c", "tests/*.sh"):
+    for pattern in ("model/src/systematic.rs", "model/src/tests/**/*.rs", "model/tests/**/*.rs", "bindings/rust/tests/*.rs", "answers/tests/*.rs", "tool/tests/*.rs", "tests/*.c", "tests/*.sh"):
         for path in sorted(glob.glob(pattern, recursive=True)):
             found.setdefault(os.path.basename(path), []).append(path)
     return found

@@ -5,12 +5,13 @@ use std::ffi::OsString;
 use std::path::{Path, PathBuf};
 use std::time::Duration;
 
+use answers::stored::Stored;
+use answers::times::{self, Day};
 use clap::ArgMatches;
 use tillerclover::{Ace, Cred, Given, Terminal};
 
 use crate::error::Error;
-use crate::store::{self, Care, Stored};
-use crate::times::{self, Day};
+use crate::store::{self, Care};
 
 /// The text of an argument that has one.
 pub fn text<'a>(arguments: &'a ArgMatches, name: &str) -> Option<&'a str> {
@@ -60,7 +61,7 @@ pub fn force(arguments: &ArgMatches) -> Option<Care> {
 
 /// The tables of the argument FILE, to be asked and not changed.
 pub fn tables(arguments: &ArgMatches) -> Result<Stored, Error> {
-    Stored::read_whole(file(arguments, "FILE"), defaults(arguments)?)
+    store::whole_tables(file(arguments, "FILE"), defaults(arguments)?)
 }
 
 /// The build's default rows. Lists that the library counts as none are a mistake.

@@ -3,10 +3,10 @@
 use std::ffi::OsString;
 use std::path::PathBuf;
 
+use answers::stored::Form;
 use clap::{value_parser, Arg, ArgAction, Command};
 
 use crate::help::{EXIT, EXPECT, LINES, MAKE, RECORDS};
-use crate::store::Form;
 use crate::version;
 
 /// The whole command line.

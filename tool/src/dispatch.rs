@@ -2,17 +2,19 @@
 
 use std::path::Path;
 
+use answers::plan::{self, Plan};
+use answers::report::{Report, Status};
+use answers::steps::Act;
+use answers::who::{self, Question};
+use answers::yards::{known, parse as parse_yards};
+use answers::{diff, matrix, parse, sheet, show, why};
 use clap::ArgMatches;
 use serde_json::json;
 
-use crate::arguments::{clock, defaults, file, force, records, tables, text, texts, wait};
+use crate::arguments::{clock, defaults, file, force, path, records, tables, text, texts, wait};
 use crate::error::{name, Error};
-use crate::plan::{self, Plan};
-use crate::report::{Report, Status};
-use crate::steps::Act;
-use crate::store::{self, Care, Stored};
-use crate::who::{self, Question};
-use crate::{diff, expect, judge, list, load, manual, matrix, new, page, parse, run, show, undo, why, yards};
+use crate::store::{self, Care};
+use crate::{expect, judge, list, manual, new, run, undo, version, yards};
 
 /// What a command leaves to do.
 pub enum Done {
@@ -36,7 +38,7 @@ fn report(name: &str, arguments: &ArgMatches) -> Result<Report, Error> {
         "new" => new::new(file(arguments, "FILE"), text(arguments, "form"), defaults(arguments)?, force(arguments)),
         "show" => {
             let path = file(arguments, "FILE");
-            Ok(show::show(path, &Stored::read(path, Default::default())?, clock(arguments)?))
+            Ok(show::show(path, &store::tables(path, Default::default())?, clock(arguments)?))
         }
         "judge" => judge::judge(arguments, Act::Judge),
         "hand-in" => judge::judge(arguments, Act::HandIn),
@@ -52,11 +54,11 @@ fn report(name: &str, arguments: &ArgMatches) -> Result<Report, Error> {
         "man" => manual::page(&texts(arguments, "COMMAND")).map(plain),
         "diff" => {
             let names = ["A", "B"].map(|name| file(arguments, name));
-            let [one, other] = names.map(|name| Stored::read(name, Default::default()));
+            let [one, other] = names.map(|name| store::tables(name, Default::default()));
             Ok(diff::report(names, [&one?, &other?]))
         }
         _ => match arguments.subcommand() {
-            Some((name, arguments)) => on_list(name, arguments),
+            Some((name, arguments)) => list::list(name, arguments),
             None => unreachable!("clap asks for a subcommand"),
         },
     }
@@ -68,34 +70,24 @@ fn plain(text: String) -> Report {
     Report::new(text, json, Status::Yes)
 }
 
-fn on_list(name: &str, arguments: &ArgMatches) -> Result<Report, Error> {
-    match name {
-        "check" => Ok(list::check(file(arguments, "FILE"), &store::read(file(arguments, "FILE"))?)),
-        "convert" => list::convert(file(arguments, "OLD"), file(arguments, "NEW"), force(arguments)),
-        "make" => load::make(arguments),
-        "load" => load::load(arguments),
-        _ => list::text(file(arguments, "FILE"), arguments.get_flag("seasons")),
-    }
-}
-
 fn who(arguments: &ArgMatches) -> Result<Report, Error> {
     let verb = parse::verb(text(arguments, "VERB").unwrap_or_default()).map_err(Error::new)?;
     let resource = parse::resource(text(arguments, "RESOURCE").unwrap_or_default()).map_err(Error::new)?;
     let path = file(arguments, "FILE");
-    let stored = Stored::read_whole(path, Default::default())?;
+    let stored = store::whole_tables(path, Default::default())?;
     Ok(who::report(path, &stored, Question { verb, resource, clock: clock(arguments)? }))
 }
 
 fn rights(arguments: &ArgMatches) -> Result<Report, Error> {
     let (path, clock) = (file(arguments, "FILE"), clock(arguments)?);
-    let stored = Stored::read_whole(path, Default::default())?;
-    let named = yards::parse(&texts(arguments, "yard")).map_err(|error| Error::new(format!("--yard: {error}")))?;
+    let stored = store::whole_tables(path, Default::default())?;
+    let named = parse_yards(&texts(arguments, "yard")).map_err(|error| Error::new(format!("--yard: {error}")))?;
     let report = matrix::report(path, &stored, clock);
-    match crate::arguments::path(arguments, "html") {
+    match self::path(arguments, "html") {
         Some(page) if report.status == Status::Yes => {
             let tables = &stored.terminal.tables;
-            yards::known(&named, tables, arguments.get_flag("absent")).map_err(|error| Error::of(path, error))?;
-            write_page(page, page::page(path, &stored, clock, &named), force(arguments))
+            known(&named, tables, arguments.get_flag("absent")).map_err(|error| Error::of(path, error))?;
+            write_page(page, sheet::sheet(path, &stored, clock, &named, &version::line()), force(arguments))
         }
         _ => Ok(report),
     }

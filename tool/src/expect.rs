@@ -4,19 +4,19 @@
 use std::path::Path;
 use std::str::FromStr;
 
+use answers::colour::verdict;
+use answers::judge::Judged;
+use answers::parse::{self, did_you_mean};
+use answers::report::{many, Report, Status};
+use answers::steps::{Act, Step};
+use answers::times::{self, Day};
+use answers::words;
 use serde_json::{json, Value};
 use tillerclover::{Answer, Permission, Terminal};
 use toml::value::Table;
 
-use crate::colour::verdict;
 use crate::error::{name, one_line, Error};
-use crate::judge::Judged;
-use crate::parse::{self, did_you_mean};
-use crate::report::{many, Report, Status};
-use crate::steps::{Act, Step};
-use crate::store::{self, Stored};
-use crate::times::{self, Day};
-use crate::{nesting, words};
+use crate::{nesting, store};
 
 /// What an answer is to be.
 #[derive(Clone, Copy, Debug, PartialEq, Eq)]
@@ -46,7 +46,7 @@ struct Checked {
 pub fn test(path: &Path) -> Result<Report, Error> {
     let suite: Suite = store::read_text(path)?.parse().map_err(|error: String| Error::of(path, error))?;
     let tables = path.parent().unwrap_or(Path::new("")).join(&suite.tables);
-    let mut terminal = Stored::read_whole(&tables, Default::default())?.terminal;
+    let mut terminal = store::whole_tables(&tables, Default::default())?.terminal;
     let results: Vec<Checked> =
         suite.expectations.iter().map(|expectation| expectation.ask(&mut terminal, suite.sequence)).collect();
     Ok(report(path, &tables, &results))
@@ -68,7 +68,7 @@ impl FromStr for Suite {
         }
         let toml: toml::Value = text.parse().map_err(|error| format!("no TOML: {error}"))?;
         let table = table(&toml, &["tables", "clock", "sequence", "expect"])?;
-        let clock = clock(table, times::now()?)?;
+        let clock = clock(table)?;
         let tables = string(table, "tables")?.ok_or("tables is missing: the file with the tables, beside this one")?;
         let list = table.get("expect").and_then(toml::Value::as_array).filter(|list| !list.is_empty());
         let list = list.ok_or("there is no [[expect]]")?;
@@ -104,18 +104,18 @@ fn flag(table: &Table, key: &str) -> Result<bool, String> {
     table.get(key).map_or(Ok(false), flag)
 }
 
-fn clock(table: &Table, otherwise: u32) -> Result<u32, String> {
+fn clock(table: &Table) -> Result<Option<u32>, String> {
     let text = match table.get("clock") {
-        None => return Ok(otherwise),
+        None => return Ok(None),
         Some(toml::Value::String(text)) => text.clone(),
         Some(value @ (toml::Value::Datetime(_) | toml::Value::Integer(_))) => value.to_string(),
         Some(value) => return Err(format!("clock is a time, not {value}")),
     };
-    times::read(&text, Day::Begins).map_err(|error| format!("clock: {error}"))
+    times::read(&text, Day::Begins).map(Some).map_err(|error| format!("clock: {error}"))
 }
 
 impl Expectation {
-    fn read(place: usize, value: &toml::Value, otherwise: u32) -> Result<Expectation, String> {
+    fn read(place: usize, value: &toml::Value, otherwise: Option<u32>) -> Result<Expectation, String> {
         let table = table(value, &["name", "record", "hand-in", "take", "clock", "answer", "permission"])?;
         let record = |key: &str| {
             let text = string(table, key)?;
@@ -133,7 +133,8 @@ impl Expectation {
             .transpose()?;
         let name = string(table, "name")?.map_or_else(|| name_of(place, &act), String::from);
         let wanted = wanted(table.get("answer").ok_or("answer is missing")?)?;
-        Ok(Expectation { name, step: Step { clock: clock(table, otherwise)?, act }, wanted, permission })
+        let clock = clock(table)?.or(otherwise).map_or_else(times::now, Ok)?;
+        Ok(Expectation { name, step: Step { clock, act }, wanted, permission })
     }
 
     /// On the tables of the file, or after the expectations before.

@@ -8,7 +8,7 @@ use std::path::{Path, PathBuf};
 use std::thread;
 use std::time::{Duration, Instant};
 
-use crate::error::{name, plain, Error, Kind};
+use crate::error::{name, plain, unreadable, Error, Kind};
 use crate::store::not_standard;
 use crate::system::{lock_among_tools, lock_record, record_holder, Lock};
 
@@ -40,14 +40,14 @@ impl Locked {
     /// Locks a file, waiting so long for other runs of this command. One that a terminal uses is an error.
     pub fn open(path: &Path, wait: Duration) -> Result<Locked, Error> {
         not_standard(path)?;
-        let unreadable = |error: io::Error| Error::unreadable(path, &error);
+        let unread = |error: io::Error| unreadable(path, &error);
         let mut waiting = Waiting { begun: Instant::now(), wait, told: false };
         for _ in 0..ATTEMPTS {
-            let locked = Locked::opened(path).map_err(unreadable)?;
+            let locked = Locked::opened(path).map_err(unread)?;
             locked.wait_for_tools(&mut waiting)?;
             // A file that is no longer at the path was replaced: by one that was waited for, or by a terminal's store.
-            let free = locked.is_at_path().map_err(unreadable)? && locked.free_of_terminals()?;
-            if free && locked.is_at_path().map_err(unreadable)? {
+            let free = locked.is_at_path().map_err(unread)? && locked.free_of_terminals()?;
+            if free && locked.is_at_path().map_err(unread)? {
                 return Ok(locked);
             }
         }
@@ -67,7 +67,7 @@ impl Locked {
     fn wait_for_tools(&self, waiting: &mut Waiting) -> Result<(), Error> {
         loop {
             match lock_among_tools(&self.file) {
-                Err(error) => return Err(Error::unreadable(&self.path, &error)),
+                Err(error) => return Err(unreadable(&self.path, &error)),
                 Ok(Lock::Held | Lock::Unsupported) => return Ok(()),
                 Ok(Lock::Refused) => {}
             }
@@ -91,13 +91,13 @@ impl Locked {
 
     /// Takes the record lock. False where it was refused, and nobody holds it any more: the file may be replaced by now.
     fn free_of_terminals(&self) -> Result<bool, Error> {
-        let unreadable = |error: io::Error| Error::unreadable(&self.path, &error);
+        let unread = |error: io::Error| unreadable(&self.path, &error);
         let refused = match self.unwritable {
             Some(_) => false,
-            None => lock_record(&self.file).map_err(unreadable)? == Lock::Refused,
+            None => lock_record(&self.file).map_err(unread)? == Lock::Refused,
         };
         let holder = match refused || self.unwritable.is_some() {
-            true => record_holder(&self.file).map_err(unreadable)?,
+            true => record_holder(&self.file).map_err(unread)?,
             false => None,
         };
         let Some(number) = holder else { return Ok(!refused) };

@@ -7,16 +7,17 @@ use std::env;
 use std::io::{self, Write};
 use std::process::ExitCode;
 
+use answers::colour;
+use answers::report::{Report, Status};
+use answers::times::{self, Zone};
 use clap::error::ErrorKind;
 use clap::ArgMatches;
 use tillerclover::yards::identified;
 use tool::arguments::text;
-use tool::colour;
 use tool::command::command;
 use tool::dispatch::{dispatch, Done};
 use tool::error::{plain, Error, Kind};
-use tool::report::{Report, Status};
-use tool::times::Zone;
+use tool::screen;
 
 fn main() -> ExitCode {
     let matches = match command().try_get_matches() {
@@ -39,7 +40,8 @@ fn main() -> ExitCode {
 }
 
 fn settings(matches: &ArgMatches) -> Result<(), Error> {
-    colour::choose(text(matches, "color").unwrap_or("auto"));
+    colour::switch(screen::colours(text(matches, "color").unwrap_or("auto")));
+    times::set_now(screen::now());
     let zone: Zone =
         text(matches, "tz").unwrap_or("UTC").parse().map_err(|error| Error::new(format!("--tz: {error}")))?;
     zone.choose();

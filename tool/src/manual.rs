@@ -1,6 +1,7 @@
 //! `completions` and `man`: scripts for shells and pages of the manual, both made
 //! from the command's own definition.
 
+use answers::parse::did_you_mean;
 use clap::{Arg, Command};
 use clap_complete::Shell;
 
@@ -23,7 +24,7 @@ pub fn page(names: &[String]) -> Result<String, Error> {
     for name in names {
         found = found.find_subcommand(name).ok_or_else(|| {
             let known: Vec<String> = found.get_subcommands().map(|one| one.get_name().into()).collect();
-            let near = crate::parse::did_you_mean(name, &known);
+            let near = did_you_mean(name, &known);
             Error::new(format!("no command '{name}'{near}; there are {}", known.join(", ")))
         })?;
     }

@@ -2,12 +2,13 @@
 
 use std::path::Path;
 
+use answers::report::{Report, Status};
+use answers::stored::{Form, Stored};
 use serde_json::json;
 use tillerclover::{Given, Terminal};
 
 use crate::error::{name, Error};
-use crate::report::{Report, Status};
-use crate::store::{self, Care, Form, Stored};
+use crate::store::{self, Care};
 
 /// Writes the tables of a new terminal, in the form of this name.
 pub fn new(path: &Path, form: Option<&str>, defaults: Given, replace: Option<Care>) -> Result<Report, Error> {

@@ -6,17 +6,18 @@ use std::io::{self, BufReader, BufWriter, IsTerminal, LineWriter, Read, Write};
 use std::path::Path;
 use std::time::{Duration, Instant};
 
+use answers::judge::{perform, step_words};
+use answers::report::Status;
+use answers::steps::{self, Act, Step};
+use answers::{hex, words};
 use clap::ArgMatches;
 use indicatif::{ProgressBar, ProgressDrawTarget, ProgressStyle};
 use serde_json::json;
 use tillerclover::{Response, Terminal};
 
-use crate::error::{plain, Error};
-use crate::judge::{perform, step_words};
-use crate::report::Status;
-use crate::steps::{Act, Step};
-use crate::store::{is_standard, Stored};
-use crate::{arguments, hex, steps, store, words};
+use crate::error::{plain, unreadable, Error};
+use crate::store::is_standard;
+use crate::{arguments, store};
 
 /// The run program reads no more.
 pub const LIMIT: u64 = 32_768;
@@ -93,7 +94,7 @@ pub fn file(arguments: &ArgMatches, json: bool) -> Result<Status, Error> {
     let name = arguments::file(arguments, "FILE");
     let given = arguments::defaults(arguments)?;
     let terminal = match arguments::path(arguments, "tables") {
-        Some(tables) => Stored::read_whole(tables, given)?.terminal,
+        Some(tables) => store::whole_tables(tables, given)?.terminal,
         None => Terminal::with_defaults(given),
     };
     let (source, length) = source(name, arguments)?;
@@ -105,7 +106,7 @@ pub fn file(arguments: &ArgMatches, json: bool) -> Result<Status, Error> {
         Ok(status) => Ok(status),
         Err(Fault::Output(error)) if error.kind() == io::ErrorKind::BrokenPipe => Ok(Status::Yes),
         Err(Fault::Output(error)) => Err(Error::new(format!("the output cannot be written: {}", plain(&error)))),
-        Err(Fault::Input(error)) => Err(Error::unreadable(name, &error)),
+        Err(Fault::Input(error)) => Err(unreadable(name, &error)),
     }
 }
 
@@ -143,9 +144,9 @@ fn opened(name: &Path) -> Result<(Box<dyn Read>, Option<u64>), Error> {
     if is_standard(name) {
         return Ok((Box::new(store::standard()?), None));
     }
-    let unreadable = |error: io::Error| Error::unreadable(name, &error);
-    let file = File::open(name).map_err(unreadable)?;
-    let data = file.metadata().map_err(unreadable)?;
+    let unread = |error: io::Error| unreadable(name, &error);
+    let file = File::open(name).map_err(unread)?;
+    let data = file.metadata().map_err(unread)?;
     if data.is_dir() {
         return Err(Error::of(name, "cannot be read: is a directory"));
     }

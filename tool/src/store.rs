@@ -10,148 +10,12 @@ use std::str::Utf8Error;
 use std::sync::atomic::{AtomicBool, Ordering};
 use std::time::Duration;
 
+use answers::stored::{without_mark, Stored};
 use tempfile::NamedTempFile;
-use tillerclover::{Given, Tables, Terminal, Waiting, FORMAT};
+use tillerclover::Given;
 
-use crate::error::{name, plain, Error, Kind};
+use crate::error::{name, plain, unreadable, Error, Kind};
 use crate::lock::Locked;
-
-/// What a file of tables holds, told by its length.
-#[derive(Clone, Copy, Debug, PartialEq, Eq)]
-pub enum Form {
-    /// The tables alone: 2,172 bytes.
-    Tables,
-    /// The tables and what waits: 8,676 bytes.
-    Memory,
-    /// The same as the example terminal keeps it, with its mark before and a checksum behind: 8,688 bytes.
-    Terminal,
-}
-
-/// With the version of the format, as the example terminal writes it.
-const MARK: [u8; 8] = [b't', b'i', b'l', b'l', b'e', b'r', b'0' + FORMAT / 10, b'0' + FORMAT % 10];
-const BOTH: usize = Tables::SIZE + Waiting::SIZE;
-
-impl Form {
-    /// All forms.
-    pub const ALL: [Form; 3] = [Form::Tables, Form::Memory, Form::Terminal];
-
-    /// How it is called on the command line.
-    pub fn name(self) -> &'static str {
-        match self {
-            Form::Tables => "tables",
-            Form::Memory => "memory",
-            Form::Terminal => "terminal",
-        }
-    }
-
-    /// How many bytes such a file has.
-    pub fn length(self) -> usize {
-        match self {
-            Form::Tables => Tables::SIZE,
-            Form::Memory => BOTH,
-            Form::Terminal => MARK.len() + BOTH + 4,
-        }
-    }
-
-    /// The form of a file with so many bytes.
-    pub fn of_length(length: usize) -> Option<Form> {
-        Form::ALL.into_iter().find(|form| form.length() == length)
-    }
-
-    /// Where the tables begin in it.
-    pub fn start(self) -> usize {
-        if self == Form::Terminal {
-            MARK.len()
-        } else {
-            0
-        }
-    }
-}
-
-/// A file of tables, read.
-#[derive(Clone, Debug, PartialEq, Eq)]
-pub struct Stored {
-    /// Its form.
-    pub form: Form,
-    /// What is in it.
-    pub terminal: Terminal,
-    /// What is wrong with mark or checksum.
-    pub damage: Option<String>,
-}
-
-impl Stored {
-    /// Reads a file of tables, damaged or not.
-    pub fn read(path: &Path, defaults: Given) -> Result<Stored, Error> {
-        Stored::of(&read(path)?, defaults).map_err(|error| Error::of(path, error))
-    }
-
-    /// Reads one that is to be judged on: a damaged file is none.
-    pub fn read_whole(path: &Path, defaults: Given) -> Result<Stored, Error> {
-        Stored::whole(path, &read(path)?, defaults)
-    }
-
-    /// The same of a file's bytes.
-    pub fn whole(path: &Path, bytes: &[u8], defaults: Given) -> Result<Stored, Error> {
-        let stored = Stored::of(bytes, defaults).map_err(|error| Error::of(path, error))?;
-        match &stored.damage {
-            Some(damage) => Err(Error::of(path, damage)),
-            None => Ok(stored),
-        }
-    }
-
-    /// The tables in a file's bytes, damaged or not.
-    pub fn of(bytes: &[u8], defaults: Given) -> Result<Stored, String> {
-        let form = Form::of_length(bytes.len()).ok_or_else(|| {
-            let [tables, memory, terminal] = Form::ALL.map(Form::length);
-            format!(
-                "ends at byte {}; a file of tables has {tables} bytes, {memory} with what waits, or {terminal} with mark \
-                 and checksum",
-                bytes.len()
-            )
-        })?;
-        let (tables, rest) = bytes[form.start()..].split_at(Tables::SIZE);
-        let mut waiting = Waiting::FRESH;
-        if form != Form::Tables {
-            waiting.bytes.copy_from_slice(&rest[..Waiting::SIZE]);
-        }
-        let tables = Tables::from_bytes(tables.try_into().expect("the tables' length"));
-        Ok(Stored { form, terminal: Terminal { tables, waiting, defaults }, damage: damage(form, bytes) })
-    }
-
-    /// Whether records wait that the form has no room for.
-    pub fn loses_waiting(&self) -> bool {
-        self.form == Form::Tables && self.terminal.waiting.count() > 0
-    }
-
-    /// The file's bytes.
-    pub fn bytes(&self) -> Vec<u8> {
-        let tables = self.terminal.tables.to_bytes();
-        let both = || [&tables[..], &self.terminal.waiting.bytes].concat();
-        match self.form {
-            Form::Tables => tables.to_vec(),
-            Form::Memory => both(),
-            Form::Terminal => {
-                let mut bytes = [&MARK[..], &both()].concat();
-                bytes.extend(crc32fast::hash(&bytes).to_le_bytes());
-                bytes
-            }
-        }
-    }
-}
-
-fn damage(form: Form, bytes: &[u8]) -> Option<String> {
-    if form != Form::Terminal {
-        return None;
-    }
-    let (before, sum) = bytes.split_at(bytes.len() - 4);
-    if !before.starts_with(&MARK) {
-        let place = MARK.iter().zip(before).position(|(one, other)| one != other).unwrap_or_default();
-        let mark = String::from_utf8_lossy(&MARK);
-        return Some(format!("damaged, or of another version: the mark '{mark}' is wrong at byte {place}"));
-    }
-    let fits = crc32fast::hash(before).to_le_bytes() == *sum;
-    (!fits).then(|| format!("damaged: the checksum at byte {} does not fit the bytes before it", before.len()))
-}
 
 /// No file of tables and no list is longer.
 const LONGEST: u64 = 65_536;
@@ -174,6 +38,16 @@ pub fn read(path: &Path) -> Result<Vec<u8>, Error> {
     read_up_to(path, LONGEST).and_then(|bytes| not_too_long(path, bytes))
 }
 
+/// The tables of a file, damaged or not.
+pub fn tables(path: &Path, defaults: Given) -> Result<Stored, Error> {
+    Stored::of(&read(path)?, defaults).map_err(|error| Error::of(path, error))
+}
+
+/// Tables that are to be judged on: a damaged file has none.
+pub fn whole_tables(path: &Path, defaults: Given) -> Result<Stored, Error> {
+    Stored::whole(path, &read(path)?, defaults)
+}
+
 /// A whole text, of at most a million bytes.
 pub fn read_text(path: &Path) -> Result<String, Error> {
     const MOST: u64 = 1 << 20;
@@ -184,11 +58,6 @@ pub fn read_text(path: &Path) -> Result<String, Error> {
     let text = std::str::from_utf8(without_mark(&bytes));
     let no_text = |error: Utf8Error| format!("is no text: byte {} is not UTF-8", error.valid_up_to());
     text.map(String::from).map_err(|error| Error::of(path, no_text(error)))
-}
-
-/// A text without the mark that some editors put before it.
-pub fn without_mark(text: &[u8]) -> &[u8] {
-    text.strip_prefix("\u{feff}".as_bytes()).unwrap_or(text)
 }
 
 /// Standard input, which is there once.
@@ -208,7 +77,7 @@ fn read_up_to(path: &Path, most: u64) -> Result<Vec<u8>, Error> {
     } else {
         File::open(path).and_then(|file| file.take(most + 1).read_to_end(&mut bytes))
     };
-    done.map_err(|error| Error::unreadable(path, &error))?;
+    done.map_err(|error| unreadable(path, &error))?;
     Ok(bytes)
 }
 
@@ -250,7 +119,7 @@ fn folder_of(target: &Path) -> &Path {
 impl Locked {
     /// The whole file.
     pub fn read(&self) -> Result<Vec<u8>, Error> {
-        let bytes = self.bytes(LONGEST + 1).map_err(|error| Error::unreadable(&self.path, &error))?;
+        let bytes = self.bytes(LONGEST + 1).map_err(|error| unreadable(&self.path, &error))?;
         not_too_long(&self.path, bytes)
     }
 
@@ -344,29 +213,4 @@ fn keep(target: &Path, old: &Locked) -> io::Result<()> {
     let bytes = old.bytes(u64::MAX)?;
     beside(&kept, &bytes, Some(&old.metadata()?))?.persist(&kept).map_err(|error| error.error)?;
     Ok(())
-}
-
-#[cfg(test)]
-mod tests {
-    use super::*;
-
-    #[test]
-    fn every_form_comes_back() {
-        for form in Form::ALL {
-            let stored = Stored { form, terminal: Terminal::new(), damage: None };
-            let bytes = stored.bytes();
-            assert_eq!(bytes.len(), form.length());
-            assert_eq!(Stored::of(&bytes, Given::default()), Ok(stored));
-        }
-    }
-
-    #[test]
-    fn damage_is_found() {
-        let bytes = Stored { form: Form::Terminal, terminal: Terminal::new(), damage: None }.bytes();
-        for place in [0, 7, 8, 20, 8683, 8684, 8687] {
-            let mut turned = bytes.clone();
-            turned[place] ^= 4;
-            assert!(Stored::of(&turned, Given::default()).unwrap().damage.is_some(), "byte {place}");
-        }
-    }
 }

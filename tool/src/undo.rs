@@ -3,14 +3,15 @@
 use std::path::Path;
 use std::time::Duration;
 
+use answers::diff::{changes, Change};
+use answers::report::{many, Report, Status};
+use answers::stored::Stored;
 use serde_json::json;
 use tillerclover::Given;
 
-use crate::diff::{changes, Change};
 use crate::error::{name, Error};
 use crate::lock::Locked;
-use crate::report::{many, Report, Status};
-use crate::store::{self, backup_path, Stored};
+use crate::store::{self, backup_path};
 
 /// Puts the kept file back; the present one is then the one that is kept.
 pub fn undo(path: &Path, wait: Duration) -> Result<Report, Error> {

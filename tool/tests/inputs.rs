@@ -2,10 +2,10 @@
 
 #![forbid(unsafe_code)]
 
+use answers::steps::{self, Act};
+use answers::times::{self, Day, Zone};
+use answers::{hex, office, parse};
 use tool::expect::Suite;
-use tool::steps::{self, Act};
-use tool::times::{self, Day, Zone};
-use tool::{hex, office, parse};
 
 const OFFICE: &str = r#"{"aclist2":[{"aceid":1,"subject":{"authority":"2","role":"7"},"resources":[{"href":"/tare"},{"wc":"+"}],"permission":6,"first":"2026-07-01","last":1790812799},{"aceid":2,"subject":{"uuid":"22222222-2222-2222-2222-222222222222"},"resources":[],"permission":31},{"aceid":3,"subject":{"conntype":"auth-crypt"},"resources":[{"href":"/weight"}],"permission":2}]}"#;
 const RECORD: &str = "UPDATE /oic/sec/acl2 as 5 number=1 subject=role:7@2 permission=RU resources=/tare,+ first=2026-07-01 last=2026-09-30T23:59:59+02:00";

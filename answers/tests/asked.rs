@@ -1,10 +1,16 @@
-//! What the tool says is put beside what the library decides, over the model's
+//! What is said is put beside what the library decides, over the model's
 //! random records, tables and lists.
 
 #![forbid(unsafe_code)]
 
-use std::io::Read;
-
+use answers::judge::Judged;
+use answers::report::Status;
+use answers::show::show;
+use answers::soundness::findings;
+use answers::steps::{Act, Step};
+use answers::stored::{Form, Stored};
+use answers::why::explain;
+use answers::{list, parse, words};
 use model::case::Case;
 use model::directory::find;
 use model::generate::{walk_groups, walk_sessions};
@@ -12,15 +18,6 @@ use model::library;
 use model::rules::{fits, resource_fits, Sender};
 use model::tables::Access;
 use tillerclover::{Ace, Answer, Body, Cred, Given, Header, Tables, Terminal};
-use tool::judge::Judged;
-use tool::report::Status;
-use tool::run::{run, Shown, LIMIT};
-use tool::show::show;
-use tool::soundness::findings;
-use tool::steps::{Act, Step};
-use tool::store::{Form, Stored};
-use tool::why::explain;
-use tool::{list, parse, words};
 
 /// The terminal of a case.
 fn terminal(case: &Case) -> Terminal {
@@ -149,22 +146,6 @@ fn lists_have_their_reasons() {
             assert!(report.text.contains(&format!("row {}, at byte {}: ", tested.row, (tested.row - 1) * Ace::LENGTH)));
         }
         assert!(!report.text.contains("row not storable"), "{}", report.text);
-    }
-}
-
-/// A run has the numbers that the run program prints.
-#[test]
-fn runs_have_the_numbers_of_the_run_program() {
-    for input in (0..60).map(|run| model::generate::run_input(1, run)) {
-        let mut text = Vec::new();
-        let shown = Shown { json: false, length: None };
-        run(input.as_slice().take(LIMIT), Terminal::new(), &shown, &mut text).expect("a text in memory");
-        let numbers = |line: &str| {
-            let words = if line.starts_with("cut") { 1 } else { 4 };
-            line.split(' ').take(words).collect::<Vec<_>>().join(" ") + "\n"
-        };
-        let text: String = String::from_utf8(text).expect("words").lines().map(numbers).collect();
-        assert_eq!(text, model::run::text(&input));
     }
 }
 

@@ -10,7 +10,7 @@ use crate::error::name;
 use crate::report::{columns, Report, Status};
 use crate::rights::{held, Probe};
 use crate::senders::Sender;
-use crate::store::Stored;
+use crate::stored::Stored;
 use crate::{show, times, words};
 
 /// What a sender may do with a resource.

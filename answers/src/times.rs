@@ -1,9 +1,8 @@
 //! Seconds of the terminal's clock as dates. The clock counts from 1970 in UTC,
 //! as the system's does; people read and write it in a zone.
 
+use std::cell::Cell;
 use std::str::FromStr;
-use std::sync::OnceLock;
-use std::time::SystemTime;
 
 use chrono::{DateTime, FixedOffset, LocalResult, NaiveDate, NaiveDateTime, NaiveTime, Offset, TimeZone, Utc};
 use chrono_tz::Tz;
@@ -18,20 +17,23 @@ pub enum Zone {
     Fixed(FixedOffset),
 }
 
-static ZONE: OnceLock<Zone> = OnceLock::new();
+thread_local! {
+    static ZONE: Cell<Zone> = const { Cell::new(Zone::UTC) };
+    static NOW: Cell<Option<u32>> = const { Cell::new(None) };
+}
 
 impl Zone {
     /// UTC.
     pub const UTC: Zone = Zone::Named(Tz::UTC);
 
-    /// Makes it the zone of all that is read and written. The first one stays.
+    /// Makes it the zone of all that this thread reads and writes.
     pub fn choose(self) {
-        let _ = ZONE.set(self);
+        ZONE.set(self);
     }
 
-    /// The one that was chosen.
+    /// The one that was chosen last; UTC before that.
     pub fn chosen() -> Zone {
-        *ZONE.get().unwrap_or(&Zone::UTC)
+        ZONE.get()
     }
 
     /// Its name, for the heads of columns.
@@ -146,10 +148,14 @@ fn moment(text: &str, day: Day) -> Option<NaiveDateTime> {
     forms.iter().find_map(|form| NaiveDateTime::parse_from_str(&text, form).ok())
 }
 
-/// The system's clock.
+/// Says which second the word `now` means, for this thread.
+pub fn set_now(second: Option<u32>) {
+    NOW.set(second);
+}
+
+/// The second that the word `now` means.
 pub fn now() -> Result<u32, String> {
-    let past = SystemTime::now().duration_since(SystemTime::UNIX_EPOCH).map(|past| past.as_secs());
-    past.ok().and_then(|past| u32::try_from(past).ok()).ok_or_else(|| "the system's clock is no clock here".into())
+    NOW.get().ok_or_else(|| "the time is not known here: write it out".into())
 }
 
 /// A second as a date with a time, in one word; with its offset where the zone is another than UTC.

@@ -1,15 +1,9 @@
 //! What is done with a terminal one thing after the other: records judged at
-//! once, handed in or taken, from arguments or from lines of a text.
-
-use std::ffi::{OsStr, OsString};
-use std::os::unix::ffi::OsStrExt;
-use std::path::Path;
+//! once, handed in or taken, one to a line of a text.
 
 use tillerclover::Verb;
 
-use crate::error::Error;
 use crate::parse;
-use crate::store;
 use crate::times::{self, Day};
 
 /// One thing that is done.
@@ -34,39 +28,6 @@ pub struct Step {
 
 /// How a record among the arguments is meant.
 pub type Make = fn(Vec<u8>) -> Act;
-
-/// The steps that arguments name. `-` stands for lines from standard input, `@FILE` for lines of a file.
-pub fn of_arguments(arguments: &[OsString], clock: u32, make: Make) -> Result<Vec<Step>, Error> {
-    let mut steps = Vec::new();
-    let mut words: Vec<String> = Vec::new();
-    for argument in arguments {
-        let Some(path) = file_of_lines(argument) else {
-            // A letter that is none is found where the record is parsed.
-            words.push(argument.to_string_lossy().into());
-            continue;
-        };
-        steps.extend(of_words(&words, clock, make)?);
-        words.clear();
-        let text = store::read_text(path)?;
-        steps.extend(of_lines(&text, clock, make).map_err(|error| Error::of(path, error))?);
-    }
-    steps.extend(of_words(&words, clock, make)?);
-    Ok(steps)
-}
-
-/// The file that an argument stands for, where it is no record itself.
-fn file_of_lines(argument: &OsStr) -> Option<&Path> {
-    match argument.as_bytes() {
-        b"-" => Some(Path::new("-")),
-        [b'@', name @ ..] => Some(Path::new(OsStr::from_bytes(name))),
-        _ => None,
-    }
-}
-
-fn of_words(words: &[String], clock: u32, make: Make) -> Result<Vec<Step>, Error> {
-    let records = parse::records(words).map_err(Error::new)?;
-    Ok(records.into_iter().map(|record| Step { clock, act: make(record) }).collect())
-}
 
 /// The steps of a text, one to a line. `#` begins a comment, and `at TIME` before a record sets the clock from there on.
 pub fn of_lines(text: &str, mut clock: u32, make: Make) -> Result<Vec<Step>, String> {

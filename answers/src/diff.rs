@@ -9,7 +9,7 @@ use tillerclover::{Ace, Asserted, Cred, Resource, Slot, Terminal, Waiting};
 
 use crate::error::name;
 use crate::report::{many, Report, Status};
-use crate::store::Stored;
+use crate::stored::Stored;
 use crate::{hex, times, words};
 
 /// What became of a thing.

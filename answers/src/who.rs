@@ -10,7 +10,7 @@ use crate::error::name;
 use crate::report::{columns, Report, Status};
 use crate::rights::{rights, Rights};
 use crate::senders::{roles, Sender};
-use crate::store::Stored;
+use crate::stored::Stored;
 use crate::{show, times, words};
 
 /// What is asked.

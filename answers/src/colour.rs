@@ -1,11 +1,11 @@
 //! Colours for a terminal: green for what passes, red for what does not, yellow
 //! for what is worth a second look. None until they are switched on.
 
-use std::env;
-use std::io::{self, IsTerminal};
-use std::sync::atomic::{AtomicBool, Ordering};
+use std::cell::Cell;
 
-static ON: AtomicBool = AtomicBool::new(false);
+thread_local! {
+    static ON: Cell<bool> = const { Cell::new(false) };
+}
 
 /// What a word is.
 #[derive(Clone, Copy, Debug, PartialEq, Eq)]
@@ -20,23 +20,14 @@ pub enum Tone {
     Head,
 }
 
-/// Switches colours on: `always`, `never`, or `auto` where a terminal shows the output and NO_COLOR is not set.
-pub fn choose(when: &str) {
-    let on = match when {
-        "always" => true,
-        "never" => false,
-        _ => {
-            let plain = env::var_os("NO_COLOR").is_some_and(|set| !set.is_empty());
-            let dumb = env::var_os("TERM").is_some_and(|name| name == "dumb");
-            io::stdout().is_terminal() && !plain && !dumb
-        }
-    };
-    ON.store(on, Ordering::Relaxed);
+/// Switches colours on or off, for what this thread writes.
+pub fn switch(on: bool) {
+    ON.set(on);
 }
 
 /// A text in its colour.
 pub fn paint(tone: Tone, text: &str) -> String {
-    if text.is_empty() || !ON.load(Ordering::Relaxed) {
+    if text.is_empty() || !ON.get() {
         return text.into();
     }
     let code = match tone {

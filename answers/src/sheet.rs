@@ -1,4 +1,4 @@
-//! `rights --html`: one page with the rights, the tables and the device state, to
+//! One sheet with the rights, the tables and the device state, as a page of HTML to
 //! print and file. It needs no script and no other file.
 
 use std::path::Path;
@@ -8,17 +8,16 @@ use tillerclover::{Ace, Cred, Permission, Resource, Tables, Terminal, Waiting};
 use crate::marks::{self, Mark};
 use crate::matrix::{matrix, short_name, Cell, Line};
 use crate::senders::Sender;
-use crate::store::Stored;
+use crate::stored::Stored;
 use crate::times::{self, Zone};
-use crate::version;
 use crate::who::ROLES_ARE_OPEN;
 use crate::words;
 use crate::yards::{self, Finding, Other, Yard};
 
-const STYLE: &str = include_str!("page.css");
+const STYLE: &str = include_str!("sheet.css");
 
-/// The page of sound tables at this clock, with the isolation of these yards.
-pub fn page(path: &Path, stored: &Stored, clock: u32, named: &[Yard]) -> String {
+/// The sheet of sound tables at this clock, with the isolation of these yards, and by whom it is written.
+pub fn sheet(path: &Path, stored: &Stored, clock: u32, named: &[Yard], by: &str) -> String {
     let terminal = &stored.terminal;
     let name = escape(&path.display().to_string());
     let sections = [
@@ -34,7 +33,7 @@ pub fn page(path: &Path, stored: &Stored, clock: u32, named: &[Yard]) -> String 
          <meta name=\"viewport\" content=\"width=device-width, initial-scale=1\">\n\
          <title>Access rights of {name}</title>\n<style>\n{STYLE}</style>\n</head>\n<body>\n{}{}</body>\n</html>\n",
         sections.concat(),
-        footer(),
+        footer(by),
     )
 }
 
@@ -220,11 +219,8 @@ fn waiting(terminal: &Terminal) -> String {
     }
 }
 
-fn footer() -> String {
-    format!(
-        "<footer>\n<p>Written by {}. Each right is an answer of the proved library.</p>\n</footer>\n",
-        escape(&version::line())
-    )
+fn footer(by: &str) -> String {
+    format!("<footer>\n<p>Written by {}. Each right is an answer of the proved library.</p>\n</footer>\n", escape(by))
 }
 
 #[cfg(test)]

@@ -10,7 +10,7 @@ use crate::error::name;
 use crate::marks::{self, Mark};
 use crate::report::{columns, Report, Status};
 use crate::soundness::{findings, Finding};
-use crate::store::Stored;
+use crate::stored::Stored;
 use crate::times::Zone;
 use crate::words;
 

@@ -3,19 +3,19 @@
 
 #![forbid(unsafe_code)]
 
+use answers::diff::changes;
+use answers::marks::{self, Mark};
+use answers::matrix::{matrix, Cell};
+use answers::plan::{shifts, Plan};
+use answers::senders::{roles, Sender};
+use answers::who::Question;
+use answers::yards::{others, Other, Yard};
+use answers::{office, why};
 use model::case::Case;
 use model::generate::walk_sessions;
 use model::library;
 use tillerclover::{record, Ace, Answer, Asserted, Body, Given, Header, Permission, Resource, State, Subject, Tables};
 use tillerclover::{Terminal, Verb, ANYONE};
-use tool::diff::changes;
-use tool::marks::{self, Mark};
-use tool::matrix::{matrix, Cell};
-use tool::plan::{shifts, Plan};
-use tool::senders::{roles, Sender};
-use tool::who::Question;
-use tool::yards::{others, Other, Yard};
-use tool::{office, why};
 
 /// Sound terminals on the way of random sessions, one in so many.
 fn visit(records: u64, one_in: u64, mut visit: impl FnMut(&Terminal, &Case)) {
@@ -83,7 +83,7 @@ fn cells_are_what_the_library_permits() {
 fn season(terminal: &Terminal, sender: Sender, clock: u32, resource: Resource, cell: &Cell) -> usize {
     let number = sender.at(terminal).1;
     let at =
-        |second: u32| tool::rights::held(&terminal.tables, second, sender.header(number, Verb::RETRIEVE, resource));
+        |second: u32| answers::rights::held(&terminal.tables, second, sender.header(number, Verb::RETRIEVE, resource));
     let rows = terminal.tables.aces();
     let over = rows.iter().filter(|row| row.period.last < clock).map(|row| row.period.last);
     let to_come = rows.iter().filter(|row| row.period.first > clock).map(|row| row.period.first);
@@ -125,7 +125,7 @@ fn who_may_and_who_could() {
 }
 
 /// Those who could are exactly those who may after the library has let them assert the role.
-fn by_roles(terminal: &Terminal, case: &Case, question: Question, could: &[tool::who::Candidate]) -> usize {
+fn by_roles(terminal: &Terminal, case: &Case, question: Question, could: &[answers::who::Candidate]) -> usize {
     let mut found = 0;
     for row in terminal.tables.creds() {
         let sender = Sender::Credential(row);
@@ -166,7 +166,7 @@ fn plans_say_what_the_library_would() {
         let planned = plan.carry_out(terminal, case.clock);
         assert_eq!(planned.is_ok(), permitted, "{}", case.line());
         let explained = why::explain(terminal, case.clock, &asked).report(0);
-        let report = tool::plan::report(explained, terminal, case.clock, &asked, &plan);
+        let report = answers::plan::report(explained, terminal, case.clock, &asked, &plan);
         let Ok(planned) = planned else { return assert!(report.json["planned"]["impossible"].is_string()) };
         assert_eq!(planned, after);
         let answer = after.ask(case.clock, &asked).answer;

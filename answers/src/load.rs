@@ -1,0 +1,177 @@
+//! Lists of access rows made of words or of the office's JSON, and loaded into a
+//! terminal as a sender's records, all or nothing.
+
+use std::path::Path;
+
+use serde_json::json;
+use tillerclover::{record, Ace, Answer, Resource, Terminal, Verb};
+
+use crate::diff::{changes, Change};
+use crate::error::{name, Error};
+use crate::list::{refusal, rows, warning};
+use crate::report::{many, Report, Status};
+use crate::steps::without_comment;
+use crate::stored::without_mark;
+use crate::{colour, office, parse, words};
+
+/// Rows that were read, and how many have a season by the extension of the office's JSON.
+pub struct Read {
+    /// The rows.
+    pub rows: Vec<Ace>,
+    /// How many of them have a season.
+    pub seasons: usize,
+}
+
+impl Read {
+    /// The bytes of the list.
+    pub fn list(&self) -> Vec<u8> {
+        self.rows.iter().flat_map(|row| row.body()).collect()
+    }
+}
+
+/// The office's JSON, or rows in words, one to a line.
+pub fn read(path: &Path, text: &str) -> Result<Read, Error> {
+    if text.trim_start().starts_with('{') {
+        let (rows, seasons) = office::read(text).map_err(|error| Error::of(path, error))?;
+        return Ok(Read { rows, seasons });
+    }
+    let mut rows = Vec::new();
+    for (place, line) in text.lines().enumerate() {
+        let line = without_comment(line);
+        if !line.is_empty() {
+            let row = parse::access_row(line);
+            rows.push(row.map_err(|error| Error::of(path, format!("line {}: {error}", place + 1)))?);
+        }
+    }
+    Ok(Read { rows, seasons: 0 })
+}
+
+/// Why no list is made of rows: there are too many, or one could not be stored.
+pub fn not_made(from: &Path, list: &[u8]) -> Option<Report> {
+    let tested = Terminal::test_list(list);
+    if !matches!(tested.answer, Answer::TEST_BAD_SIZE | Answer::TEST_NOT_STORABLE) {
+        return None;
+    }
+    let row = if tested.row == 0 { String::new() } else { format!("row {}: ", tested.row) };
+    let reason = format!("{row}{}", refusal(list, tested));
+    let text = format!("{}: not made, {}: {reason}; no file was written\n", name(from), tested.answer.number());
+    let json =
+        json!({ "file": from.display().to_string(), "answer": words::answer_json(tested.answer), "reason": reason });
+    Some(Report::new(text, json, Status::No))
+}
+
+/// What came of rows that were made a list.
+pub fn made(new: &Path, made: &Read) -> Report {
+    let list = made.list();
+    let mut text = format!("{}: {} made\n", name(new), many(made.rows.len(), "row"));
+    if made.seasons > 0 {
+        text += &format!(
+            "note: {} by first and last, which are no part of the office's own form\n",
+            many(made.seasons, "season")
+        );
+    }
+    let warning = warning(&list, Terminal::test_list(&list));
+    text += &warning.iter().map(|warning| format!("warning: {warning}\n")).collect::<String>();
+    let json = json!({
+        "file": new.display().to_string(),
+        "rows": made.rows.iter().map(words::ace_json).collect::<Vec<_>>(),
+        "seasons": made.seasons,
+        "warning": warning,
+    });
+    Report::new(text, json, Status::Yes)
+}
+
+/// The bytes of a list, which may also be the office's JSON.
+pub fn list_bytes(path: &Path, bytes: Vec<u8>) -> Result<Vec<u8>, Error> {
+    match std::str::from_utf8(without_mark(&bytes)) {
+        Ok(text) if text.trim_start().starts_with('{') && text.trim_end().ends_with('}') => {
+            Ok(read(path, text)?.list())
+        }
+        _ => Ok(bytes),
+    }
+}
+
+/// A list that is to be loaded, and how.
+pub struct Load<'a> {
+    /// The rows that the library accepts.
+    pub list: &'a [u8],
+    /// Whose records they are.
+    pub sender: u16,
+    /// The terminal's clock.
+    pub clock: u32,
+    /// Whether all access rows go before.
+    pub replace: bool,
+}
+
+impl Load<'_> {
+    /// What differs in the terminal afterwards. After a refusal it is as it was, and the report says why.
+    pub fn into_terminal(&self, tables: &Path, terminal: &mut Terminal) -> Result<Vec<Change>, Report> {
+        let before = terminal.clone();
+        match self.store_rows(terminal) {
+            Ok(()) => Ok(changes(&before, terminal)),
+            Err(refused) => {
+                *terminal = before;
+                Err(not_loaded(tables, refused))
+            }
+        }
+    }
+
+    fn store_rows(&self, terminal: &mut Terminal) -> Result<(), Refused> {
+        let all = self.replace.then(|| record(Verb::DELETE, Resource::ACL2, self.sender, &[]));
+        let one = |row: Ace| record(Verb::UPDATE, Resource::ACL2, self.sender, &row.body());
+        for record in all.into_iter().chain(rows(self.list).into_iter().map(one)) {
+            let answer = terminal.judge(self.clock, &record).answer;
+            if !answer.is_permitted() {
+                return Err(Refused { record, answer });
+            }
+        }
+        Ok(())
+    }
+}
+
+/// A record that was refused.
+struct Refused {
+    record: Vec<u8>,
+    answer: Answer,
+}
+
+fn not_loaded(tables: &Path, refused: Refused) -> Report {
+    let Refused { record, answer } = refused;
+    let refused = colour::verdict(false, "refused");
+    let text = format!(
+        "{refused}, {} {answer}: {}\n{}: unchanged; 'why' says more\n",
+        answer.number(),
+        words::record(&record),
+        name(tables)
+    );
+    let json = json!({
+        "file": tables.display().to_string(),
+        "answer": words::answer_json(answer),
+        "words": words::record(&record),
+        "written": false,
+    });
+    Report::new(text, json, Status::No)
+}
+
+/// What came of a list that was loaded, and whether the tables were written.
+pub fn loaded(tables: &Path, changes: &[Change], count: usize, (written, dry): (bool, bool)) -> Report {
+    let last = match (written, dry) {
+        (true, _) => "written",
+        (false, true) => "not written, since this is a dry run",
+        (false, false) => "unchanged",
+    };
+    let lines: String = changes.iter().map(|change| format!("  {}\n", change.text())).collect();
+    let text = format!(
+        "{} loaded, each as a record that was permitted\n{lines}{}: {last}\n",
+        many(count, "row"),
+        name(tables)
+    );
+    let json = json!({
+        "file": tables.display().to_string(),
+        "answer": words::answer_json(Answer::PERMITTED),
+        "rows": count,
+        "changes": changes.iter().map(Change::json).collect::<Vec<_>>(),
+        "written": written,
+    });
+    Report::new(text, json, Status::Yes)
+}
