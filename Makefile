@@ -26,6 +26,8 @@ LIB := $(DESTDIR)$(LIBDIR)
 INSTALLED := $(HEADERS:include/%=$(DESTDIR)$(INCLUDEDIR)/%) $(LIB)/libtillerclover.a $(LIB)/pkgconfig/tillerclover.pc \
     $(LIB)/cmake/tillerclover/tillerclover-config.cmake $(LIB)/cmake/tillerclover/tillerclover-config-version.cmake
 BY_TARGET = $(patsubst $(LIBRARIES)/%/libterminal.a,%,$(wildcard $(LIBRARIES)/*/*/libterminal.a))
+# the WebAssembly modules beside them
+MODULES = $(patsubst $(LIBRARIES)/%/terminal.wasm,%,$(wildcard $(LIBRARIES)/*/*/terminal.wasm))
 # the one among them that is the toolchain's own archive
 OWN = $(LIBRARIES)/x86_64-unknown-linux-gnu/O3/libterminal.a
 # what `make install-tool` writes
@@ -94,6 +96,7 @@ install: $(ARCHIVE) ## installs headers, archives, pkg-config file and CMake pac
 	$(INSTALL) -m 644 $(HEADERS) $(DESTDIR)$(INCLUDEDIR)/
 	$(INSTALL) -m 644 $(ARCHIVE) $(LIB)/libtillerclover.a
 	@for target in $(BY_TARGET); do $(INSTALL) -D -m 644 $(LIBRARIES)/$$target/libterminal.a $(LIB)/tillerclover/$$target/libtillerclover.a || exit 1; done
+	@for module in $(MODULES); do $(INSTALL) -D -m 644 $(LIBRARIES)/$$module/terminal.wasm $(LIB)/tillerclover/$$module/tillerclover.wasm || exit 1; done
 	$(call fill,packaging/tillerclover.pc.in) >$(LIB)/pkgconfig/tillerclover.pc
 	$(call fill,packaging/tillerclover-config.cmake.in) >$(LIB)/cmake/tillerclover/tillerclover-config.cmake
 	$(call fill,packaging/tillerclover-config-version.cmake.in) >$(LIB)/cmake/tillerclover/tillerclover-config-version.cmake

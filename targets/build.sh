@@ -10,6 +10,8 @@
 #     target/lib/TRIPLE/O3/libterminal.a    fast, as the toolchain compiles
 #     target/lib/TRIPLE/O2/libterminal.a    about a tenth smaller
 #
+# For wasm32 there is also a module beside each archive, terminal.wasm: it exports all functions and imports nothing.
+#
 # The archive for x86-64 at -O3 must be the toolchain's own, byte for byte. For the others three things of the module change,
 # none of them in a function: the triple, the data layout, and the name of the x86-64 processor. That is sound as far as the
 # exported functions are called alike everywhere, so a module where they take or give anything but pointers, 32-bit and 64-bit
@@ -27,6 +29,7 @@ TARGETS=(
     "thumbv7em-none-eabihf -mcpu=cortex-m4 -mfloat-abi=hard"
     "thumbv8m.main-none-eabi -mcpu=cortex-m33 -mfloat-abi=soft"
     "thumbv8m.main-none-eabihf -mcpu=cortex-m33 -mfloat-abi=hard"
+    "wasm32-unknown-unknown -mcpu=generic -msimd128"
 )
 OWN=x86_64-unknown-linux-gnu
 # how the toolchain calls its compiler, but for the target's words and the level
@@ -92,6 +95,9 @@ module() {
     rm -rf "$work"
 }
 
+# exported FILE: the names of the functions that the module's text exports
+exported() { sed -nE 's/^define (void|noundef i64) @(tillerclover_[a-z_]+)\(.*/\2/p' "$1"; }
+
 # The exported functions take pointers, 32-bit and 64-bit numbers, and give nothing or 64 bits.
 called_alike() {
     local others
@@ -112,6 +118,16 @@ for_target() {
     sed -E -e "s/^target triple = .*/$triple/" -e "s/^target datalayout = .*/$layout/" -e 's/ "target-cpu"="x86-64"//' "$lib/module.ll"
 }
 
+# link_module ARCHIVE MODULE: a WebAssembly module that exports every function of the archive, its memory, and where free memory
+# begins. The stack comes first in its memory: a call that needs more than there is stops, and writes over nothing.
+link_module() {
+    local name exports=()
+    for name in $(exported "$lib/module.ll"); do
+        exports+=("--export=$name")
+    done
+    "$lib/wasm-ld" --no-entry --stack-first -z stack-size=16384 --strip-all "${exports[@]}" --export=__heap_base "$1" -o "$2"
+}
+
 # build TRIPLE FLAG..
 build() {
     local folder=$lib/$1 level from=$lib/module.bc
@@ -125,6 +141,7 @@ build() {
         "$clang" --target="$1" "${@:2}" "${FLAGS[@]}" "-$level" "$from" -o "$folder/$level/terminal.o"
         "$ar" rcsD "$folder/$level/libterminal.a" "$folder/$level/terminal.o"
         rm "$folder/$level/terminal.o"
+        [[ $1 != wasm32-* ]] || link_module "$folder/$level/libterminal.a" "$folder/$level/terminal.wasm"
     done
     rm -f "$folder/module.ll"
     if [ "$1" = "$OWN" ]; then
@@ -141,6 +158,8 @@ done
 module
 "$clang" --target="$OWN" --no-default-config -Xclang -disable-llvm-passes -S -emit-llvm -x ir "$lib/module.bc" -o "$lib/module.ll"
 called_alike "$lib/module.ll"
+# the compiler links WebAssembly where it is called by this name
+ln -sfn "$clang" "$lib/wasm-ld"
 # The toolchain's own is always built, and first: where it is not the same, the others are worth nothing. Then as many at a
 # time as there are processors.
 for row in "${TARGETS[@]}"; do

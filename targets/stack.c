@@ -54,7 +54,7 @@ __attribute__((noinline)) static size_t depth(void (*call)(void))
 static tillerclover_terminal full, x;
 static tillerclover_record record;
 static uint8_t buffer[TILLERCLOVER_TEXT_MAX], rows[TILLERCLOVER_ACE_CAPACITY * TILLERCLOVER_ACE_LENGTH];
-static int answer;
+static enum tillerclover_answer answer;
 
 static void judge(void)
 {
@@ -93,7 +93,7 @@ static size_t measured(void (*call)(void))
 {
     size_t bytes = depth(call);
     if (answer != TILLERCLOVER_PERMITTED || bytes > PROMISED) {
-        printf("stack: a call is answered with %d, and takes %lu bytes\n", answer, (unsigned long)bytes);
+        printf("stack: a call is answered with %d, and takes %lu bytes\n", (int)answer, (unsigned long)bytes);
         exit(1);
     }
     return bytes;

@@ -309,6 +309,7 @@ by_target() {
     for triple in x86_64-unknown-linux-gnu thumbv7em-none-eabi; do
         mkdir -p "$work/libraries/$triple/O3" && cp "$1" "$work/libraries/$triple/O3/" || return 1
     done
+    mkdir -p "$work/libraries/wasm32-unknown-unknown/O3" && echo "a module" >"$work/libraries/wasm32-unknown-unknown/O3/terminal.wasm" || return 1
     echo "a file of the build" >"$work/libraries/module.bc"
 }
 
@@ -319,6 +320,7 @@ staged() {
     log make install "${words[@]}" && log make install-tool "${words[@]}" TOOL=tool/target/debug/tillerclover &&
         log grep -qx 'prefix=/usr' "$stage/usr/lib/pkgconfig/tillerclover.pc" &&
         log cmp "$1" "$stage/usr/lib/tillerclover/thumbv7em-none-eabi/O3/libtillerclover.a" &&
+        log cmp "$work/libraries/wasm32-unknown-unknown/O3/terminal.wasm" "$stage/usr/lib/tillerclover/wasm32-unknown-unknown/O3/tillerclover.wasm" &&
         log make uninstall "${words[@]}" && [ -z "$(find "$stage" -type f)" ] || { find "$stage" -type f && return 1; }
     echo >>"$work/libraries/x86_64-unknown-linux-gnu/O3/libterminal.a"
     ! make install "${words[@]}" >"$work/log" 2>&1 && grep -q "make targets renews it" "$work/log" && [ -z "$(find "$stage" -type f)" ] ||
