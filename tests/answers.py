@@ -278,7 +278,7 @@ SEQUENCE = (
     ("end", "", None),
     ("Note over P", "the plate is free", None),
     ("P->>L", "tillerclover_take: terminal, default rows, clock, buffer", "terminal::tillerclover_take_at"),
-    ("L->>L", "check_take: 1, 27", "judge::check_take"),
+    ("L->>L", "check_take: 1, 27", "take::check_take"),
     ("L->>M", "due_record: whose turn it is", "queue_turn::due_record"),
     ("L->>L", "decide: {rest}", "decision::decide"),
     ("L->>M", "dequeue: the place is emptied, the round moves, also where it is refused", "queue::dequeue"),

@@ -1,3 +1,4 @@
--- Laws for the proofs of this crate.
+-- Laws for the proofs of this crate, and of a record that is not executed.
 mod Laws
 mod QueueLaws
+pub mod TurnedAway

@@ -1,3 +1,2 @@
--- Laws of a record that is judged, at once or at a take, as the code does it.
+-- Laws of a record that is judged at once, as the code does it.
 mod Laws
-mod TakeLaws

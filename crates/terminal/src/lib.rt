@@ -174,7 +174,7 @@ pub extern "C" fn tillerclover_take_at(
         (became said) (became size) (became bytes) (memoryAfter counts devowner rowners creds aces queue) (was reply) (became reply) ⌝ }
 {
     let h = head_at(counts, devowner, rowners);
-    let u = judge::take(
+    let u = take::take(
         h,
         creds,
         aces,

@@ -8,9 +8,9 @@ use Rattle.rules_waiting.specs.Slots.{Seat, Round, after, roundOf, waiting, que
 use Rattle.rules_waiting.specs.Terminal.{Terminal, terminal, soundTerminal, queueAfter, turn}
 use Rattle.rules_waiting.proofs.Sound.{terminal-parts}
 use Rattle.queue.specs.Queue.{IsQueue}
-use Rattle.judge.proofs.Laws.{turned-buffer, turned-queue, turned-said}
-use Rattle.judge.proofs.TakeLaws.{seat-is, can-leave, left-queue, left-round, left-waiting, ready, nothing-taken, handed, one-taken}
-use Rattle.judge.proofs.take.Tie as tie
+use Rattle.execute.proofs.TurnedAway.{turned-buffer, turned-queue, turned-said}
+use Rattle.take.proofs.Laws.{seat-is, can-leave, left-queue, left-round, left-waiting, ready, nothing-taken, handed, one-taken}
+use Rattle.take.proofs.take.Tie as tie
 
 abbrev start : tie.After-check-take → tie.Start
 start c = c .before .before .before .before .before .before .before
@@ -143,7 +143,7 @@ returns-3 c =
     (done .execute-queued .ensures .1
     ∙ ap₂ (λ (k : Round) (ws : List Row). queueAfter (lists s) (x .tables) (request made) k ws) (left-turn left) (left-slots left))
 
-pub take-spec : {M : Type 1} → Rattle.judge.proofs.take.Statement.statement M
+pub take-spec : {M : Type 1} → Rattle.take.proofs.take.Statement.statement M
 take-spec = tie.close (tie.spec
     (λ c κs. search needs) (λ c. search needs) (λ c. search needs) (λ c κs. search needs) returns
     (λ c κs. can-take (c .before .before .before .before)) (λ c κs. search needs) (λ c κs. search needs)

@@ -4,7 +4,7 @@ use Rattle.rules.specs.Tables.{tablesOf}
 use Rattle.rules.specs.Checks.{refuseIf}
 use Rattle.rules.proofs.CheckLaws.{stop, skip, last, not-applied}
 use Rattle.queue.proofs.Queues.{count-is}
-use Rattle.judge.proofs.check_take.Tie as tie
+use Rattle.take.proofs.check_take.Tie as tie
 
 returns-2 : tie.Need-returns-2
 returns-2 c =
@@ -16,7 +16,7 @@ returns-2 c =
     (last _ _ (c .refuse-if .ensures
     ∙ ap (λ (k : ℕ). refuseIf 27 (eqb k 0)) (sym (count-is (tablesOf (s .args .h) (now (s .args .creds)) (now (s .args .aces))) (now (s .args .queue)) h))))
 
-pub check-take-spec : {M : Type 1} → Rattle.judge.proofs.check_take.Statement.statement M
+pub check-take-spec : {M : Type 1} → Rattle.take.proofs.check_take.Statement.statement M
 check-take-spec = tie.close (tie.spec
     (λ c κs. search needs) (λ c. search needs) (λ c. search needs)
     (λ c. stop _ _ _ _ (c .before .before .check-terminal .ensures) (c .enum-told2 .given .1))

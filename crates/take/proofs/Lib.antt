@@ -1,0 +1,2 @@
+-- Laws of the record whose turn it is, as the code takes it.
+mod Laws
