@@ -1,4 +1,5 @@
-/* Tillerclover: records and rows by what they say, and answers in words, for C11 and for C++11 and later.
+/* Tillerclover: records and rows by what they say, packed and read back, and answers in words, for C11 and for C++11 and
+ * later. Names of verbs, resources and states, and UUIDs as text: tillerclover_words.h.
  *
  * Nothing here decides: the library checks every field of what is packed. There is nothing to link; the functions are this
  * header's own. A field keeps the low bits that it has room for, so a number that is too large is another number.
@@ -109,6 +110,16 @@ static inline unsigned tillerclover_get_16(const uint8_t *at)
     return (unsigned)at[0] << 8 | at[1];
 }
 
+static inline uint32_t tillerclover_get_32(const uint8_t *at)
+{
+    return (uint32_t)tillerclover_get_16(at) << 16 | tillerclover_get_16(at + 2);
+}
+
+static inline uint64_t tillerclover_get_64(const uint8_t *at)
+{
+    return (uint64_t)tillerclover_get_32(at) << 32 | tillerclover_get_32(at + 4);
+}
+
 /* ---- Rows, as the bodies that store them; these are also the rows of lists and of default rows
  *
  * A row's UUID may lie in the bytes that the row is packed into: a row of a reply can be changed in its place. */
@@ -193,6 +204,126 @@ static inline void tillerclover_pack_old_row(uint8_t *bytes, const tillerclover_
     memmove(bytes + TILLERCLOVER_OLD_SUBJECT_AT, row->subject, TILLERCLOVER_UUID_LENGTH);
     bytes[TILLERCLOVER_OLD_PERMISSION_AT] = (uint8_t)((row->permission & 31) << TILLERCLOVER_OLD_PERMISSION_SHIFT);
     tillerclover_put_64(bytes + TILLERCLOVER_OLD_SET_AT, row->set);
+}
+
+/* ---- Rows read back: what a reply, a list or the tables hold, as the structs above
+ *
+ * Bytes of any content are read. A UUID is not copied: it points into the bytes that were read. Packed again, what was read
+ * is the same bytes but for zero bits that were set, and for the part of a subject that its kind does not use. */
+
+/* Of TILLERCLOVER_CRED_LENGTH bytes: a body, a row of a reply, or the first part of a row of the tables. */
+static inline tillerclover_cred tillerclover_unpack_cred(const uint8_t *body)
+{
+    tillerclover_cred row;
+    row.number = tillerclover_get_16(body + TILLERCLOVER_CRED_NUMBER_AT);
+    row.subject = body + TILLERCLOVER_CRED_SUBJECT_AT;
+    row.role = tillerclover_get_16(body + TILLERCLOVER_CRED_ROLE_AT);
+    row.authority = tillerclover_get_16(body + TILLERCLOVER_CRED_AUTHORITY_AT);
+    row.type = (unsigned)body[TILLERCLOVER_CRED_TYPE_AT] >> TILLERCLOVER_CRED_TYPE_SHIFT;
+    return row;
+}
+
+/* Of TILLERCLOVER_ACE_LENGTH bytes. Each part of the subject is read, whatever the kind: look at the one that it names. */
+static inline tillerclover_ace tillerclover_unpack_ace(const uint8_t *body)
+{
+    const unsigned word = tillerclover_get_16(body + TILLERCLOVER_ACE_WORD);
+    tillerclover_ace row;
+    row.number = tillerclover_get_16(body + TILLERCLOVER_ACE_NUMBER_AT);
+    row.kind = (enum tillerclover_subject)(word >> TILLERCLOVER_ACE_KIND_SHIFT & 3);
+    row.uuid = body + TILLERCLOVER_ACE_SUBJECT_AT;
+    row.role = tillerclover_get_16(body + TILLERCLOVER_ACE_ROLE_AT);
+    row.authority = tillerclover_get_16(body + TILLERCLOVER_ACE_AUTHORITY_AT);
+    row.connection =
+        (body[TILLERCLOVER_ACE_CONNECTION_AT] & 1) != 0 ? TILLERCLOVER_AUTH_CRYPT : TILLERCLOVER_ANON_CLEAR;
+    row.permission = word >> TILLERCLOVER_ACE_PERMISSION_SHIFT & 31;
+    row.wildcards = word >> TILLERCLOVER_ACE_WILDCARDS_SHIFT & 7;
+    row.set = tillerclover_get_64(body + TILLERCLOVER_ACE_SET_AT);
+    row.first = tillerclover_get_32(body + TILLERCLOVER_ACE_FIRST_AT);
+    row.last = tillerclover_get_32(body + TILLERCLOVER_ACE_LAST_AT);
+    return row;
+}
+
+/* Of TILLERCLOVER_ROLE_LENGTH bytes. */
+static inline tillerclover_role tillerclover_unpack_role(const uint8_t *body)
+{
+    tillerclover_role role;
+    role.role = tillerclover_get_16(body + TILLERCLOVER_ASSERTED_ROLE_AT);
+    role.authority = tillerclover_get_16(body + TILLERCLOVER_ASSERTED_AUTHORITY_AT);
+    role.last = tillerclover_get_32(body + TILLERCLOVER_ASSERTED_LAST_AT);
+    return role;
+}
+
+/* Of TILLERCLOVER_OLD_ROW_LENGTH bytes. */
+static inline tillerclover_old_row tillerclover_unpack_old_row(const uint8_t *bytes)
+{
+    tillerclover_old_row row;
+    row.subject = bytes + TILLERCLOVER_OLD_SUBJECT_AT;
+    row.permission = (unsigned)bytes[TILLERCLOVER_OLD_PERMISSION_AT] >> TILLERCLOVER_OLD_PERMISSION_SHIFT;
+    row.set = tillerclover_get_64(bytes + TILLERCLOVER_OLD_SET_AT);
+    return row;
+}
+
+/* ---- Rows of the tables, one by one
+ *
+ *     for (size_t i = 0; i < tillerclover_cred_count(&terminal.tables); i++) {
+ *         tillerclover_cred row = tillerclover_unpack_cred(tillerclover_cred_row(&terminal.tables, i));
+ *         ..
+ *     }
+ *
+ * Tables that are not sound may hold anything; no byte outside them is read. */
+
+/* How many rows are held, at most as many as there is room for. */
+static inline size_t tillerclover_cred_count(const tillerclover_tables *tables)
+{
+    return tables->ncreds < TILLERCLOVER_CRED_CAPACITY ? tables->ncreds : (size_t)TILLERCLOVER_CRED_CAPACITY;
+}
+
+static inline size_t tillerclover_ace_count(const tillerclover_tables *tables)
+{
+    return tables->naces < TILLERCLOVER_ACE_CAPACITY ? tables->naces : (size_t)TILLERCLOVER_ACE_CAPACITY;
+}
+
+/* The row with this index, from 0; NULL if no such row is held. */
+static inline const uint8_t *tillerclover_cred_row(const tillerclover_tables *tables, size_t index)
+{
+    return index < tillerclover_cred_count(tables) ? tables->creds + index * TILLERCLOVER_CRED_ROW_LENGTH : NULL;
+}
+
+static inline const uint8_t *tillerclover_ace_row(const tillerclover_tables *tables, size_t index)
+{
+    return index < tillerclover_ace_count(tables) ? tables->aces + index * TILLERCLOVER_ACE_LENGTH : NULL;
+}
+
+/* One of the two roles that a credential row's partner asserted, `slot` 0 or 1; role 0 if there is none. */
+static inline tillerclover_role tillerclover_asserted_role(const uint8_t *cred_row, size_t slot)
+{
+    static const uint8_t none[TILLERCLOVER_ROLE_LENGTH] = {0};
+    return tillerclover_unpack_role(slot < TILLERCLOVER_ROLE_CAPACITY
+                                        ? cred_row + TILLERCLOVER_CRED_LENGTH + slot * TILLERCLOVER_ROLE_LENGTH
+                                        : none);
+}
+
+/* The first row with this number; NULL if none has it. The library does not ask these: it looks for itself. */
+static inline const uint8_t *tillerclover_find_cred(const tillerclover_tables *tables, unsigned number)
+{
+    for (size_t i = 0; i < tillerclover_cred_count(tables); i++) {
+        const uint8_t *row = tillerclover_cred_row(tables, i);
+        if (tillerclover_get_16(row + TILLERCLOVER_CRED_NUMBER_AT) == number) {
+            return row;
+        }
+    }
+    return NULL;
+}
+
+static inline const uint8_t *tillerclover_find_ace(const tillerclover_tables *tables, unsigned number)
+{
+    for (size_t i = 0; i < tillerclover_ace_count(tables); i++) {
+        const uint8_t *row = tillerclover_ace_row(tables, i);
+        if (tillerclover_get_16(row + TILLERCLOVER_ACE_NUMBER_AT) == number) {
+            return row;
+        }
+    }
+    return NULL;
 }
 
 /* ---- Records */

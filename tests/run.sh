@@ -156,7 +156,10 @@ test_model() {
 
 # The Rust binding, as it is packaged: its tests, the examples of its documentation, its programs, and without an allocator.
 test_binding() {
-    need_cargo && library || return 1
+    need_cargo && need cc gcc && library || return 1
+    # What the headers read of rows and names, which the binding's test `words` reads too.
+    c_program words -g -fsanitize=address,undefined -fno-sanitize-recover=all tests/words.c && "$work/words" >"$work/words.lines" || return 1
+    export TILLERCLOVER_WORDS=$work/words.lines
     log in_binding cargo package --quiet --locked --offline --no-verify --allow-dirty &&
         rm -rf "$packaged/tillerclover-0.1.0" && mkdir -p "$packaged" &&
         log tar -xmf bindings/rust/target/package/tillerclover-0.1.0.crate -C "$packaged" &&
@@ -225,6 +228,7 @@ test_interface() {
     local language name failed=0
     for language in c11 c17 c++11 c++17 c++20; do
         compiles $language 'int interface(void) { return TILLERCLOVER_INTERFACE + TILLERCLOVER_FORMAT; }' &&
+            compiles $language '#include "tillerclover_words.h"' &&
             compiles $language $'#ifdef __GLIBC__\n#include "tillerclover_records.h"\n#endif' ||
             { cat "$work/log" && echo "interface: $language does not take the headers" && failed=1; }
         ! compiles $language 'void dropped(tillerclover_terminal *t) { tillerclover_hand_in(t, 0, 0); }' ||

@@ -1,0 +1,1 @@
+../../../include/tillerclover_words.h
