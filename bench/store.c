@@ -89,7 +89,7 @@ static void take_turn(unsigned seed, int print)
     for (size_t i = 0; i < sizeof body; i++)
         body[i] = (uint8_t)(i + seed * 61);
     tillerclover_record r = tillerclover_request(TILLERCLOVER_UPDATE, TILLERCLOVER_TARE, 0, body, sizeof body);
-    if (tillerclover_hand_in(&x, r.bytes, r.length).answer != TILLERCLOVER_PERMITTED)
+    if (tillerclover_hand_in(&x, r.bytes, r.length).answer != TILLERCLOVER_KEPT)
         exit(1);
     print ? stored("a record of 64 bytes is handed in, after another one was taken") : silently();
     if (tillerclover_take(&x, NULL, 0, reply, sizeof reply).record_length != r.length)

@@ -133,7 +133,7 @@ static unsigned disturb(tillerclover_terminal *t)
     tillerclover_record weight = tillerclover_request_bare(TILLERCLOVER_RETRIEVE, TILLERCLOVER_WEIGHT, 7);
     unsigned count = 0;
     for (int i = 0; i < FLOOD; i++) {
-        count += hand_in(t, weight) == TILLERCLOVER_PERMITTED;
+        count += hand_in(t, weight) == TILLERCLOVER_KEPT;
     }
     const tillerclover_record tries[] = {
         tillerclover_assert_role(9, &(tillerclover_role){.role = FOREMAN, .authority = WORKS, .last = UINT32_MAX}),

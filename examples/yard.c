@@ -61,7 +61,7 @@ static void hand_in(const char *what, tillerclover_record r)
 {
     tillerclover_outcome o = tillerclover_hand_in(&terminal, r.bytes, r.length);
     printf("%-43s answer %2u, %s\n", what, (unsigned)o.answer,
-           o.answer == TILLERCLOVER_PERMITTED ? "it waits" : tillerclover_answer_text(o.answer));
+           o.answer == TILLERCLOVER_KEPT ? "it waits" : tillerclover_answer_text(o.answer));
 }
 
 /* Takes the records whose turn it is, until none waits. */

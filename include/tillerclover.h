@@ -33,8 +33,8 @@
 #include <stddef.h>
 #include <stdint.h>
 
-/* The two macros of this block are the header's own, and undefined at its end. A result that is dropped is an error: with it
- * goes the decision, or whether a record is kept. */
+/* The macros of this block are the header's own, and undefined at its end. A result that is dropped is an error: with it
+ * goes the decision, or whether a record is kept. A terminal that is a null pointer is an error too. */
 #ifdef __cplusplus
 #define TILLERCLOVER_ASSERT(condition, text) static_assert(condition, text)
 #else
@@ -46,6 +46,11 @@
 #define TILLERCLOVER_RESULT __attribute__((warn_unused_result))
 #else
 #define TILLERCLOVER_RESULT
+#endif
+#ifdef __GNUC__
+#define TILLERCLOVER_NONNULL __attribute__((nonnull(1)))
+#else
+#define TILLERCLOVER_NONNULL
 #endif
 
 #ifdef __cplusplus
@@ -248,6 +253,8 @@ enum {
  * tillerclover_convert_list's. */
 enum tillerclover_answer {
     TILLERCLOVER_PERMITTED = 0,
+    /* of a hand-in: the record is kept, and nobody has judged it yet */
+    TILLERCLOVER_KEPT = 0,
     /* the tables are not sound, or the memory of waiting records is not */
     TILLERCLOVER_NOT_SOUND = 1,
     /* the record has under 4 or over 256 bytes */
@@ -536,15 +543,17 @@ void tillerclover_convert_list_at(const uint8_t *file, uint64_t length, uint8_t 
 /* ---- Functions */
 
 /* A new terminal, in memory of any content: state RFOTM, no owner, the default rows, and nothing waits. */
+TILLERCLOVER_NONNULL
 static inline void tillerclover_fresh(tillerclover_terminal *terminal, const tillerclover_defaults *defaults);
 
 /* The clear button: a new terminal, whatever was there, also memory that was never written. */
+TILLERCLOVER_NONNULL
 static inline void tillerclover_clear(tillerclover_terminal *terminal, const tillerclover_defaults *defaults);
 
 /* Whether tables and waiting records are sound. Where they are not, every record gets TILLERCLOVER_NOT_SOUND until
  * tillerclover_clear; ask when the power comes on. */
-TILLERCLOVER_RESULT
-static inline bool tillerclover_is_sound(const tillerclover_terminal *terminal);
+TILLERCLOVER_RESULT TILLERCLOVER_NONNULL static inline bool
+tillerclover_is_sound(const tillerclover_terminal *terminal);
 
 /* Judges a record of `length` bytes at once, with a buffer of `capacity` bytes for a reply. It waits in no queue and leaves
  * those that do where they are, but for these: with a deleted credential row its waiting record goes, and after a RESET none
@@ -567,20 +576,17 @@ static inline bool tillerclover_is_sound(const tillerclover_terminal *terminal);
  * Who sent the record is believed: the session layer vouches for the connection bit and the
  * credential number, and hands over no record whose number is another sender's.
  */
-TILLERCLOVER_RESULT
-static inline tillerclover_outcome tillerclover_judge(tillerclover_terminal *terminal,
-                                                      const tillerclover_defaults *defaults, uint32_t clock,
-                                                      const uint8_t *record, size_t length, uint8_t *reply,
-                                                      size_t capacity);
+TILLERCLOVER_RESULT TILLERCLOVER_NONNULL static inline tillerclover_outcome
+tillerclover_judge(tillerclover_terminal *terminal, const tillerclover_defaults *defaults, uint32_t clock,
+                   const uint8_t *record, size_t length, uint8_t *reply, size_t capacity);
 
 /* Hands a record of `length` bytes in: it waits in its sender's place, byte for byte, until its turn comes.
- * TILLERCLOVER_PERMITTED says no more than that it is kept; whether it may pass is decided at its take. The
+ * TILLERCLOVER_KEPT says no more than that; whether the record may pass is decided at its take. The
  * outcome's other fields are 0. A sender whose record waits gets TILLERCLOVER_OCCUPIED. The tables stay, and on a refusal
  * the waiting records too, byte for byte.
  */
-TILLERCLOVER_RESULT
-static inline tillerclover_outcome tillerclover_hand_in(tillerclover_terminal *terminal, const uint8_t *record,
-                                                        size_t length);
+TILLERCLOVER_RESULT TILLERCLOVER_NONNULL static inline tillerclover_outcome
+tillerclover_hand_in(tillerclover_terminal *terminal, const uint8_t *record, size_t length);
 
 /* Takes the record whose turn it is, and judges it as tillerclover_judge does, at this clock. Turns go round
  * from the unauthenticated senders' place through the credential rows in table order, starting after the last
@@ -588,10 +594,9 @@ static inline tillerclover_outcome tillerclover_hand_in(tillerclover_terminal *t
  * removed and the tables are not cleared. The place is emptied also where the record is refused. With
  * TILLERCLOVER_NOTHING_WAITING, and where the terminal is not sound, nothing changes.
  */
-TILLERCLOVER_RESULT
-static inline tillerclover_taken tillerclover_take(tillerclover_terminal *terminal,
-                                                   const tillerclover_defaults *defaults, uint32_t clock,
-                                                   uint8_t *reply, size_t capacity);
+TILLERCLOVER_RESULT TILLERCLOVER_NONNULL static inline tillerclover_taken
+tillerclover_take(tillerclover_terminal *terminal, const tillerclover_defaults *defaults, uint32_t clock,
+                  uint8_t *reply, size_t capacity);
 
 /* The access list as the office's JSON, `{"aclist2":[..]}` with the rows in table order: ASCII
  * with no white space and no byte 0 at its end. Rows with a shorter period than 0 to 4,294,967,295 are left
@@ -601,9 +606,8 @@ static inline tillerclover_taken tillerclover_take(tillerclover_terminal *termin
  * text    is a buffer of `capacity` bytes; TILLERCLOVER_TEXT_MAX fits every text. The bytes behind the text keep
  *         their contents, and so do all of them where there is none.
  */
-TILLERCLOVER_RESULT
-static inline tillerclover_listed tillerclover_access_list(const tillerclover_terminal *terminal, uint8_t *text,
-                                                           size_t capacity);
+TILLERCLOVER_RESULT TILLERCLOVER_NONNULL static inline tillerclover_listed
+tillerclover_access_list(const tillerclover_terminal *terminal, uint8_t *text, size_t capacity);
 
 /* Tests a list of access rows before it is loaded: rows of TILLERCLOVER_ACE_LENGTH bytes one after the
  * other, each as the tables hold it. The size comes first, then row by row TILLERCLOVER_TEST_NOT_STORABLE
@@ -790,5 +794,6 @@ TILLERCLOVER_ASSERT(sizeof(size_t) <= sizeof(uint64_t), "the library's lengths h
 
 #undef TILLERCLOVER_ASSERT
 #undef TILLERCLOVER_RESULT
+#undef TILLERCLOVER_NONNULL
 
 #endif

@@ -85,9 +85,8 @@ void tillerclover_isolated_at(const uint8_t counts[4], const uint8_t devowner[16
  * Ask again after each permitted UPDATE of DOXM, PSTAT, CRED or ACL2 by somebody who is on no list that was found isolated, after the
  * clear button, and when the tables come from storage. Nothing else ends isolation.
  */
-TILLERCLOVER_RESULT
-static inline tillerclover_isolation tillerclover_isolated(const tillerclover_terminal *terminal,
-                                                           const unsigned char *senders, size_t length)
+TILLERCLOVER_RESULT TILLERCLOVER_NONNULL static inline tillerclover_isolation
+tillerclover_isolated(const tillerclover_terminal *terminal, const unsigned char *senders, size_t length)
 {
     const tillerclover_tables *tables = &terminal->tables;
     uint64_t said[3];

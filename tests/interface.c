@@ -287,7 +287,7 @@ static void stored_rows(void)
     expect(o.answer == TILLERCLOVER_MISSING && nothing_but_answer(&o), "a refusal names places");
     o = judge(tillerclover_delete_subject(100, HAULIER_UUID));
     expect(o.answer == TILLERCLOVER_MISSING && nothing_but_answer(&o), "a subject without rows was deleted");
-    expect(hand_in(tillerclover_delete_row(TILLERCLOVER_ACL2, 100, 231)).answer == TILLERCLOVER_PERMITTED,
+    expect(hand_in(tillerclover_delete_row(TILLERCLOVER_ACL2, 100, 231)).answer == TILLERCLOVER_KEPT,
            "a record was not kept");
     o = take().outcome;
     expect(o.store_table == TILLERCLOVER_ACES && o.store_first == 30 && o.store_count == 1,
@@ -551,7 +551,7 @@ static void default_rows(void)
     tillerclover_outcome o = tillerclover_judge(x, &defaults, 0, r.bytes, r.length, reply, sizeof reply);
     expect(o.answer == TILLERCLOVER_PERMITTED && holds(&expected), "RESET has other default rows");
     fresh();
-    expect(hand_in(r).answer == TILLERCLOVER_PERMITTED, "a record was not kept");
+    expect(hand_in(r).answer == TILLERCLOVER_KEPT, "a record was not kept");
     o = tillerclover_take(x, &defaults, 0, reply, sizeof reply).outcome;
     expect(o.answer == TILLERCLOVER_PERMITTED && holds(&expected), "a RESET that is taken has other default rows");
     guarded();
@@ -643,7 +643,7 @@ static void queued_records(void)
     expect(taken.outcome.answer == TILLERCLOVER_NOTHING_WAITING && taken.record_length == 0 && holds(&tables),
            "something was taken where nothing waits");
     tillerclover_outcome o = hand_in(r);
-    expect(o.answer == TILLERCLOVER_PERMITTED && nothing_but_answer(&o), "a record was not kept");
+    expect(o.answer == TILLERCLOVER_KEPT && nothing_but_answer(&o), "a record was not kept");
     expected.bytes[TILLERCLOVER_WAITING_COUNT_AT] = 1;
     slot[TILLERCLOVER_SLOT_SENDER_AT] = 1;
     slot[TILLERCLOVER_SLOT_SENDER_AT + 1] = 2;
@@ -686,7 +686,7 @@ static void sound_queues(void)
     tillerclover_record first = bare(TILLERCLOVER_RETRIEVE, TILLERCLOVER_PSTAT, OWNER);
     tillerclover_record second = bare(TILLERCLOVER_RETRIEVE, TILLERCLOVER_PSTAT, HAULIER);
     uint8_t *at = x->waiting.bytes + TILLERCLOVER_WAITING_ROUND_AT;
-    expect(hand_in(second).answer == TILLERCLOVER_PERMITTED && hand_in(first).answer == TILLERCLOVER_PERMITTED,
+    expect(hand_in(second).answer == TILLERCLOVER_KEPT && hand_in(first).answer == TILLERCLOVER_KEPT,
            "a record was not kept");
     const tillerclover_waiting both = x->waiting;
     expect(tillerclover_is_sound(x) && tillerclover_record_sender(take().record) == OWNER, "slots have an order");

@@ -105,7 +105,7 @@ static void loads(const struct kind *k, bool warm)
     garbage(cells, sizeof cells);
     worn = UINT64_MAX;
     tillerclover_fresh(&terminal, NULL);
-    expect(tillerclover_hand_in(&terminal, RETRIEVE_DOXM, sizeof RETRIEVE_DOXM).answer == TILLERCLOVER_PERMITTED,
+    expect(tillerclover_hand_in(&terminal, RETRIEVE_DOXM, sizeof RETRIEVE_DOXM).answer == TILLERCLOVER_KEPT,
            "a record waits");
     tillerclover_terminal stored = terminal;
     loads_again = 0;

@@ -233,7 +233,9 @@ test_interface() {
             { cat "$work/log" && echo "interface: $language does not take the headers" && failed=1; }
         ! compiles $language 'void dropped(tillerclover_terminal *t) { tillerclover_hand_in(t, 0, 0); }' ||
             { echo "interface: in $language a result may be dropped" && failed=1; }
-        compiles $language $'#if defined TILLERCLOVER_ASSERT || defined TILLERCLOVER_RESULT\n#error\n#endif' ||
+        ! compiles $language 'void none(void) { tillerclover_clear(0, 0); }' ||
+            { echo "interface: in $language a terminal may be a null pointer" && failed=1; }
+        compiles $language $'#if defined TILLERCLOVER_ASSERT || defined TILLERCLOVER_RESULT || defined TILLERCLOVER_NONNULL\n#error\n#endif' ||
             { echo "interface: in $language the header leaves a macro of its own" && failed=1; }
     done
     for name in interface records yards; do

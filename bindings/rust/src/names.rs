@@ -234,6 +234,9 @@ named! {
 impl Error for Answer {}
 
 impl Answer {
+    /// Of a hand-in: the record is kept, and nobody has judged it yet. It is the number of [`Answer::PERMITTED`].
+    pub const KEPT: Answer = Answer(0);
+
     /// The checks of a record in the order in which they are made; the first that applies is the answer.
     pub const CHECKS: [Answer; 17] = [
         Answer::NOT_SOUND,
@@ -255,9 +258,14 @@ impl Answer {
         Answer::NO_ROOM,
     ];
 
-    /// Whether it is 0.
+    /// Whether it is 0. Of a hand-in ask [`Answer::is_kept`] instead.
     pub fn is_permitted(self) -> bool {
         self == Answer::PERMITTED
+    }
+
+    /// Whether it is 0, of a hand-in: the record waits. Whether it may pass is decided at its take.
+    pub fn is_kept(self) -> bool {
+        self == Answer::KEPT
     }
 }
 

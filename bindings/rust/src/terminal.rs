@@ -30,7 +30,7 @@ impl Given {
 /// use tillerclover::{record, Answer, Resource, Terminal, Verb, ANYONE};
 /// let mut yard = Terminal::new();
 /// let read = record(Verb::RETRIEVE, Resource::DOXM, ANYONE, &[]);
-/// assert_eq!(yard.hand_in(&read), Answer::PERMITTED);
+/// assert_eq!(yard.hand_in(&read), Answer::KEPT);
 /// assert_eq!(yard.hand_in(&read), Answer::OCCUPIED);
 /// let (taken, judged) = yard.take(0);
 /// assert_eq!((taken, judged.reply.len()), (read, 33));

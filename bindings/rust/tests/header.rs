@@ -42,7 +42,8 @@ fn every_number_with_a_name() {
     same("connection", &Connection::ALL.iter().map(|one| one.number()).collect::<Vec<_>>());
     same("resource", &Resource::ALL.iter().map(|one| one.number()).collect::<Vec<_>>());
     same("state", &State::ALL.iter().map(|one| one.number()).collect::<Vec<_>>());
-    same("answer", &Answer::ALL.iter().map(|one| one.number()).collect::<Vec<_>>());
+    // 0 has two names: a record that is judged, and one that is handed in
+    same("answer", &[&[Answer::KEPT], Answer::ALL].concat().iter().map(|one| one.number()).collect::<Vec<_>>());
     same("permission", &[1, 2, 4, 8, 16, Permission::ALL.number()]);
     same("wildcard", &[Wildcards::ALL, Wildcards::UNSECURE, Wildcards::SECURE].map(Wildcards::number));
 }
@@ -60,6 +61,8 @@ fn names_mean_the_same() {
         ("YARD", Resource::YARD.number()),
         ("RESET", State::RESET.number()),
         ("RFNOP", State::RFNOP.number()),
+        ("PERMITTED", Answer::PERMITTED.number()),
+        ("KEPT", Answer::KEPT.number()),
         ("NOT_PERMITTED", Answer::NOT_PERMITTED.number()),
         ("NO_ENDPOINT", Answer::NO_ENDPOINT.number()),
         ("ROLES_FULL", Answer::ROLES_FULL.number()),
