@@ -94,5 +94,11 @@ pub fn tables_sound<'a>(h: Head, creds: &'a [u8; CRED_ROWS], aces: &'a [u8; ACE_
 {
     let ncreds = h.ncreds as usize;
     let naces = h.naces as usize;
-    head_sound(h) & creds_sound(ncreds, creds) & aces_sound(naces, aces)
+    if !head_sound(h) {
+        return false;
+    }
+    if !creds_sound(ncreds, creds) {
+        return false;
+    }
+    aces_sound(naces, aces)
 }

@@ -2,6 +2,7 @@
 // A test for each field, in the order of the layout; a body of another length is no row.
 use fields::ace;
 use fields::after;
+use fields::asserted::authority;
 use fields::asserted::no_role;
 use fields::asserted::same_role;
 use fields::be16;
@@ -108,7 +109,11 @@ fn roles_sound(row: &[u8]) -> bool
 {
     let first = cred::role_place(row, 0);
     if no_role(first) {
-        return short_zero(after(row, CRED_BODY));
+        // its role is 0: what is left is the authority, and all behind the role
+        if !short_zero(after(row, CRED_BODY + 4)) {
+            return false;
+        }
+        return authority(first) == 0;
     }
     let second = cred::role_place(row, 1);
     if no_role(second) {
