@@ -12,7 +12,7 @@ root=$PWD
 program=$(realpath "$1") || exit 2
 shift
 
-ALL=(documents keys tables store records locks backups questions yards page lists office runs lines expectations habits bad hostile crowd disk kills)
+ALL=(documents keys tables store records faults silences locks backups questions yards page lists office runs lines expectations habits bad hostile crowd disk kills)
 work=$(mktemp -d) || exit 2
 small=$work/small
 trap 'umount "$small" 2>/dev/null; rm -rf "$work"' EXIT
@@ -151,6 +151,102 @@ part_records() {
     # RESET gives the fresh tables
     gives 0 "owner $owner -> none" judge a UPDATE /oic/sec/pstat as 5 state=RESET
     tillerclover new --force fresh >/dev/null && cmp -s a fresh || fault "after a RESET the tables are not fresh"
+}
+
+# What once was said wrongly, or not at all.
+part_faults() {
+    local place
+    yard a
+    # a damaged file is not the same as a whole one: checksum, mark, version of the format
+    for place in 8687 0 7; do
+        cp a b && bytes 7e | dd of=b bs=1 seek=$place conv=notrunc status=none
+        gives 1 "b: damaged" diff a b
+        gives 1 "b: damaged" diff b a
+        gives 1 "a and b hold the same tables and waiting records" diff a b
+        gives 1 '"same": false' diff --json a b
+    done
+    # a season that is renewed: the next one shows beside the last one
+    tillerclover judge a UPDATE /oic/sec/pstat as 5 state=RFPRO UPDATE /oic/sec/acl2 as 5 number=3 "subject=$haulier" permission=U resources=/tare \
+        first=2027-07-01 last=2027-09-30 UPDATE /oic/sec/pstat as 5 state=RFNOP >/dev/null || fault "no renewed season"
+    gives 0 "ru<u>" rights a --clock 2026-12-01
+    tillerclover rights a --clock 2026-12-01 --html - | grep -q 'RU over</span><span class="come">U to come' || fault "the page hides a renewed season"
+    # what is no text is no record
+    for place in judge why; do
+        gives 2 "is no text, since it is not UTF-8; hex:.. takes any bytes" $place a $'UPDATE /tare as 7 text:\xff'
+        gives 2 "is no text, since it is not UTF-8; hex:.. takes any bytes" $place a UPDATE /tare as 7 $'text:\xff'
+    done
+    # how many rows, and which
+    tillerclover list text a >out 2>errors
+    grep -qx "tillerclover: a: 2 rows with a season are left out, numbers 1, 3; --seasons writes them too" errors || fault "left out: $(cat errors)"
+    # the number that stands twice, and not the row before that gives too much
+    printf '%s\n' "number=1 subject=auth-crypt permission=U resources=/oic/sec/acl2" "number=2 subject=auth-crypt permission=R resources=/weight" \
+        "number=2 subject=auth-crypt permission=R resources=/tare" >rows
+    gives 1 "rows: not made, 20: row 3: repeats number 2 of row 2; no file was written" list make rows gone
+    # a report of a change that nobody can read
+    yard a
+    cp a before
+    tillerclover judge a UPDATE /oic/sec/pstat as 5 state=RFPRO >&- 2>errors
+    [ $? -eq 4 ] && grep -q "a: WAS changed, but the output cannot be written: broken pipe" errors || fault "a closed output: $(cat errors)"
+    ! cmp -s a before || fault "the closed output kept the change"
+    tillerclover judge a RETRIEVE /oic/sec/doxm as 5 >&- 2>errors || fault "a closed output without a change: $? $(cat errors)"
+    (sleep 0.3; tillerclover judge a UPDATE /oic/sec/pstat as 5 state=RFNOP 2>errors; echo $? >status) | true
+    [ "$(cat status)" -eq 4 ] || fault "a reader that left before the report of a change: $(cat status errors)"
+    gives 0 "RFNOP" show a
+}
+
+# What costs a day where it is not said: locked out, a plate that does not weigh, rows worth a second look, half of the records.
+part_silences() {
+    # an owner without a credential row
+    tillerclover new a >/dev/null && cp a before
+    gives 2 "a: after this nobody can change an owner, the state or a row any more" judge a UPDATE /oic/sec/doxm "owner=$owner"
+    gives 2 "nothing was changed; --force does it" judge a UPDATE /oic/sec/doxm "owner=$owner"
+    cmp -s a before || fault "a change that locks out was written"
+    gives 0 "a: from now on nobody can change an owner" judge a --dry-run UPDATE /oic/sec/doxm "owner=$owner"
+    gives 0 "a: from now on nobody can change an owner" judge a --force UPDATE /oic/sec/doxm "owner=$owner"
+    gives 0 "note        nobody can change an owner, the state or a row any more" show a
+    gives 0 '"locked_out": true' show a --json
+    gives 1 "note    nobody can change an owner, the state or a row any more" why a UPDATE /oic/sec/pstat state=RFPRO
+    # the owner's own row deleted; and what was locked before is no new fault
+    yard a
+    gives 0 '"locked_out": false' show a --json
+    gives 0 "a: the state is RFPRO: nothing is weighed until it is RFNOP" judge a UPDATE /oic/sec/pstat as 5 state=RFPRO
+    gives 2 "nothing was changed; --force does it" judge a DELETE /oic/sec/cred as 5 number=5
+    gives 0 "credential row 5 removed" judge a --force DELETE /oic/sec/cred as 5 number=5
+    gives 1 "refused" judge a UPDATE /oic/sec/pstat as 7 state=RFNOP
+    # a list that takes the last right away
+    yard a
+    tillerclover judge a UPDATE /oic/sec/pstat as 5 state=RFPRO UPDATE /oic/sec/acl2 as 5 number=9 "subject=$haulier" permission=CRUD \
+        resources=/oic/sec/acl2,/oic/sec/cred,/oic/sec/pstat DELETE /oic/sec/cred as 7 number=5 >/dev/null || fault "no terminal of a partner's"
+    printf 'number=9 subject=auth-crypt permission=R resources=/weight\n' >rows && tillerclover list make rows list >/dev/null
+    cp a before
+    gives 2 "nothing was changed; --force does it" list load list a as 7
+    cmp -s a before || fault "a list that locks out was loaded"
+    gives 0 "a: from now on nobody can change an owner" list load list a as 7 --force
+    # nothing is weighed
+    yard a
+    gives 0 "a: the state is RFPRO: nothing is weighed until it is RFNOP" judge a UPDATE /oic/sec/pstat as 5 state=RFPRO
+    gives 0 "a: the state is RFPRO: nothing is weighed until it is RFNOP" list load list a as 5
+    tillerclover judge a UPDATE /oic/sec/pstat as 5 state=RFNOP >out && ! grep -q "nothing is weighed" out || fault "a plate that weighs: $(cat out)"
+    gives 0 "a: the state is RFPRO: nothing is weighed until it is RFNOP" undo a
+    # marks
+    yard a
+    tillerclover judge a UPDATE /oic/sec/pstat as 5 state=RFPRO UPDATE /oic/sec/acl2 as 5 number=3 subject=auth-crypt permission=U resources=/oic/sec/acl2 \
+        UPDATE /oic/sec/acl2 as 5 number=4 "subject=$haulier" permission=N resources=/zero \
+        UPDATE /oic/sec/acl2 as 5 number=5 "subject=$haulier" permission=D resources=/oic/sec/doxm \
+        UPDATE /oic/sec/acl2 as 5 number=6 "subject=$haulier" permission=U resources=/tare first=2026-08-01 last=2026-08-31 >/dev/null || fault "no rows"
+    gives 0 "'list check' refuses such a row, 21" show a --clock 2026-08-01
+    [ "$(tillerclover show a | grep -c "gives nothing that its resources offer")" -eq 2 ] || fault "rows that give nothing: $(tillerclover show a)"
+    gives 0 "season ends in 29 days; row 1 gives all of it too" show a --clock 2026-08-02
+    gives 0 "2026-07-01 to 2026-09-30  season ends within a day" show a --clock 2026-09-30
+    # all or none
+    yard a
+    cp a before
+    gives 1 "a: unchanged, since all of 3 are to be permitted; 1 after the refusal were not judged" judge a --all \
+        UPDATE /oic/sec/pstat as 5 state=RFPRO UPDATE /tare as 8 UPDATE /oic/sec/pstat as 5 state=SRESET
+    gives 1 '"written": false' judge a --all --json UPDATE /oic/sec/pstat as 5 state=RFPRO UPDATE /tare as 8
+    cmp -s a before || fault "a part of all records was written"
+    gives 0 "a: written" judge a --all UPDATE /oic/sec/pstat as 5 state=RFPRO UPDATE /oic/sec/pstat as 5 state=RFNOP \
+        UPDATE /oic/sec/pstat as 5 state=RFPRO
 }
 
 # holder KIND FILE: a process that holds a lock on the file; its number in $held. A record lock (posix) is a running

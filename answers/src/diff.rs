@@ -285,20 +285,25 @@ fn unnamed(from: &Terminal, to: &Terminal) -> Option<Change> {
     single("byte", json!(place), words, pair.map(|byte| json!(byte)))
 }
 
-/// Two files of tables compared: status 0 where they hold the same.
+/// Two files of tables compared: status 0 where they hold the same, and neither is damaged.
 pub fn report(names: [&Path; 2], stored: [&Stored; 2]) -> Report {
     let changes = changes(&stored[0].terminal, &stored[1].terminal);
+    let same = changes.is_empty() && stored.iter().all(|one| one.damage.is_none());
     let [one, other] = names.map(name);
-    let mut text = match changes.len() {
-        0 => format!("{one} and {other} hold the same\n"),
+    let damaged = names.iter().zip(stored).filter_map(|(path, stored)| Some((name(path), stored.damage.as_ref()?)));
+    let mut text: String = damaged.map(|(name, damage)| format!("{name}: {damage}\n")).collect();
+    text += &match changes.len() {
+        0 if same => format!("{one} and {other} hold the same\n"),
+        0 => format!("{one} and {other} hold the same tables and waiting records\n"),
         count => format!("from {one} to {other}: {}\n", many(count, "difference")),
     };
     text += &changes.iter().map(|change| format!("  {}\n", change.text())).collect::<String>();
     let json = json!({
         "from": names[0].display().to_string(),
         "to": names[1].display().to_string(),
-        "same": changes.is_empty(),
+        "same": same,
+        "damage": stored.map(|stored| &stored.damage),
         "changes": changes.iter().map(Change::json).collect::<Vec<_>>(),
     });
-    Report::new(text, json, Status::of(changes.is_empty()))
+    Report::new(text, json, Status::of(same))
 }

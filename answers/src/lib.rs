@@ -25,6 +25,7 @@ pub mod office;
 pub mod plan;
 pub mod rights;
 pub mod senders;
+pub mod service;
 pub mod sheet;
 pub mod show;
 pub mod soundness;

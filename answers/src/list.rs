@@ -66,6 +66,18 @@ fn open_roles(list: &[u8]) -> Vec<u16> {
     roles.map(|row| row.number).collect()
 }
 
+/// The first row of a list that no terminal could store, or that the list has another size. Rows that give too much can be
+/// stored, and the test names the first fault of any kind: so it is asked of the rows with a right that is never too much.
+pub fn not_storable(list: &[u8]) -> Option<Tested> {
+    let tested = Terminal::test_list(list);
+    if tested.answer != Answer::TEST_EXCESSIVE {
+        return (!tested.answer.is_permitted()).then_some(tested);
+    }
+    let harmless = |row: Ace| Ace { permission: Permission::RETRIEVE, ..row }.body();
+    let tested = Terminal::test_list(&rows(list).into_iter().flat_map(harmless).collect::<Vec<u8>>());
+    (!tested.answer.is_permitted()).then_some(tested)
+}
+
 /// Why a list is not accepted.
 pub fn refusal(list: &[u8], tested: Tested) -> String {
     let Tested { answer, row } = tested;
@@ -185,14 +197,21 @@ pub fn text(path: &Path, bytes: &[u8], seasons: bool) -> Result<Report, Error> {
         text = office::with_seasons(&aces).map_err(|error| Error::of(path, error))?;
         left_out.clear();
     }
-    let numbers: Vec<String> = left_out.iter().map(u16::to_string).collect();
-    let notice =
-        format!("{}: rows with a season are left out: {}; --seasons writes them too", name(path), numbers.join(", "));
+    let notice = format!("{}: {}; --seasons writes them too", name(path), rows_left_out(&left_out));
     let list: Value = serde_json::from_str(&text).unwrap_or(Value::Null);
     let json = json!({ "file": path.display().to_string(), "list": list, "left_out": left_out });
     let mut report = Report::new(text + "\n", json, Status::Yes);
-    report.notices.extend((!numbers.is_empty()).then_some(notice));
+    report.notices.extend((!left_out.is_empty()).then_some(notice));
     Ok(report)
+}
+
+/// How many rows are left out, and which.
+fn rows_left_out(numbers: &[u16]) -> String {
+    let words: Vec<String> = numbers.iter().map(u16::to_string).collect();
+    match numbers.len() {
+        1 => format!("1 row with a season is left out, number {}", words.concat()),
+        count => format!("{count} rows with a season are left out, numbers {}", words.join(", ")),
+    }
 }
 
 fn no_text(path: &Path, answer: Answer) -> Report {

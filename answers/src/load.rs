@@ -8,11 +8,11 @@ use tillerclover::{record, Ace, Answer, Resource, Terminal, Verb};
 
 use crate::diff::{changes, Change};
 use crate::error::{name, Error};
-use crate::list::{refusal, rows, warning};
+use crate::list::{not_storable, refusal, rows, warning};
 use crate::report::{many, Report, Status};
 use crate::steps::without_comment;
 use crate::stored::without_mark;
-use crate::{colour, office, parse, words};
+use crate::{colour, office, parse, service, words};
 
 /// Rows that were read, and how many have a season by the extension of the office's JSON.
 pub struct Read {
@@ -48,10 +48,7 @@ pub fn read(path: &Path, text: &str) -> Result<Read, Error> {
 
 /// Why no list is made of rows: there are too many, or one could not be stored.
 pub fn not_made(from: &Path, list: &[u8]) -> Option<Report> {
-    let tested = Terminal::test_list(list);
-    if !matches!(tested.answer, Answer::TEST_BAD_SIZE | Answer::TEST_NOT_STORABLE) {
-        return None;
-    }
+    let tested = not_storable(list)?;
     let row = if tested.row == 0 { String::new() } else { format!("row {}: ", tested.row) };
     let reason = format!("{row}{}", refusal(list, tested));
     let text = format!("{}: not made, {}: {reason}; no file was written\n", name(from), tested.answer.number());
@@ -104,11 +101,15 @@ pub struct Load<'a> {
 }
 
 impl Load<'_> {
-    /// What differs in the terminal afterwards. After a refusal it is as it was, and the report says why.
-    pub fn into_terminal(&self, tables: &Path, terminal: &mut Terminal) -> Result<Vec<Change>, Report> {
+    /// What came of it. After a refusal the terminal is as it was, and the report says why.
+    pub fn into_terminal(&self, tables: &Path, terminal: &mut Terminal) -> Result<Loaded, Report> {
         let before = terminal.clone();
         match self.store_rows(terminal) {
-            Ok(()) => Ok(changes(&before, terminal)),
+            Ok(()) => Ok(Loaded {
+                changes: changes(&before, terminal),
+                count: rows(self.list).len(),
+                notes: service::notes(&before, terminal),
+            }),
             Err(refused) => {
                 *terminal = before;
                 Err(not_loaded(tables, refused))
@@ -127,6 +128,16 @@ impl Load<'_> {
         }
         Ok(())
     }
+}
+
+/// What came of a list that was loaded.
+pub struct Loaded {
+    /// What differs afterwards.
+    pub changes: Vec<Change>,
+    /// How many rows it has.
+    pub count: usize,
+    /// What is to be said of the terminal afterwards.
+    pub notes: Vec<String>,
 }
 
 /// A record that was refused.
@@ -154,16 +165,18 @@ fn not_loaded(tables: &Path, refused: Refused) -> Report {
 }
 
 /// What came of a list that was loaded, and whether the tables were written.
-pub fn loaded(tables: &Path, changes: &[Change], count: usize, (written, dry): (bool, bool)) -> Report {
+pub fn loaded(tables: &Path, loaded: &Loaded, (written, dry): (bool, bool)) -> Report {
+    let Loaded { changes, count, notes } = loaded;
     let last = match (written, dry) {
         (true, _) => "written",
         (false, true) => "not written, since this is a dry run",
         (false, false) => "unchanged",
     };
     let lines: String = changes.iter().map(|change| format!("  {}\n", change.text())).collect();
+    let notes_lines: String = notes.iter().map(|note| format!("{}: {note}\n", name(tables))).collect();
     let text = format!(
-        "{} loaded, each as a record that was permitted\n{lines}{}: {last}\n",
-        many(count, "row"),
+        "{} loaded, each as a record that was permitted\n{lines}{}: {last}\n{notes_lines}",
+        many(*count, "row"),
         name(tables)
     );
     let json = json!({
@@ -171,6 +184,7 @@ pub fn loaded(tables: &Path, changes: &[Change], count: usize, (written, dry): (
         "answer": words::answer_json(Answer::PERMITTED),
         "rows": count,
         "changes": changes.iter().map(Change::json).collect::<Vec<_>>(),
+        "notes": notes,
         "written": written,
     });
     Report::new(text, json, Status::Yes)

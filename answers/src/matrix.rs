@@ -22,7 +22,7 @@ pub struct Cell {
     pub now: Permission,
     /// What it might do beside that, but that the season of a row is over.
     pub over: Permission,
-    /// What it will do beside that, once the season of a row begins.
+    /// What it may do beside that now, once the season of a row begins; it may have been given before.
     pub to_come: Permission,
 }
 
@@ -52,7 +52,7 @@ pub fn cells(sender: Sender, terminal: &Terminal, clock: u32) -> Vec<Cell> {
         }
         let now = held(&terminal.tables, clock, header);
         let [over, to_come] = out_of_season(&terminal.tables, clock, header).map(|letters| letters.without(now));
-        Cell { served: true, now, over, to_come: to_come.without(over) }
+        Cell { served: true, now, over, to_come }
     };
     Resource::ALL.iter().map(cell).collect()
 }

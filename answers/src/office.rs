@@ -10,6 +10,7 @@ use serde::de::{Deserialize, Deserializer, Error as _, MapAccess, SeqAccess, Vis
 use serde_json::{Map, Value};
 use tillerclover::{Ace, Connection, Period, Permission, Role, Subject, Terminal, Wildcards};
 
+use crate::list::{not_storable, refusal};
 use crate::parse::{did_you_mean, resource};
 use crate::times::{self, Day};
 
@@ -190,11 +191,9 @@ fn library_text(rows: &[Ace]) -> Result<String, String> {
     terminal.tables.set_aces(&rows);
     terminal.access_list().map_err(|answer| {
         let list: Vec<u8> = rows.iter().flat_map(|row| row.body()).collect();
-        match Terminal::test_list(&list) {
-            tested if !tested.answer.is_permitted() => {
-                format!("row {}: {}", tested.row, crate::list::refusal(&list, tested))
-            }
-            _ => answer.to_string(),
+        match not_storable(&list) {
+            Some(tested) => format!("row {}: {}", tested.row, refusal(&list, tested)),
+            None => answer.to_string(),
         }
     })
 }
@@ -287,6 +286,11 @@ mod tests {
                 "aclist2[0].resources[0].wc is \"+\", and the library writes nothing",
             ),
             (format!("{ROW},{ROW}"), "row 2: repeats number 1 of row 1"),
+            (
+                // The first row gives too much, which keeps no list from being made.
+                format!("{},{ROW}", ROW.replace("/weight", "/oic/sec/acl2").replace(":2}", ":4}")),
+                "row 2: repeats number 1 of row 1",
+            ),
         ] {
             let said = read(&list(&row)).unwrap_err();
             assert!(said.contains(error), "{row}: {said}");

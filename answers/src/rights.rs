@@ -123,12 +123,17 @@ impl Probe {
         }
     }
 
-    /// The bit without which the verb is not permitted.
+    /// The bit without which the verb of the record is not permitted.
     fn needed(&self) -> Permission {
+        self.needed_for(self.header.verb)
+    }
+
+    /// The bit without which a verb is not permitted.
+    pub fn needed_for(&self, verb: Verb) -> Permission {
         // Nobody has anything on doxm without a row here.
         let asked = |bit: Permission| {
             let tables = self.with(&[self.row(1, Resource::DOXM, bit)]);
-            self.ask(&tables, self.header.verb, Resource::DOXM).answer != Answer::NOT_PERMITTED
+            self.ask(&tables, verb, Resource::DOXM).answer != Answer::NOT_PERMITTED
         };
         Permission::ALL.bits().filter(|&bit| asked(bit)).fold(Permission::NONE, |union, bit| union | bit)
     }

@@ -11,8 +11,8 @@ use crate::senders::Sender;
 use crate::stored::Stored;
 use crate::times::{self, Zone};
 use crate::who::ROLES_ARE_OPEN;
-use crate::words;
 use crate::yards::{self, Finding, Other, Yard};
+use crate::{service, words};
 
 const STYLE: &str = include_str!("sheet.css");
 
@@ -62,6 +62,9 @@ fn head(name: &str, terminal: &Terminal, clock: u32) -> String {
         if !owner.is_nil() {
             lines.push(("Row owner", format!("{owner} of {resource}")));
         }
+    }
+    if service::locked_out(terminal) {
+        lines.push(("Note", format!("<span class=\"bad\">{}</span>", service::LOCKED_OUT)));
     }
     lines.push(("Rows held", format!("{} credentials, {} access control entries", tables.ncreds, tables.naces)));
     let lines: String = lines.iter().map(|(term, what)| format!("<dt>{term}</dt><dd>{what}</dd>\n")).collect();
@@ -163,7 +166,7 @@ fn isolation_text(terminal: &Terminal, finding: &Finding) -> String {
 fn access_rows(terminal: &Terminal, clock: u32) -> String {
     let heads = ["Number", "Subject", "Permission", "Resources", "Season", "Worth a second look"].map(String::from);
     let row = |(row, marks): (&Ace, &Vec<Mark>)| {
-        let marks: Vec<&str> = marks.iter().map(|mark| mark.words()).collect();
+        let marks: Vec<String> = marks.iter().map(|mark| mark.words()).collect();
         format!(
             "<tr><th scope=\"row\">{}</th><td class=\"mono\">{}</td><td class=\"mono\">{}</td><td>{}</td><td>{}</td>\
              <td class=\"mark\">{}</td></tr>\n",
@@ -172,7 +175,7 @@ fn access_rows(terminal: &Terminal, clock: u32) -> String {
             row.permission,
             escape(&words::resources_or_nothing(row)),
             escape(&times::period(row.period)),
-            marks.join("; "),
+            escape(&marks.join("; ")),
         )
     };
     let rows: String = terminal.tables.aces().iter().zip(&marks::all(terminal, clock)).map(row).collect();

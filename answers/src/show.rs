@@ -12,7 +12,7 @@ use crate::report::{columns, Report, Status};
 use crate::soundness::{findings, Finding};
 use crate::stored::Stored;
 use crate::times::Zone;
-use crate::words;
+use crate::{service, words};
 
 /// What is in a file of tables; seasons are marked as of the clock.
 pub fn show(path: &Path, stored: &Stored, clock: u32) -> Report {
@@ -56,16 +56,20 @@ fn text(path: &Path, stored: &Stored, found: &[Finding]) -> String {
 
 fn tables(terminal: &Terminal, marks: &[Vec<Mark>]) -> String {
     let Terminal { tables, .. } = terminal;
-    format!("\n{}{}{}{}", columns(&head(tables)), creds(tables), aces(tables, marks), waiting(terminal))
+    format!("\n{}{}{}{}", columns(&head(terminal)), creds(tables), aces(tables, marks), waiting(terminal))
 }
 
-fn head(tables: &Tables) -> Vec<String> {
+fn head(terminal: &Terminal) -> Vec<String> {
+    let tables = &terminal.tables;
     let owners: Vec<(Resource, Uuid)> = row_owners(tables).filter(|(_, owner)| !owner.is_nil()).collect();
     let mut lines =
         vec![format!("state\t{}", words::state(tables.state())), format!("owner\t{}", words::uuid(tables.owner()))];
     lines.extend(owners.iter().map(|(resource, owner)| format!("row owner\t{owner} of {resource}")));
     if owners.is_empty() {
         lines.push("row owners\tnone".into());
+    }
+    if service::locked_out(terminal) {
+        lines.push(format!("note\t{}", paint(Tone::Bad, service::LOCKED_OUT)));
     }
     lines
 }
@@ -101,7 +105,7 @@ fn aces(tables: &Tables, marks: &[Vec<Mark>]) -> String {
     table(title, &words::ace_head(), tables.aces().iter().zip(marks).map(row).collect())
 }
 
-fn in_words(marks: &[Mark]) -> Vec<&'static str> {
+fn in_words(marks: &[Mark]) -> Vec<String> {
     marks.iter().map(|mark| mark.words()).collect()
 }
 
@@ -131,6 +135,7 @@ fn json(path: &Path, stored: &Stored, found: &[Finding], marks: &[Vec<Mark>]) ->
         "state": { "number": tables.state, "name": tables.state().name() },
         "owned": tables.owned,
         "owner": tables.owner().to_string(),
+        "locked_out": service::locked_out(terminal),
         "row_owners": Value::Object(owners),
         "credentials": tables.creds().iter().map(words::cred_json).collect::<Vec<_>>(),
         "access_control_entries": aces,

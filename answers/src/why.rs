@@ -8,7 +8,7 @@ use crate::colour::verdict;
 use crate::report::{columns, Report, Status};
 use crate::rights::{rights, Fit, Probe, Rights};
 use crate::soundness::{ace_faults, cred_faults, findings, Finding};
-use crate::{hex, show, times, words};
+use crate::{hex, service, show, times, words};
 
 /// An answer and what led to it.
 pub struct Explanation {
@@ -36,6 +36,9 @@ pub fn explain(terminal: &Terminal, clock: u32, record: &[u8]) -> Explanation {
         header.map_or_else(|| length_note(record), |header| notes(terminal, clock, header, record, response.answer));
     if response.answer == Answer::NOT_PERMITTED {
         notes.extend(rights.iter().flat_map(nearly));
+    }
+    if service::locked_out(terminal) {
+        notes.push(service::LOCKED_OUT.into());
     }
     Explanation {
         record: record.to_vec(),

@@ -10,7 +10,7 @@ use answers::plan::{shifts, Plan};
 use answers::senders::{roles, Sender};
 use answers::who::Question;
 use answers::yards::{others, Other, Yard};
-use answers::{office, why};
+use answers::{office, service, why};
 use model::case::Case;
 use model::generate::walk_sessions;
 use model::library;
@@ -204,24 +204,73 @@ fn differences_are_all_told() {
 /// A row that is marked as nobody's changes no cell at any edge of its season, and one for a role is marked as open.
 #[test]
 fn marked_rows_give_nothing() {
-    let mut dead = 0;
+    let (mut dead, mut inside, mut nothing) = (0, 0, 0);
     visit(6000, 211, |terminal, case| {
         let rows = terminal.tables.aces();
+        let asserting = Sender::asserting(&terminal.tables);
+        let senders: Vec<Sender> = Sender::all(&terminal.tables).into_iter().chain(asserting).collect();
         for (row, marks) in rows.iter().zip(marks::all(terminal, case.clock)) {
             assert_eq!(marks.contains(&Mark::Over), row.period.last < case.clock);
             let role = matches!(row.subject, Subject::Role(_)) && terminal.tables.ncreds > 0;
             assert_eq!(marks.contains(&Mark::OpenRole), role);
-            if !marks.contains(&Mark::NoSender) && !marks.contains(&Mark::NoResource) {
+            let mut without = terminal.clone();
+            without.tables.set_aces(&rows.iter().copied().filter(|one| one.number != row.number).collect::<Vec<_>>());
+            if marks.contains(&Mark::Nothing) {
+                nothing += 1;
+                let [with, without] = [terminal, &without].map(|other| passed(&senders, other, row.period.first));
+                assert_eq!(with, without, "{}", case.line());
+            }
+            let contained = marks.iter().any(|mark| matches!(mark, Mark::Contained(_)));
+            if !contained && !marks.contains(&Mark::NoSender) && !marks.contains(&Mark::NoResource) {
                 continue;
             }
             dead += 1;
-            let mut without = terminal.clone();
-            without.tables.set_aces(&rows.iter().copied().filter(|one| one.number != row.number).collect::<Vec<_>>());
+            inside += usize::from(contained);
             let shifted = shifts(terminal, &without, row.period.first);
             assert!(shifted.is_empty(), "row {}: {shifted:?} {}", row.number, case.line());
         }
     });
-    assert!(dead > 50, "{dead}");
+    assert!(dead > 50 && inside > 20 && nothing > 5, "{dead} dead, {inside} contained, {nothing} give nothing");
+}
+
+/// Which records with a header alone pass checks 8 and 9, of these senders.
+fn passed(senders: &[Sender], terminal: &Terminal, clock: u32) -> Vec<bool> {
+    let mut passed = Vec::new();
+    for sender in senders {
+        let (own, number) = sender.at(terminal);
+        for (resource, verb) in Resource::ALL.iter().flat_map(|one| Verb::ALL.iter().map(move |verb| (*one, *verb))) {
+            let answer = ask(&own, clock, sender.header(number, verb, resource)).answer;
+            passed.push(passes(answer) && answer != Answer::NOT_OFFERED);
+        }
+    }
+    passed
+}
+
+/// Where all are locked out, no record changes an owner, the state, or a row but for its asserted roles.
+#[test]
+fn nobody_changes_what_is_locked() {
+    let (mut locked, mut open) = (0, 0);
+    visit(12000, 1, |terminal, case| {
+        let before = rows_of(terminal);
+        let mut after = terminal.clone();
+        let _ = after.judge(case.clock, &case.record);
+        match service::locked_out(terminal) {
+            true => {
+                locked += 1;
+                assert_eq!(rows_of(&after), before, "{}", case.line());
+            }
+            false => open += usize::from(rows_of(&after) != before),
+        }
+    });
+    assert!(locked > 100 && open > 100, "{locked} locked, {open} changes");
+}
+
+/// The tables without asserted roles.
+fn rows_of(terminal: &Terminal) -> Tables {
+    let mut tables = terminal.tables;
+    let rows = tables.creds().into_iter().map(|row| tillerclover::Cred { asserted: Default::default(), ..row });
+    tables.set_creds(&rows.collect::<Vec<_>>());
+    tables
 }
 
 /// The office's text of a list that can be stored, with its seasons, is the list again.

@@ -5,6 +5,7 @@ use std::ffi::OsString;
 use std::path::{Path, PathBuf};
 use std::time::Duration;
 
+use answers::service::{self, LOCKED_OUT};
 use answers::stored::Stored;
 use answers::times::{self, Day};
 use clap::ArgMatches;
@@ -57,6 +58,15 @@ pub fn care(arguments: &ArgMatches) -> Care {
 /// The same where `--force` is there.
 pub fn force(arguments: &ArgMatches) -> Option<Care> {
     arguments.get_flag("force").then(|| care(arguments))
+}
+
+/// Keeps a change from being written after which nobody could change the tables again, unless `--force` is there.
+pub fn not_locked_out(arguments: &ArgMatches, path: &Path, [before, after]: [&Terminal; 2]) -> Result<(), Error> {
+    let asked = arguments.get_flag("force") || arguments.get_flag("dry-run");
+    match !asked && service::locks_out(before, after) {
+        true => Err(Error::of(path, format!("after this {LOCKED_OUT}; nothing was changed; --force does it"))),
+        false => Ok(()),
+    }
 }
 
 /// The tables of the argument FILE, to be asked and not changed.

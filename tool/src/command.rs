@@ -54,7 +54,8 @@ fn new() -> Command {
 
 fn judge() -> Command {
     let judge = Command::new("judge").about("Judge records one after the other and write the tables back");
-    stores(defaults(recorded(judge).after_help(format!("{RECORDS}{LINES}"))))
+    let all = flag("all", "All records or none: after a refusal nothing is written, and the rest is not judged");
+    stores(defaults(recorded(judge).arg(all).after_help(format!("{RECORDS}{LINES}"))))
 }
 
 fn hand_in() -> Command {
@@ -242,7 +243,9 @@ fn changes(command: Command) -> Command {
 
 /// A subcommand that changes tables.
 fn stores(command: Command) -> Command {
-    changes(command).arg(flag("dry-run", "Write nothing, and lock nothing"))
+    changes(command)
+        .arg(flag("dry-run", "Write nothing, and lock nothing"))
+        .arg(flag("force", "Write tables that nobody could change any more, too"))
 }
 
 fn wait() -> Arg {

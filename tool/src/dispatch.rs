@@ -13,6 +13,7 @@ use serde_json::json;
 
 use crate::arguments::{clock, defaults, file, force, path, records, tables, text, texts, wait};
 use crate::error::{name, Error};
+use crate::records::word;
 use crate::store::{self, Care};
 use crate::{expect, judge, list, manual, new, run, undo, version, yards};
 
@@ -107,7 +108,7 @@ fn write_page(page: &Path, text: String, replace: Option<Care>) -> Result<Report
 
 fn explain(arguments: &ArgMatches) -> Result<Report, Error> {
     let clock = clock(arguments)?;
-    let words: Vec<String> = records(arguments).iter().map(|word| word.to_string_lossy().into()).collect();
+    let words = records(arguments).iter().map(word).collect::<Result<Vec<String>, Error>>()?;
     let records = parse::records(&words).map_err(Error::new)?;
     let [record] = &records[..] else {
         return Err(Error::new(format!("{} records; 'why' explains one", records.len())));

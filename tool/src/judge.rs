@@ -3,12 +3,14 @@
 
 use answers::judge::Judged;
 use answers::report::{Report, Status};
+use answers::service;
 use answers::steps::{Act, Make, Step};
 use answers::stored::Stored;
 use clap::ArgMatches;
 use serde_json::json;
+use tillerclover::Terminal;
 
-use crate::arguments::{care, clock, defaults, file, records};
+use crate::arguments::{care, clock, defaults, file, not_locked_out, records};
 use crate::error::{name, Error};
 use crate::lock::Locked;
 use crate::{records, store};
@@ -27,39 +29,75 @@ pub fn take(arguments: &ArgMatches) -> Result<Report, Error> {
     on_file(arguments, clock, (0..count).map(|_| Step { clock, act: Act::Take }).collect())
 }
 
+/// The steps done on a terminal, up to the first refusal if it is all or none.
+fn perform(terminal: &mut Terminal, steps: Vec<Step>, all: bool) -> Vec<Judged> {
+    let mut judged: Vec<Judged> = Vec::new();
+    for step in steps {
+        let one = Judged::new(terminal, step);
+        let refused = !one.permitted();
+        judged.push(one);
+        if all && refused {
+            break;
+        }
+    }
+    judged
+}
+
 /// Does the steps on the tables of a file, and writes them back.
 fn on_file(arguments: &ArgMatches, clock: u32, steps: Vec<Step>) -> Result<Report, Error> {
     let (path, dry, care) = (file(arguments, "FILE"), arguments.get_flag("dry-run"), care(arguments));
+    let all = arguments.try_get_one("all").ok().flatten().copied().unwrap_or(false);
     let given = defaults(arguments)?;
     // What is not written needs no lock.
     let locked = if dry { None } else { Some(Locked::open(path, care.wait)?) };
     let bytes = locked.as_ref().map_or_else(|| store::read(path), Locked::read)?;
     let mut stored = Stored::whole(path, &bytes, given)?;
-    let judged: Vec<Judged> = steps.into_iter().map(|step| Judged::new(&mut stored.terminal, step)).collect();
+    let (before, count) = (stored.terminal.clone(), steps.len());
+    let judged = perform(&mut stored.terminal, steps, all);
+    let permitted = judged.iter().all(Judged::permitted);
+    let taken_back = all && !permitted;
+    if taken_back {
+        stored.terminal = before.clone();
+    }
     if !dry && stored.loses_waiting() {
         let message = "is of the form tables, which has no room for records that wait; nothing was changed";
         return Err(Error::of(path, message));
     }
+    not_locked_out(arguments, path, [&before, &stored.terminal])?;
     let changed = stored.bytes() != bytes;
     let written = changed && !dry;
     if let Some(locked) = locked.filter(|_| written) {
         locked.replace(&stored.bytes(), care.backup)?;
     }
     let last = match (changed, written) {
-        (false, _) => "unchanged",
-        (true, true) => "written",
-        (true, false) => "not written, since this is a dry run",
+        _ if taken_back => refused_of(judged.len(), count),
+        (false, _) => "unchanged".into(),
+        (true, true) => "written".into(),
+        (true, false) => "not written, since this is a dry run".into(),
     };
+    let notes = if changed { service::notes(&before, &stored.terminal) } else { Vec::new() };
+    let lines = [last].into_iter().chain(notes.iter().cloned()).map(|line| format!("{}: {line}\n", name(path)));
     let report = Report::new(
-        judged.iter().map(Judged::text).collect::<String>() + &format!("{}: {last}\n", name(path)),
+        judged.iter().map(Judged::text).chain(lines).collect::<String>(),
         json!({
             "file": path.display().to_string(),
             "clock": clock,
             "records": judged.iter().map(Judged::json).collect::<Vec<_>>(),
             "changed": changed,
+            "notes": notes,
             "written": written,
         }),
-        Status::of(judged.iter().all(Judged::permitted)),
+        Status::of(permitted),
     );
     Ok(if written { report.after_change(path) } else { report })
+}
+
+/// What is said where one of all was refused.
+fn refused_of(judged: usize, count: usize) -> String {
+    match count - judged {
+        0 => format!("unchanged, since all of {count} are to be permitted"),
+        rest => {
+            format!("unchanged, since all of {count} are to be permitted; {rest} after the refusal were not judged")
+        }
+    }
 }

@@ -5,14 +5,14 @@ use std::fs;
 use std::os::unix::fs::MetadataExt;
 use std::path::Path;
 
-use answers::list::{self, rows};
+use answers::list;
 use answers::load::{self, Load};
 use answers::report::Report;
 use answers::stored::Stored;
 use clap::ArgMatches;
 use tillerclover::Terminal;
 
-use crate::arguments::{care, clock, defaults, file, force};
+use crate::arguments::{care, clock, defaults, file, force, not_locked_out};
 use crate::error::{name, Error};
 use crate::lock::Locked;
 use crate::store;
@@ -86,15 +86,17 @@ fn load(arguments: &ArgMatches) -> Result<Report, Error> {
     let locked = if dry { None } else { Some(Locked::open(tables, care.wait)?) };
     let bytes = locked.as_ref().map_or_else(|| store::read(tables), Locked::read)?;
     let mut stored = Stored::whole(tables, &bytes, given)?;
+    let before = stored.terminal.clone();
     let load = Load { list: &list, sender, clock, replace: arguments.get_flag("replace") };
-    let changes = match load.into_terminal(tables, &mut stored.terminal) {
-        Ok(changes) => changes,
+    let loaded = match load.into_terminal(tables, &mut stored.terminal) {
+        Ok(loaded) => loaded,
         Err(report) => return Ok(report),
     };
+    not_locked_out(arguments, tables, [&before, &stored.terminal])?;
     let written = stored.bytes() != bytes && !dry;
     if let Some(locked) = locked.filter(|_| written) {
         locked.replace(&stored.bytes(), care.backup)?;
     }
-    let report = load::loaded(tables, &changes, rows(&list).len(), (written, dry));
+    let report = load::loaded(tables, &loaded, (written, dry));
     Ok(if written { report.after_change(tables) } else { report })
 }

@@ -76,9 +76,10 @@ fn print(report: &Report, json: bool) -> Result<Status, Error> {
     }
     let text = if json { format!("{:#}\n", report.json) } else { report.text.clone() };
     let written = io::stdout().write_all(text.as_bytes()).and_then(|()| io::stdout().flush());
+    let written = if screen::output_is_closed() { Err(io::ErrorKind::BrokenPipe.into()) } else { written };
     match (written, &report.changed) {
-        // A reader that has seen enough is no error.
-        (Err(error), _) if error.kind() == io::ErrorKind::BrokenPipe => Ok(report.status),
+        // A reader that has seen enough is no error, but for the report of a change.
+        (Err(error), None) if error.kind() == io::ErrorKind::BrokenPipe => Ok(report.status),
         (Err(error), None) => Err(Error::new(format!("the output cannot be written: {}", plain(&error)))),
         (Err(error), Some(file)) => {
             let message = format!("WAS changed, but the output cannot be written: {}", plain(&error));

@@ -17,8 +17,7 @@ pub fn of_arguments(arguments: &[OsString], clock: u32, make: Make) -> Result<Ve
     let mut words: Vec<String> = Vec::new();
     for argument in arguments {
         let Some(path) = file_of_lines(argument) else {
-            // A letter that is none is found where the record is parsed.
-            words.push(argument.to_string_lossy().into());
+            words.push(word(argument)?);
             continue;
         };
         steps.extend(of_words(&words, clock, make)?);
@@ -28,6 +27,15 @@ pub fn of_arguments(arguments: &[OsString], clock: u32, make: Make) -> Result<Ve
     }
     steps.extend(of_words(&words, clock, make)?);
     Ok(steps)
+}
+
+/// An argument as text. One that is none would be another record with other bytes in the place of its own.
+pub fn word(argument: &OsString) -> Result<String, Error> {
+    let shown = argument.to_string_lossy();
+    let text = argument.to_str().map(String::from);
+    text.ok_or_else(|| {
+        Error::new(format!("record '{shown}': is no text, since it is not UTF-8; hex:.. takes any bytes"))
+    })
 }
 
 /// The file that an argument stands for, where it is no record itself.

@@ -4,6 +4,8 @@ use std::env;
 use std::io::{self, IsTerminal};
 use std::time::SystemTime;
 
+pub use crate::system::output_is_closed;
+
 /// Whether there are colours: `always`, `never`, or `auto` where a terminal shows the output and NO_COLOR is not set.
 pub fn colours(when: &str) -> bool {
     let plain = env::var_os("NO_COLOR").is_some_and(|set| !set.is_empty());

@@ -1,9 +1,10 @@
-//! Two system calls that the standard library lacks: locks of a whole file, and
-//! who holds them. The only module with unsafe code.
+//! System calls that the standard library lacks: locks of a whole file, who holds
+//! them, and whether standard output was open. The only module with unsafe code.
 
 use std::fs::File;
 use std::io;
 use std::os::fd::AsRawFd;
+use std::sync::atomic::{AtomicBool, Ordering};
 
 /// Whether a lock was got.
 #[derive(Clone, Copy, Debug, PartialEq, Eq)]
@@ -39,6 +40,24 @@ pub fn record_holder(file: &File) -> io::Result<Option<u32>> {
         _ if found.l_type == libc::F_UNLCK as libc::c_short => Ok(None),
         _ => Ok(Some(u32::try_from(found.l_pid).unwrap_or(0))),
     }
+}
+
+static OUTPUT_CLOSED: AtomicBool = AtomicBool::new(false);
+
+/// The system calls it before the standard library begins, which opens /dev/null in the place of a closed output.
+#[used]
+#[link_section = ".init_array"]
+static LOOK_AT_OUTPUT: extern "C" fn() = look_at_output;
+
+extern "C" fn look_at_output() {
+    // Any number is allowed here: of one that is not open the call says so.
+    let open = unsafe { libc::fcntl(libc::STDOUT_FILENO, libc::F_GETFD) } != -1;
+    OUTPUT_CLOSED.store(!open, Ordering::Relaxed);
+}
+
+/// Whether standard output was closed when the command began: what is written to it is then seen by nobody.
+pub fn output_is_closed() -> bool {
+    OUTPUT_CLOSED.load(Ordering::Relaxed)
 }
 
 fn whole_file() -> libc::flock {

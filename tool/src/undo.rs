@@ -5,6 +5,7 @@ use std::time::Duration;
 
 use answers::diff::{changes, Change};
 use answers::report::{many, Report, Status};
+use answers::service;
 use answers::stored::Stored;
 use serde_json::json;
 use tillerclover::Given;
@@ -28,16 +29,27 @@ pub fn undo(path: &Path, wait: Duration) -> Result<Report, Error> {
     let last = if now == before { "is as it was before" } else { "is as it was before; undo again takes this back" };
     let mut text: String = changed.iter().map(|(text, _)| format!("  {text}\n")).collect();
     text = format!("{}: {last}\n{text}", name(path));
+    let notes = notes(&now, &before);
+    text += &notes.iter().map(|note| format!("{}: {note}\n", name(path))).collect::<String>();
     let report = Report::new(
         text,
         json!({
             "file": path.display().to_string(),
             "changed": now != before,
             "changes": changed.iter().map(|(_, json)| json).collect::<Vec<_>>(),
+            "notes": notes,
         }),
         Status::Yes,
     );
     Ok(if now == before { report } else { report.after_change(path) })
+}
+
+/// What is to be said of the tables that are put back.
+fn notes(now: &[u8], before: &[u8]) -> Vec<String> {
+    match [now, before].map(|bytes| Stored::of(bytes, Given::default())) {
+        [Ok(now), Ok(before)] if now != before => service::notes(&now.terminal, &before.terminal),
+        _ => Vec::new(),
+    }
 }
 
 /// The differences, in words and for programs; of files that are no tables their lengths.
