@@ -22,6 +22,8 @@ SOURCE, PAGE = "docs/trace.txt", "docs/TRACE.md"
 PARTS = ["definition", "code", "theorem", "edit", "test"]
 # programs: no contract can say what is read or written
 NO_CONTRACT = {"run::main", "vectors::walk"}
+# the rules as one reads them: a name that stands there and elsewhere means the one there
+RULES = "rules_typed"
 # a name that an .antt file exports
 EXPORTED = r"^ *(?:(?:unfoldable|abbrev) )?pub (?:record |data )?(\S+)(?= |$)"
 
@@ -86,7 +88,8 @@ def check_sentences(papers, rows):
 
 
 class Names:
-    """Where the exported definitions and theorems stand: File.name, or a name alone, with crate/ before it where there are two."""
+    """Where the exported definitions and theorems stand: File.name, or a name alone. Of two the one of `RULES` is meant; another has
+    crate/ before it."""
 
     def __init__(self, folder):
         self.folder, self.places = folder, {}
@@ -105,6 +108,8 @@ class Names:
             for path in self.places.get(word, [])
             if crate in (None, path.split("/")[1]) and file in (None, os.path.basename(path)[: -len(".antt")])
         ]
+        if len(paths) > 1 and crate is None:
+            paths = [path for path in paths if path.split("/")[1] == RULES] or paths
         if len(paths) != 1:
             fault(f"{SOURCE}: {name} stands in {' and '.join(paths) or f'no file of {self.folder}'}")
             return None, word

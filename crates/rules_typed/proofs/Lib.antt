@@ -1,0 +1,25 @@
+-- Laws.
+pub mod ListLaws
+pub mod ByteLaws
+pub mod StateRead
+pub mod DirectoryRead
+pub mod PermissionRead
+pub mod RowsRead
+pub mod WriteBack
+pub mod RoleRead
+pub mod ReplyRead
+pub mod Removals
+pub mod ActionAs
+pub mod ChecksRead
+pub mod EffectRead
+pub mod PlacesRead
+pub mod TablesBack
+pub mod StructKept
+pub mod Verdicts
+pub mod LinksRead
+pub mod RowExact
+pub mod ActionRead
+pub mod HeaderRead
+pub mod OutcomeRead
+pub mod Whole
+pub mod IsolationRead
