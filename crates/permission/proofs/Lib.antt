@@ -1,2 +1,3 @@
--- Laws of a permission on an application resource.
+-- Laws of a permission: of owners, and on an application resource.
+pub mod Owners
 pub mod Application
