@@ -17,7 +17,7 @@ ghost use lib.ListN.{length, replicate};
 ghost use Rattle.text.specs.Buffer.{written, Puts};
 ghost use Rattle.rows.specs.Rows.{joined, packed};
 ghost use Rattle.rules.specs.Tables.{tablesOf, longest, rowFrom, tableSize};
-ghost use Rattle.rules.specs.Defaults.{defaults, listed, goodList, defaultRows, fresh, cleared};
+ghost use Rattle.rules.specs.Defaults.{defaults, listed, goodList, defaultRows, fresh};
 
 // Bytes of the longest body that stores a row, in which a list has its rows.
 fn longest_of(table: Table) -> usize
@@ -72,13 +72,12 @@ fn good_list(table: Table, list: &[u8], rows: &[u8]) -> bool
         & rows_distinct::distinct(rows, stride_of(table), n)
 }
 
-// Makes the table with the default rows of a list, and says how many they are.
+// Puts the default rows of a list into an empty table, and says how many they are.
 fn put_defaults(table: Table, out: &mut [u8], list: &[u8]) -> usize
-    requires { ⌜ length (now out) ≡ tableSize table ⌝ }
+    requires { ⌜ now out ≡ replicate (tableSize table) 0 ⌝ }
     ensures { λ r. ⌜ (r ≡ length (defaultRows table (now (list .entry)))) × (r ≤ 2) ⌝ }
     ensures { λ _. ⌜ now (out .exit) ≡ packed (tableSize table) (defaultRows table (now (list .entry))) ⌝ }
 {
-    rows_change::clear(out);
     put_listed(table, out, list);
     if good_list(table, list, out) {
         return list.len() / longest_of(table);
@@ -87,7 +86,7 @@ fn put_defaults(table: Table, out: &mut [u8], list: &[u8]) -> usize
     0
 }
 
-// The tables of a new terminal, made in the rows that are lent: whatever stood there is gone.
+// The tables of a new terminal, made in the rows that are lent: the empty tables, whatever stood there, and the default rows.
 // Rules out: a third row taken; a list with a bad row taken by half; a byte of the old rows left.
 pub fn fresh_in(
     creds: &mut [u8; CRED_ROWS],
@@ -97,9 +96,14 @@ pub fn fresh_in(
 ) -> Head
     ensures { λ r. ⌜ tablesOf r (now (creds .exit)) (now (aces .exit)) ≡ fresh (defaults (now («default_creds» .entry)) (now («default_aces» .entry))) ⌝ }
 {
+    let empty = Tables::empty();
+    let no_creds = empty.creds;
+    let no_aces = empty.aces;
+    *creds = no_creds;
+    *aces = no_aces;
     let ncreds = put_defaults(Table::Creds, creds, default_creds);
     let naces = put_defaults(Table::Aces, aces, default_aces);
-    let mut next = Head::empty();
+    let mut next = empty.head();
     next.ncreds = ncreds as u8;
     next.naces = naces as u8;
     next
@@ -125,12 +129,4 @@ pub fn fresh(creds: &[u8], aces: &[u8]) -> Tables
         creds: cred_rows,
         aces: ace_rows,
     }
-}
-
-// The clear button: any tables become the fresh ones, with the build's default rows.
-// Rules out: a button that keeps the rows; one that works on sound tables only.
-pub fn clear(t: Tables, creds: &[u8], aces: &[u8]) -> Tables
-    ensures { λ r. ⌜ r ≡ cleared (defaults (now (creds .entry)) (now (aces .entry))) t ⌝ }
-{
-    fresh(creds, aces)
 }

@@ -4,12 +4,13 @@ use Rattle.rows.specs.Rows.{Row}
 use Rattle.text.specs.Buffer.{Puts}
 use Rattle.text.proofs.Buffers.{written-start}
 use Rattle.rules.specs.declared.Tables.{Tables}
+use Rattle.rules.specs.declared.Check.{Check}
 use Rattle.rules.specs.declared.Check.the-variants.{Pass}
 use Rattle.rules.specs.declared.Decision.{Decision}
 use Rattle.rules.specs.declared.Caller.{Caller}
 use Rattle.rules.specs.declared.StoreRange.{StoreRange}
 use Rattle.rules.specs.declared.Links.{Links}
-use Rattle.rules.specs.Record.{Request, headerOf, body, passedOn, payloadOf, sender}
+use Rattle.rules.specs.Record.{Request, headerOf, body, payloadOf, sender}
 use Rattle.rules.specs.Tables.{rows, headOf, sound}
 use Rattle.rules.specs.Defaults.{Defaults}
 use Rattle.rules.specs.Permission.{permission, senderRow}
@@ -29,6 +30,7 @@ use Rattle.decision.proofs.Laws.{check-decided}
 use Rattle.decision_links.specs.Linked.{grantedLinks}
 use Rattle.decision_links.proofs.OwnForm.{links-are}
 use Rattle.rules.specs.declared.Table.the-variants.{Creds}
+use Rattle.execute.specs.Executed.{payloadBy}
 
 -- ---- a group of checks that passes
 
@@ -54,12 +56,12 @@ module _ (t : Tables) (q : Request) (g : Decision) (is : g ≡ decided t q) (pas
   pub row-is : callerRow t (g .caller) ≡ senderRow t (sender (q .bytes))
   row-is = ap (callerRow t) caller-is ∙ caller-row t (q .bytes)
 
-  -- the reply, the links and the payload's length by the caller that was found
+  -- the reply, the links and the payload by the caller that was found
   pub reply-as : replyTo (q .clock) t (callerRow t (g .caller)) (g .caller .header) ≡ replyOf (q .clock) t (q .bytes)
   reply-as = ap₂ (λ (w : Row) (k : Caller). replyTo (q .clock) t w (k .header)) row-is caller-is
 
-  pub payload-as : (b : List ℕ) → b ≡ body (q .bytes) → length (passedOn (g .caller .header) b) ≡ length (payloadOf (q .bytes))
-  payload-as b e = ap₂ (λ (k : Caller) (l : List ℕ). length (passedOn (k .header) l)) caller-is e
+  pub payload-as : payloadBy (g .check) (g .caller .header) (q .bytes) ≡ payloadOf (q .bytes)
+  payload-as = ap₂ (λ (c : Check) (k : Caller). payloadBy c (k .header) (q .bytes)) pass caller-is
 
   pub action-is : g .action ≡ action (q .bytes)
   action-is = ap (λ (x : Decision). x .action) granted-is

@@ -8,34 +8,42 @@ use row_lookup::places_of;
 use rules::ACE_ROWS;
 use rules::Action;
 use rules::CRED_ROWS;
+use rules::Check;
 use rules::Decision;
 use rules::Head;
-use rules::Header;
 use rules::Judgement;
 use rules_waiting::QUEUE;
 ghost use mathlib.Core.Path.{_≡_};
 ghost use mathlib.Core.Bool.{true};
 ghost use lib.ListN.{length};
 ghost use Rattle.rules.specs.declared.Check.the-variants.{Pass};
-ghost use Rattle.rules.specs.Record.{received, passedOn};
+ghost use Rattle.rules.specs.Record.{received};
 ghost use Rattle.rules.specs.Tables.{sound};
 ghost use Rattle.rules.specs.Defaults.{defaults};
 ghost use Rattle.rules.specs.Decision.{decided};
-ghost use Rattle.execute.specs.Executed.{Executes};
+ghost use Rattle.execute.specs.Executed.{payloadBy, Executes};
 ghost use Rattle.rules.specs.Words.{was, became, given, before};
 ghost use Rattle.rules_waiting.specs.Slots.{roundOf, waiting, queueOf};
 ghost use Rattle.rules_waiting.specs.Terminal.{isReset, queueAfter};
 ghost use Rattle.queue.specs.Queue.{IsQueue};
 
-// The bytes that a permitted record passes on: its body, where the resource is an application's.
-fn payload_length(header: Header, b: &[u8]) -> usize
-    ensures { λ r. ⌜ r ≡ length (passedOn header (was b)) ⌝ }
+// The payload of a record that was decided so: for an application resource the caller's own bytes from the fifth to the last, as a part
+// of the record. It is the empty part for a security resource, and if the record is refused.
+// Rules out: a payload that starts a byte later; the body of a refused record, or of one for a security resource.
+pub fn payload(d: Decision, rec: &[u8]) -> &[u8]
+    ensures { λ r. ⌜ now r ≡ payloadBy (d .check) (d .caller .header) (was rec) ⌝ }
 {
+    let c = d.check;
+    let Check::Pass = c else {
+        return &rec[..0];
+    };
+    let caller = d.caller;
+    let header = caller.header;
     let e = header.resource;
     if e.configuration {
-        return 0;
+        return &rec[..0];
     }
-    b.len()
+    body_of(rec)
 }
 
 // A permitted record: what its sender is told, and the tables afterwards, their rows in the bytes that were lent.
@@ -67,13 +75,12 @@ pub fn execute(
     let a = d.action;
     let places = places_of(h, creds, aces, a, b);
     let links = links_of(clock, h, creds, aces, caller);
-    let header = caller.header;
-    let payload = payload_length(header, b);
+    let passed_on = payload(d, rec);
     let next = apply(clock, h, creds, aces, d, rec, default_creds, default_aces);
     Judgement {
         answer: 0,
         permission: d.permission,
-        payload: payload,
+        payload: passed_on.len(),
         reply: d.reply,
         places: places,
         links: links,

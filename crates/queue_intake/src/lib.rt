@@ -8,6 +8,8 @@ use rules::CRED_ROWS;
 use rules::Check;
 use rules::Head;
 use rules::Judgement;
+use rules::Links;
+use rules::StoreRange;
 use rules_waiting::QUEUE;
 use rules_waiting::SLOT;
 ghost use mathlib.Core.Path.{_≡_};
@@ -16,7 +18,7 @@ ghost use lib.ListN.{length, getD};
 ghost use Rattle.rules.specs.Checks.{refuseIf, verdict};
 ghost use Rattle.rules_waiting.specs.Slots.{seatOf, waiting, queueSize};
 ghost use Rattle.rules_waiting.specs.Round.{occupied};
-ghost use Rattle.rules.specs.Outcome.{saidOf};
+ghost use Rattle.rules.specs.Outcome.{refusal, saidOf};
 ghost use Rattle.rules_waiting.specs.Terminal.{terminal, handInChecks};
 ghost use Rattle.rules_waiting.specs.Calls.{HandsIn};
 ghost use Rattle.rules.specs.Words.{was, became, before};
@@ -55,6 +57,21 @@ fn check_hand_in<'a>(
     check_free(queue, rec)
 }
 
+// What is said of a record that is kept: 0, with permission 0 and all else empty.
+fn kept(h: Head) -> Judgement
+    ensures { λ r. ⌜ r ≡ refusal h 0 ⌝ }
+{
+    Judgement {
+        answer: 0,
+        permission: 0,
+        payload: 0,
+        reply: 0,
+        places: StoreRange::none(),
+        links: Links::none(),
+        head: h,
+    }
+}
+
 // Hands a record in: the answer, with permission 0 and all else empty. The tables stay as they are.
 // Rules out: a record kept beside another of its sender; one that lost a byte; a byte of the memory changed on a refusal; an answer 0 that permits.
 pub fn hand_in<'a>(
@@ -73,5 +90,5 @@ pub fn hand_in<'a>(
         return Judgement::refused(h, c);
     };
     queue::enqueue(queue, rec);
-    Judgement::refused(h, c)
+    kept(h)
 }

@@ -17,8 +17,8 @@ start c = c .before .before .before .before .before .before .before .before .bef
 abbrev wrote : tie.After-places-of → tie.After-put-reply
 wrote c = c .before .before .before .before .before .before
 
-abbrev placed : tie.After-payload-length → tie.After-places-of
-placed c = c .before .before .before .before .before
+abbrev placed : tie.After-payload → tie.After-places-of
+placed c = c .before .before .before .before
 
 abbrev tables : tie.Start → Tables
 tables s = tablesOf (s .args .h) (now (s .args .creds)) (now (s .args .aces))
@@ -47,9 +47,9 @@ returns c =
     let body-is = at .before .before .before .body-of .ensures in
     record {
       says = says (tables s) (request s) (s .args .d) (s .pre .1) (s .pre .2) (s .pre .0) (lists s) _ _ _ _
-          (measured .payload-length .ensures ∙ payload-as (tables s) (request s) (s .args .d) (s .pre .1) (s .pre .2) _ body-is)
+          (ap length (measured .payload .ensures ∙ payload-as (tables s) (request s) (s .args .d) (s .pre .1) (s .pre .2)))
           (at .places-of .ensures ∙ ap (λ (b : List ℕ). storeRangeOf (tables s) b (s .args .d .action)) body-is)
-          (measured .before .before .links-of .ensures ∙ links-as (tables s) (request s) (s .args .d) (s .pre .1) (s .pre .2) (s .pre .0))
+          (measured .before .links-of .ensures ∙ links-as (tables s) (request s) (s .args .d) (s .pre .1) (s .pre .2) (s .pre .0))
           (c .apply .ensures
           ∙ ap (λ (w : Row). effect (lists s) (s .args .clock) (tables s) w (body (request s .bytes)) (s .args .d .action))
           (row-is (tables s) (request s) (s .args .d) (s .pre .1) (s .pre .2)));

@@ -1,7 +1,10 @@
 -- `hand_in`: refused, or kept.
-use Rattle.rows.proofs.Prelude.{refl, sym, _∙_, now, needs}
+use Rattle.rows.proofs.Prelude.{refl, sym, ap, _∙_, now, needs}
 use Rattle.rules.specs.declared.Tables.{Tables}
+use Rattle.rules.specs.declared.Check.{Check}
 use Rattle.rules.specs.Tables.{tablesOf}
+use Rattle.rules.specs.Checks.{numberOf}
+use Rattle.rules.specs.Outcome.{refusal}
 use Rattle.queue_intake.proofs.Laws.{can-keep, transition}
 use Rattle.queue_intake.proofs.hand_in.Tie as tie
 
@@ -33,7 +36,8 @@ returns-2 c =
     let call = told .before .before in
     let s = start call in
     transition (s .args .h) (now (s .args .creds)) (now (s .args .aces)) (now (s .args .queue)) (now (s .args .rec))
-    _ _ (call .check-hand-in .ensures) (told .enum-told .given .1) _ _ (c .refused2 .ensures) (enqueue .enqueue .ensures) refl
+    _ _ (call .check-hand-in .ensures) (told .enum-told .given .1) _ _
+    (c .kept .ensures ∙ ap (λ (v : Check). refusal (s .args .h) (numberOf v)) (sym (told .enum-told .given .1))) (enqueue .enqueue .ensures) refl
 
 pub hand-in-spec : {M : Type 1} → Rattle.queue_intake.proofs.hand_in.Statement.statement M
 hand-in-spec = tie.close (tie.spec
