@@ -5,6 +5,7 @@
  *                                half a write, before or after for the program's end before or after the call
  *     DEVICE_FAULT='WRITE KIND'  WRITE is counted from 1; KIND as above, with short for a write of nothing, and torn for
  *                                another byte in its place and the program's end
+ *     SLOW=FILE                  once FILE is there, each sync takes a tenth of a second
  *     CLOCK_BACK=FILE            once FILE is there, the system's clock is a day behind, and its watch says that it was
  *                                set */
 #include <dlfcn.h>
@@ -97,8 +98,17 @@ ssize_t write(int file, const void *bytes, size_t length)
     return many;
 }
 
+static bool is_there(const char *variable)
+{
+    const char *file = getenv(variable);
+    return file != NULL && access(file, F_OK) == 0;
+}
+
 int fsync(int file)
 {
+    if (is_there("SLOW")) {
+        usleep(100000);
+    }
     FAULTY(REAL(fsync)(file));
 }
 
@@ -147,16 +157,10 @@ __attribute__((constructor)) static void leave_fronts_alone(int count, char **wo
     }
 }
 
-static bool is_back(void)
-{
-    const char *file = getenv("CLOCK_BACK");
-    return file != NULL && access(file, F_OK) == 0;
-}
-
 int clock_gettime(clockid_t clock, struct timespec *time)
 {
     int result = REAL(clock_gettime)(clock, time);
-    if (clock == CLOCK_REALTIME && is_back()) {
+    if (clock == CLOCK_REALTIME && is_there("CLOCK_BACK")) {
         time->tv_sec -= 86400;
     }
     return result;
@@ -168,7 +172,7 @@ ssize_t read(int file, void *bytes, size_t length)
     char name[64], link[64] = "";
     ssize_t result = REAL(read)(file, bytes, length);
     snprintf(name, sizeof name, "/proc/self/fd/%d", file);
-    if (result < 0 && !said && is_back() && readlink(name, link, sizeof link - 1) > 0 &&
+    if (result < 0 && !said && is_there("CLOCK_BACK") && readlink(name, link, sizeof link - 1) > 0 &&
         strstr(link, "timerfd") != NULL) {
         said = true;
         errno = ECANCELED;

@@ -96,6 +96,8 @@ static void filter(void)
         ALLOW(futex),
         ALLOW(rt_sigprocmask),
         ALLOW(rt_sigreturn),
+        /* by which the kernel goes on with a wait, when a front that was halted is continued */
+        ALLOW(restart_syscall),
         ALLOW(exit),
         ALLOW(exit_group),
         BPF_STMT(BPF_RET | BPF_K, SECCOMP_RET_KILL_PROCESS),

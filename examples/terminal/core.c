@@ -153,6 +153,7 @@ static bool take(struct core *c, int front, struct message *m)
 {
     switch (m->kind) {
     case MESSAGE_ALIVE:
+        fronts_say(&c->fronts, front, MESSAGE_ALIVE, 0, NULL, 0);
         return m->length == 0;
     case MESSAGE_NOTE:
         report_note(c, front, m);

@@ -21,4 +21,7 @@ void endpoint_settle(coap_session_t *session);
 /* Whether the session began with a ClientHello that had these random bytes. */
 bool endpoint_began_with(const coap_session_t *session, const uint8_t *random);
 
+/* The bytes that a record of this session has beside what it says. Of no session: the most that any has. */
+size_t endpoint_overhead(const coap_session_t *session);
+
 #endif

@@ -3,7 +3,6 @@
 #include <string.h>
 #include <sys/prctl.h>
 
-#include "clock.h"
 #include "confine.h"
 #include "fail.h"
 #include "front.h"
@@ -12,30 +11,25 @@
 enum {
     /* Datagrams that are read before the core is heard again */
     DATAGRAMS = 64,
-    /* milliseconds between two signs of life */
-    PULSE = 1000
+    /* milliseconds after which a front without work looks what is due */
+    TURN = 1000
 };
 
 static void wait_for_something(const struct server *s)
 {
     struct pollfd both[2] = {{.fd = s->core, .events = POLLIN},
                              {.fd = coap_context_get_coap_fd(s->context), .events = POLLIN}};
-    poll(both, 2, PULSE);
+    poll(both, 2, TURN);
 }
 
 /* Returns when the core is gone. */
 static void run(struct server *s)
 {
-    int64_t said = clock_steady();
     while (server_hear(s)) {
         wait_for_something(s);
         for (int i = 0; i < DATAGRAMS && server_read(s); i++) {
         }
         server_tend(s);
-        if (clock_steady() - said >= PULSE) {
-            message_send(s->core, MESSAGE_ALIVE, 0, NULL, 0);
-            said = clock_steady();
-        }
     }
 }
 

@@ -8,7 +8,8 @@
 #include <stdint.h>
 
 enum message_kind {
-    /* By a front: it is at work; a record, whose ticket is `number`; a line for the log. */
+    /* By a front: it is at work, which the core answers by the same; a record, whose ticket is `number`; a line for the
+     * log. */
     MESSAGE_ALIVE = 1,
     MESSAGE_RECORD,
     MESSAGE_NOTE,

@@ -12,22 +12,19 @@
 #include "request.h"
 #include "server.h"
 
-/* Milliseconds that an answer may take and still go with the receipt. */
 enum {
-    RECEIPT = 200
+    /* Milliseconds that an answer may take and still go with the receipt */
+    RECEIPT = 200,
+    /* milliseconds between two signs of life, and lines for the log that may come between them */
+    PULSE = 1000,
+    NOTES = 20
 };
 
 /* ---- Lines for the log */
 
 static void note(struct server *s, const coap_session_t *session, const char *words, unsigned number)
 {
-    enum {
-        EACH_SECOND = 20
-    };
     char text[200], from[80] = "";
-    int64_t second = clock_steady() / 1000;
-    s->notes = second == s->second ? s->notes : EACH_SECOND;
-    s->second = second;
     if (s->notes > 0) {
         s->notes--;
         coap_print_addr(coap_session_get_addr_remote(session), (unsigned char *)from, sizeof from);
@@ -39,7 +36,7 @@ static void note(struct server *s, const coap_session_t *session, const char *wo
 /* Whoever waits in this session is gone. */
 static void forget(struct server *s, const coap_session_t *session)
 {
-    waiting_release_all(&s->waiting, session);
+    waiting_leave(&s->waiting, session);
     unacknowledged_forget(&s->unacknowledged, session);
     recent_forget(&s->recent, coap_session_get_addr_remote(session));
 }
@@ -89,9 +86,11 @@ static void answer_later(struct server *s, const struct message *m)
     if (w == NULL || !read_answer(m, &a)) {
         return;
     }
-    remember(s, w, &a);
+    if (w->session != NULL) {
+        remember(s, w, &a);
+    }
     /* Where the session is over, libcoap would try to open it from this side. */
-    if (coap_session_get_state(w->session) == COAP_SESSION_STATE_ESTABLISHED) {
+    if (w->session != NULL && coap_session_get_state(w->session) == COAP_SESSION_STATE_ESTABLISHED) {
         send_answer(s, w, &a);
     }
     waiting_release(w);
@@ -150,6 +149,10 @@ static void obey(struct server *s, const struct message *m)
     case MESSAGE_END:
         end_sessions(s, m->number);
         break;
+    case MESSAGE_ALIVE:
+        s->unheard = false;
+        s->notes = NOTES;
+        break;
     default:
         break;
     }
@@ -194,25 +197,28 @@ static const struct answer *await(struct server *s, const struct waiting_client 
     return NULL;
 }
 
-static void refuse(const coap_pdu_t *request, coap_pdu_t *response, unsigned number)
-{
-    struct answer refusal = answer_refusal(number);
-    request_answer(request, response, &refusal);
-}
-
 static void handle_new(struct server *s, const struct recent_request *key, coap_session_t *session,
                        const coap_pdu_t *request, coap_pdu_t *response)
 {
     coap_bin_const_t token = coap_pdu_get_token(request);
     const tillerclover_record *r = &key->record;
+    if (waiting_many(&s->waiting, tillerclover_record_sender(r->bytes)) >= WAITING_EACH) {
+        struct answer refusal = answer_refusal(TILLERCLOVER_OCCUPIED);
+        request_answer(request, response, &refusal);
+        return;
+    }
     struct waiting_client *w = waiting_free(&s->waiting);
     coap_pdu_t *copy = w != NULL ? coap_pdu_duplicate(request, session, token.length, token.s, NULL) : NULL;
     if (copy == NULL || !message_send(s->core, MESSAGE_RECORD, ++s->ticket, r->bytes, r->length)) {
+        /* That it is another record of this sender that waits would not be true. */
+        struct answer refusal = answer_words(503, "the terminal cannot take the request now");
+        refusal.max_age = 1;
+        request_answer(request, response, &refusal);
         coap_delete_pdu(copy);
-        refuse(request, response, TILLERCLOVER_OCCUPIED);
         return;
     }
-    *w = (struct waiting_client){.session = coap_session_reference(session),
+    *w = (struct waiting_client){.used = true,
+                                 .session = coap_session_reference(session),
                                  .request = copy,
                                  .key = *key,
                                  .ticket = s->ticket,
@@ -328,20 +334,27 @@ static bool hello_passes(struct server *s, const struct guard_hello *hello, cons
     return true;
 }
 
-static bool passes(struct server *s, const uint8_t *datagram, size_t length, const coap_address_t *from)
+/* In a handshake the shortest enciphered record is the one that ends it, and that is longer than any overhead. */
+static bool passes_secure(struct server *s, const uint8_t *datagram, size_t length, const coap_address_t *from)
 {
     struct guard_hello hello;
+    const coap_session_t *session = sessions_from(&s->sessions, from);
+    switch (guard_hello(datagram, length, &hello)) {
+    case GUARD_LATER:
+        return guard_records(datagram, length, endpoint_overhead(session));
+    case GUARD_ENCIPHERED:
+        return session != NULL && guard_records(datagram, length, endpoint_overhead(session));
+    case GUARD_HELLO:
+        return hello_passes(s, &hello, from);
+    default:
+        return false;
+    }
+}
+
+static bool passes(struct server *s, const uint8_t *datagram, size_t length, const coap_address_t *from)
+{
     if (s->secure) {
-        switch (guard_hello(datagram, length, &hello)) {
-        case GUARD_LATER:
-            return true;
-        case GUARD_ENCIPHERED:
-            return sessions_from(&s->sessions, from) != NULL;
-        case GUARD_HELLO:
-            return hello_passes(s, &hello, from);
-        default:
-            return false;
-        }
+        return passes_secure(s, datagram, length, from);
     }
     enum guard_kind kind = guard_message(datagram, length);
     if (kind == GUARD_RECEIPT) {
@@ -379,6 +392,12 @@ void server_tend(struct server *s)
             end_session(s, session);
         }
     }
+    /* The core answers each sign of life before the next: so what lies before a core that stands still is bounded, and
+     * no line for the log takes a record's room. */
+    if (!s->unheard && clock_steady() - s->pulse >= PULSE) {
+        s->pulse = clock_steady();
+        s->unheard = message_send(s->core, MESSAGE_ALIVE, 0, NULL, 0);
+    }
     /* libcoap's own timers. This reads no datagram: those go through the guard. */
     coap_ticks(&now);
     coap_io_prepare_epoll(s->context, now);
@@ -388,7 +407,7 @@ void server_tend(struct server *s)
 
 void server_open(struct server *s, int core, bool secure, const char *address, const char *port)
 {
-    *s = (struct server){.secure = secure, .core = core};
+    *s = (struct server){.secure = secure, .core = core, .pulse = clock_steady(), .notes = NOTES};
     s->recent.each = secure ? RECENT_EACH_SECURE : RECENT_EACH_CLEAR;
     coap_startup();
     coap_prng(&s->ticket, sizeof s->ticket);
@@ -400,7 +419,7 @@ void server_open(struct server *s, int core, bool secure, const char *address, c
 
 void server_close(struct server *s)
 {
-    waiting_release_all(&s->waiting, NULL);
+    waiting_leave(&s->waiting, NULL);
     while (s->sessions.length > 0) {
         sessions_end(&s->sessions, s->sessions.length - 1);
     }

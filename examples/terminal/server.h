@@ -27,9 +27,11 @@ struct server {
     /* a message of the core that came in the middle of a request */
     struct message held;
     bool holds;
-    /* lines for the log that may be said in this second */
+    /* steady milliseconds: the last sign of life; and whether the core has not answered it yet */
+    int64_t pulse;
+    bool unheard;
+    /* lines for the log that may come before the next one */
     int notes;
-    int64_t second;
 };
 
 /* Opens the endpoint. A port that is in use ends the program. */
@@ -41,7 +43,7 @@ bool server_hear(struct server *s);
 /* Reads a datagram; a request in it goes to the core. False: there is none. */
 bool server_read(struct server *s);
 
-/* What is due by now: repeated answers, sessions that are over. */
+/* What is due by now: repeated answers, sessions that are over, a sign of life for the core. */
 void server_tend(struct server *s);
 
 void server_close(struct server *s);

@@ -4,11 +4,14 @@
 
 #include <coap3/coap.h>
 
+#include "keys.h"
 #include "recent.h"
 
 /* A client between its request and the core's answer. */
 struct waiting_client {
-    /* NULL: this entry is free. Referenced, so that libcoap leaves it alone. */
+    /* false: this entry is free */
+    bool used;
+    /* NULL: the client is gone, and the core still has its record. Referenced, so that libcoap leaves it alone. */
     coap_session_t *session;
     /* a copy, without the body */
     coap_pdu_t *request;
@@ -18,19 +21,24 @@ struct waiting_client {
     bool acts;
 };
 
-/* One for each place, and as many again for what the core refuses at once. */
+/* For each sender one that waits for its turn, and one for what the core refuses at once. So a sender who asks for more
+ * takes no other's. All in clear are one sender, as they are for the library. */
 enum {
-    WAITING = 2 * TERMINAL_PLACES
+    WAITING_EACH = 2,
+    WAITING = WAITING_EACH * KEYS_MOST
 };
 
 struct waiting {
     struct waiting_client list[WAITING];
 };
 
+/* How many records of this sender the core has. */
+size_t waiting_many(const struct waiting *w, unsigned sender);
+
 /* A free entry, or NULL. */
 struct waiting_client *waiting_free(struct waiting *w);
 
-/* The client with this ticket, or NULL. */
+/* The entry with this ticket, or NULL. */
 struct waiting_client *waiting_find(struct waiting *w, uint32_t ticket);
 
 /* Whether this very request waits already. */
@@ -39,10 +47,11 @@ bool waiting_has(const struct waiting *w, const struct recent_request *key);
 /* Whether anybody waits beside this client. */
 bool waiting_others(const struct waiting *w, const struct waiting_client *client);
 
-/* Frees the entry, with what belongs to it. */
+/* Frees the entry, with what belongs to it: the core has answered. */
 void waiting_release(struct waiting_client *client);
 
-/* Frees the entries of a session, or all where it is NULL. */
-void waiting_release_all(struct waiting *w, const coap_session_t *session);
+/* The clients of a session are gone, or all where it is NULL. Their records stay counted until the core has answered
+ * them, so that nobody gets more of its records to the core by new sessions. */
+void waiting_leave(struct waiting *w, const coap_session_t *session);
 
 #endif
