@@ -98,20 +98,20 @@ premise-read chosen t i p s = harmless-read t (record { isSound = s; struct = i 
 -- ---- along the book's run
 
 module _ (d : Defaults) (e : DefaultBytes d) (chosen : Sender → Bool) where
-  abbrev first : Tables
+  abbrev pub first : Tables
   first = tablesOf (fresh d)
 
-  abbrev others : List ByteRequest → List ByteRequest
+  abbrev pub others : List ByteRequest → List ByteRequest
   others qs = kept (isOthersBytes chosen) qs
 
   -- the others' records, read, are the others' of the records that are read
-  others-read : (qs : List ByteRequest) → map readRecord (others qs) ≡ kept (isOthers chosen) (map readRecord qs)
+  pub others-read : (qs : List ByteRequest) → map readRecord (others qs) ≡ kept (isOthers chosen) (map readRecord qs)
   others-read [] = refl
   others-read (q ∷ qs) =
       rw (sender-read q)
       (bool-cases (chosen (sender (q .bytes))) (λ z. rw z (others-read qs)) (λ z. rw z (ap (λ (rs : List Record). readRecord q ∷ rs) (others-read qs))))
 
-  premise-along : (t : ByteTables) → IsStruct t → (qs : List ByteRequest) → AllBytes qs
+  pub premise-along : (t : ByteTables) → IsStruct t → (qs : List ByteRequest) → AllBytes qs
       → Along (next first) (Premise chosen) (readTables t) (map readRecord qs) → Along (tablesAfter d) (PremiseBytes chosen) t qs
   premise-along t i [] h a = premise-read chosen t i a
   premise-along t i (q ∷ qs) h a = (
@@ -120,11 +120,11 @@ module _ (d : Defaults) (e : DefaultBytes d) (chosen : Sender → Bool) where
         (rw (next-read d e t i q (h .0)) (a .1)),
   )
 
-  kept-bytes : (qs : List ByteRequest) → AllBytes qs → AllBytes (others qs)
+  pub kept-bytes : (qs : List ByteRequest) → AllBytes qs → AllBytes (others qs)
   kept-bytes [] h = tt
   kept-bytes (q ∷ qs) h = cond-cases AllBytes (isOthersBytes chosen q) (λ _. (h .0, kept-bytes qs (h .1))) (λ _. kept-bytes qs (h .1))
 
-  run-struct : (t : ByteTables) → IsStruct t → (qs : List ByteRequest) → AllBytes qs → IsStruct (final (tablesAfter d) t qs)
+  pub run-struct : (t : ByteTables) → IsStruct t → (qs : List ByteRequest) → AllBytes qs → IsStruct (final (tablesAfter d) t qs)
   run-struct t i [] h = i
   run-struct t i (q ∷ qs) h = run-struct (tablesAfter d t q) (struct-kept d e t i q (h .0)) qs (h .1)
 

@@ -23,3 +23,4 @@ pub mod HeaderRead
 pub mod OutcomeRead
 pub mod Whole
 pub mod IsolationRead
+pub mod ComparedRead

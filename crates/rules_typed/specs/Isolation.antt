@@ -1,14 +1,17 @@
 -- 'The others alone': the premise on the chosen senders, read in the book's tables.
 -- The chosen are any set of senders: of partners, and of the unauthenticated.
 use mathlib.Core.Path.{_≡_}
-use mathlib.Core.Bool.{Bool, true, false, _&&_, _||_, not}
+use mathlib.Core.Bool.{Bool, true, false, _&&_, _||_, not, cond}
 use Rattle.rows.specs.Rows.{same}
 use Rattle.rules.specs.declared.Sender.{Sender}
 use Rattle.rules_typed.specs.Lists.{isNone, holds, any, Maybe, none, just}
-use Rattle.rules_typed.specs.Types.{Permission, Security, AuthCrypt, Subject, IsUuid, HasRole, IsConnection, Access, Tables, Caller, Record}
+use Rattle.rules_typed.specs.Types.{Permission, Security, AuthCrypt, Subject, IsUuid, HasRole, IsConnection, Access, Tables, Caller, Record, Credential}
 use Rattle.rules_typed.specs.Directory.{securityResources}
 use Rattle.rules_typed.specs.Permission.{C, U, D, has, callerOf, sameConnection, resourceFits, isOwner}
 use Rattle.rules_typed.specs.Bodies.{senderOf}
+use Rattle.rules_typed.specs.Effect.{withCredentials}
+use mathlib.Core.List.{[], map}
+use Rattle.rules.specs.declared.Sender.the-variants.{Partner}
 
 -- the sender's credential row names an owner
 unfoldable pub namesOwner : Tables → Sender → Bool
@@ -46,3 +49,13 @@ Premise chosen (just t) = Harmless chosen t
 -- the record is one of the others'
 abbrev pub isOthers : (Sender → Bool) → Record → Bool
 isOthers chosen r = not (chosen (senderOf r))
+
+-- ---- the compared tables leave the chosen partners' asserted roles out (U11)
+
+unfoldable pub redacted : (Sender → Bool) → Credential → Credential
+redacted chosen c =
+    cond (chosen (Partner (c .number))) (record { number = c .number; subject = c .subject; role = c .role; kind = c .kind; asserted = [] }) c
+
+abbrev pub compared : (Sender → Bool) → Maybe Tables → Maybe Tables
+compared chosen none = none
+compared chosen (just t) = just (withCredentials (map (redacted chosen) (t .credentials)) t)

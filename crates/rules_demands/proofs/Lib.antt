@@ -1,0 +1,4 @@
+-- The records judged are bytes (FedBytes). Theorems: demands 1 and 2 of one call (OneCall); of any calls and of C calls, and demand 3 (Calls).
+pub mod FedBytes
+pub mod OneCall
+pub mod Calls
