@@ -29,6 +29,8 @@ INSTALLED := $(HEADERS:include/%=$(DESTDIR)$(INCLUDEDIR)/%) $(LIB)/libtillerclov
 BY_TARGET = $(patsubst $(LIBRARIES)/%/libterminal.a,%,$(wildcard $(LIBRARIES)/*/*/libterminal.a))
 # the WebAssembly modules beside them
 MODULES = $(patsubst $(LIBRARIES)/%/terminal.wasm,%,$(wildcard $(LIBRARIES)/*/*/terminal.wasm))
+# the processors of these, each of which has a pkg-config file of its own
+TRIPLES = $(patsubst %/O3,%,$(filter %/O3,$(BY_TARGET)))
 # the one among them that is the toolchain's own archive
 OWN = $(LIBRARIES)/x86_64-unknown-linux-gnu/O3/libterminal.a
 # what `make install-tool` writes
@@ -48,22 +50,16 @@ TOOL_DEB := $(DEBS)/tillerclover
 .PHONY: sample test lib targets sums install install-tool uninstall dist deb help
 
 sample: ## proves the decision, builds the run program and tries it on a sample of five records (the default)
-	@command -v rt >/dev/null || { echo "The toolchain's command rt is not on the path."; exit 1; }
-	@mkdir -p target
 	@echo "Proving: every record, on any tables, gets exactly the outcome of the rules (crates/rules/specs)."
 	@echo "Some six minutes on two idle cores; what was proved before and has not changed is not proved again."
-	@start=$$(date +%s); \
-	rt check run >target/sample.log 2>&1 || { grep -E 'NOT PROVED|: error' target/sample.log | head -n 5; \
-	    echo "NOT PROVED; target/sample.log has all that was said"; exit 1; }; \
-	echo "Proved: $$(grep -c '^rt: .* proved' target/sample.log) crates. The sample, by the program that was proved:"; \
-	target/bin/run <crates/run/stdin || exit 1; \
-	echo "$$(($$(date +%s) - start)) s"
+	@packaging/prove.sh check run
+	@echo "The sample, by the program that was proved:"
+	@target/bin/run <crates/run/stdin
 
 test: ## the gate: proves everything from nothing, tries every must-fail edit, runs all tests
 	.ci/run
 
-lib: ## proves the library and writes its archive, target/staticlib/libterminal.a
-	rt staticlib terminal
+lib: target/staticlib/libterminal.a ## proves the library and writes its archive, target/staticlib/libterminal.a
 
 sums: lib ## writes the kit's identity and the archive's sum to packaging/KIT
 	packaging/kit.sh --write
@@ -78,7 +74,7 @@ endif
 
 # only where it is missing or older than a source
 target/staticlib/libterminal.a: $(SOURCES)
-	rt staticlib terminal
+	@packaging/prove.sh staticlib terminal
 	@touch $@
 
 tool/target/release/tillerclover: $(ARCHIVE) $(wildcard tool/src/* answers/src/* bindings/rust/src/*)
@@ -99,6 +95,8 @@ install: $(ARCHIVE) ## installs headers, archives, pkg-config file and CMake pac
 	@for target in $(BY_TARGET); do $(INSTALL) -D -m 644 $(LIBRARIES)/$$target/libterminal.a $(LIB)/tillerclover/$$target/libtillerclover.a || exit 1; done
 	@for module in $(MODULES); do $(INSTALL) -D -m 644 $(LIBRARIES)/$$module/terminal.wasm $(LIB)/tillerclover/$$module/tillerclover.wasm || exit 1; done
 	$(call fill,packaging/tillerclover.pc.in) >$(LIB)/pkgconfig/tillerclover.pc
+	@for target in $(TRIPLES); do sed -e "s|^Libs: .*|Libs: -L\$${libdir}/tillerclover/$$target/O3 -ltillerclover|" -e "s|^Name: .*|&, for $$target|" \
+	    $(LIB)/pkgconfig/tillerclover.pc >$(LIB)/pkgconfig/tillerclover-$$target.pc && chmod 644 $(LIB)/pkgconfig/tillerclover-$$target.pc || exit 1; done
 	$(call fill,packaging/tillerclover-config.cmake.in) >$(LIB)/cmake/tillerclover/tillerclover-config.cmake
 	$(call fill,packaging/tillerclover-config-version.cmake.in) >$(LIB)/cmake/tillerclover/tillerclover-config-version.cmake
 	@chmod 644 $(INSTALLED)
@@ -108,7 +106,7 @@ install-tool: $(TOOL) ## installs the command tillerclover, its pages of the man
 
 uninstall: ## removes what `make install` and `make install-tool` with the same PREFIX and DESTDIR wrote
 	rm -f $(INSTALLED) $(TOOL_INSTALLED)
-	rm -rf $(LIB)/tillerclover
+	rm -rf $(LIB)/tillerclover $(wildcard $(LIB)/pkgconfig/tillerclover-*.pc)
 	@rmdir $(LIB)/cmake/tillerclover 2>/dev/null || true
 
 dist: $(ARCHIVE) $(TOOL) $(filter-out -,$(TERMINAL)) ## writes target/dist/tillerclover-VERSION.tar.gz: libraries, headers, binding, tool, examples, documents, SBOM, SHA256SUMS
@@ -117,7 +115,7 @@ dist: $(ARCHIVE) $(TOOL) $(filter-out -,$(TERMINAL)) ## writes target/dist/tille
 	@[ -d $(DIST)/lib/tillerclover ] || echo "dist: for x86-64 alone; for all processors, make targets comes before"
 	@packaging/install-tool.sh $(TOOL) $(DIST)
 	@sed -i -e 's|^prefix=.*|prefix=$${pcfiledir}/../..|' -e 's|^libdir=.*|libdir=$${prefix}/lib|' \
-	    -e 's|^includedir=.*|includedir=$${prefix}/include|' $(DIST)/lib/pkgconfig/tillerclover.pc
+	    -e 's|^includedir=.*|includedir=$${prefix}/include|' $(DIST)/lib/pkgconfig/*.pc
 	@tar -ch --exclude=target bindings/rust | tar -x -C $(DIST)
 	@cp -R SECURITY.md CHANGELOG.md CONTRIBUTING.md docs examples packaging/KIT $(DIST)/
 	@cp packaging/README-release.md $(DIST)/README.md

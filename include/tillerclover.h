@@ -638,7 +638,11 @@ TILLERCLOVER_RESULT
 static inline tillerclover_converted tillerclover_convert_list(const uint8_t *file, size_t length, uint8_t *rows,
                                                                size_t capacity);
 
-/* ---- How they are made of the archive's functions */
+/* ---- How they are made of the archive's functions
+ *
+ * These functions are not proved. They pass pointers on and give names to the words that the proved functions report; nothing
+ * is decided here. tests/inlines.c calls each beside the archive's own, and tests/headers.py makes wrong headers, each of
+ * which a test must notice. */
 
 /* What was said of a record, and the table of the places to store by the record's resource. Where there are no places, the
  * record is not looked at. */

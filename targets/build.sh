@@ -84,6 +84,7 @@ module() {
         return
     fi
     local work
+    echo "build.sh: proves the library once more, to keep its module"
     work=$(mktemp -d) && mkdir -p "$lib"
     keeping_kit "$work/kit" "$work/module.bc"
     beside "$work/root"
@@ -130,7 +131,7 @@ link_module() {
 
 # build TRIPLE FLAG..
 build() {
-    local folder=$lib/$1 level from=$lib/module.bc
+    local folder=$lib/$1 level from=$lib/module.bc start=$SECONDS
     mkdir -p "$folder"
     if [ "$1" != "$OWN" ]; then
         from=$folder/module.ll
@@ -147,6 +148,7 @@ build() {
     if [ "$1" = "$OWN" ]; then
         cmp "$folder/O3/libterminal.a" "$archive" || stop "the module gives another archive than the toolchain's own"
     fi
+    echo "build.sh: $1 at -O3 and -O2, $((SECONDS - start)) s"
 }
 
 if [ $# -eq 0 ]; then

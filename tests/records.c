@@ -105,7 +105,14 @@ static void records(void)
                   "40000000"
                   "00" NIL_TEXT,
                   "no owner");
+    for (size_t i = 0; i < sizeof UUID; i++) {
+        uint8_t one[TILLERCLOVER_UUID_LENGTH] = {0};
+        one[i] = 1;
+        expect(tillerclover_set_owner(0, one).bytes[4] == 0x80, "an owner whose UUID has one byte that is not 0");
+    }
     expect_record(tillerclover_set_row_owner(TILLERCLOVER_ACL2, 5, UUID), "50c00005" UUID_TEXT, "a row owner");
+    expect_record(tillerclover_set_row_owner(TILLERCLOVER_ROLES, 5, UUID), "51000005" UUID_TEXT,
+                  "a row owner of roles");
     expect_record(tillerclover_set_state(5, TILLERCLOVER_SRESET),
                   "50400005"
                   "80",
@@ -131,6 +138,14 @@ static void records(void)
            "the fields of a record");
     r = tillerclover_request_bare(TILLERCLOVER_UPDATE, TILLERCLOVER_YARD, 0);
     expect(tillerclover_record_connection(r.bytes) == TILLERCLOVER_ANON_CLEAR, "the connection of nobody");
+    for (unsigned verb = 0; verb < 8; verb++) {
+        for (unsigned resource = 0; resource < 64; resource++) {
+            r = tillerclover_record_of(verb, TILLERCLOVER_AUTH_CRYPT, resource, 1000 * verb + resource, NULL, 0);
+            expect(tillerclover_record_verb(r.bytes) == verb && tillerclover_record_resource(r.bytes) == resource &&
+                       tillerclover_record_sender(r.bytes) == 1000 * verb + resource,
+                   "the fields of a record with every verb and resource");
+        }
+    }
 }
 
 /* No body, the longest one, and longer ones: one byte too many is kept, for the library to refuse, and no more is read. Each

@@ -16,6 +16,8 @@ trap 'rm -rf "$work"' EXIT
 
 # ---- what the tests need
 
+. tests/header-lines.sh
+
 # have WHAT: a command, or a file
 have() { command -v "$1" >/dev/null || [ -e "$1" ]; }
 
@@ -238,7 +240,8 @@ test_interface() {
         compiles $language $'#if defined TILLERCLOVER_ASSERT || defined TILLERCLOVER_RESULT || defined TILLERCLOVER_NONNULL\n#error\n#endif' ||
             { echo "interface: in $language the header leaves a macro of its own" && failed=1; }
     done
-    for name in interface records yards; do
+    log cc -std=c11 -Wall -Wextra -Wpedantic -Werror -Iinclude tests/identity.c -o "$work/identity" && log "$work/identity" || failed=1
+    for name in interface inlines records yards; do
         c_program "$name" "tests/$name.c" && log "$work/$name" &&
             c_program sanitized -g -fsanitize=address,undefined -fno-sanitize-recover=all "tests/$name.c" && log "$work/sanitized" ||
             failed=1
@@ -257,16 +260,6 @@ foreign() {
     return 1
 }
 
-# The blocks of code that the store's header prints, each as a macro: tests/loads.c compiles them as they are printed.
-header_lines() {
-    awk '
-        BEGIN { split("LOAD_tables LOAD_whole STORE_LINES FAILED_LINES", name, " ") }
-        sub(/^ \*     /, "") { if (!inside) printf "#define %s", name[++blocks]; inside = 1; printf " \\\n    %s", $0; next }
-        { if (inside) print ""; inside = 0 }
-        END { exit blocks == 4 ? 0 : 1 }' include/tillerclover_store.h || { echo "tillerclover_store.h does not print four blocks of code"; return 1; }
-}
-
-
 # The store over a simulated EEPROM whose power is cut, alone and under a terminal, also under the sanitizers; and against the model.
 test_store() {
     need cc gcc && need c++ g++ && need_cargo && library || return 1
@@ -274,7 +267,7 @@ test_store() {
     for language in c11 c++11; do
         compiles $language '#include "tillerclover_store.h"' || { cat "$work/log" && return 1; }
     done
-    header_lines >"$work/header-lines.h" || return 1
+    header_lines include/tillerclover_store.h >"$work/header-lines.h" || return 1
     for name in store powercut loads; do
         c_program "$name" -O2 "-I$work" "tests/$name.c" && log "$work/$name" && cat "$work/log" &&
             c_program sanitized -g -fsanitize=address,undefined -fno-sanitize-recover=all "-I$work" "tests/$name.c" &&
@@ -423,7 +416,23 @@ test_documents() {
 
 # The library on the other processors, under emulation.
 test_targets() {
-    library && log targets/test.sh && cat "$work/log"
+    library && log targets/test.sh && cat "$work/log" && foreign_install
+}
+
+# What was installed serves its own targets: a program outside the repository for ARM with 64 bits, by pkg-config and by CMake, run
+# under emulation, and one for a Cortex-M4. CMake's cross build without a target finds no library, instead of this machine's.
+foreign_install() {
+    local prefix="$work/targets" triple=aarch64-unknown-linux-gnu outside="$work/foreign-outside" flags cmake
+    need cmake cmake && need pkg-config pkg-config && cp -R tests/install "$outside" && log make install PREFIX="$prefix" || return 1
+    read -ra flags < <(PKG_CONFIG_PATH="$prefix/lib/pkgconfig" pkg-config --cflags --libs tillerclover-$triple) &&
+        log aarch64-linux-gnu-gcc -static -std=c11 "$outside/main.c" "${flags[@]}" -o "$outside/main" && log qemu-aarch64 "$outside/main" || return 1
+    read -ra flags < <(PKG_CONFIG_PATH="$prefix/lib/pkgconfig" pkg-config --cflags --libs tillerclover-thumbv7em-none-eabi) &&
+        log arm-none-eabi-gcc -mcpu=cortex-m4 -mthumb --specs=nosys.specs -std=c11 "$outside/main.c" "${flags[@]}" -o "$outside/main" || return 1
+    cmake=(cmake -S "$outside" -B "$outside/build" -DCMAKE_PREFIX_PATH="$prefix" -DCMAKE_SYSTEM_NAME=Linux -DCMAKE_SYSTEM_PROCESSOR=aarch64
+        -DCMAKE_C_COMPILER=aarch64-linux-gnu-gcc -DCMAKE_EXE_LINKER_FLAGS=-static)
+    ! "${cmake[@]}" >"$work/log" 2>&1 && grep -q "set tillerclover_TARGET to one of" "$work/log" && rm -rf "$outside/build" ||
+        { cat "$work/log" && echo "targets: CMake gives a cross build this machine's archive" && return 1; }
+    log "${cmake[@]}" -Dtillerclover_TARGET=$triple && log cmake --build "$outside/build" && log qemu-aarch64 "$outside/build/outside"
 }
 
 # The vectors are those that the model writes today.

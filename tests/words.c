@@ -209,6 +209,24 @@ static void permissions(void)
     }
 }
 
+/* Each letter in the place of a digit. */
+static void digits(void)
+{
+    for (int letter = 1; letter < 128; letter++) {
+        char text[TILLERCLOVER_UUID_TEXT] = "00112233-4455-6677-8899-aabbccddeeff";
+        uint8_t back[TILLERCLOVER_UUID_LENGTH];
+        text[letter % 2 == 0 ? 0 : 35] = (char)letter;
+        printf("uuid-of\t");
+        hexadecimal(text, strlen(text));
+        putchar('\t');
+        if (tillerclover_uuid_of(back, text))
+            hexadecimal(back, sizeof back);
+        else
+            printf("none");
+        putchar('\n');
+    }
+}
+
 static void uuids(void)
 {
     for (unsigned turn = 0; turn < TURNS; turn++) {
@@ -260,6 +278,7 @@ int main(void)
     names();
     permissions();
     uuids();
+    digits();
     expect(strcmp(TILLERCLOVER_VERSION_TEXT, "2.0") != 0 || TILLERCLOVER_INTERFACE == 2000, "the version as text");
     printf("version\t%04x\t%s\n", (unsigned)TILLERCLOVER_INTERFACE, TILLERCLOVER_VERSION_TEXT);
     return 0;
