@@ -12,7 +12,7 @@ root=$PWD
 program=$(realpath "$1") || exit 2
 shift
 
-ALL=(documents keys tables store records faults silences locks backups questions yards page lists office runs lines expectations habits bad hostile crowd disk kills)
+ALL=(documents keys tables store records faults silences names locks backups questions yards page lists office runs lines expectations habits bad hostile crowd disk kills)
 work=$(mktemp -d) || exit 2
 small=$work/small
 trap 'umount "$small" 2>/dev/null; rm -rf "$work"' EXIT
@@ -247,6 +247,61 @@ part_silences() {
     cmp -s a before || fault "a part of all records was written"
     gives 0 "a: written" judge a --all UPDATE /oic/sec/pstat as 5 state=RFPRO UPDATE /oic/sec/pstat as 5 state=RFNOP \
         UPDATE /oic/sec/pstat as 5 state=RFPRO
+}
+
+# Names are printed beside numbers and UUIDs, and taken wherever these are.
+part_names() {
+    printf '%s\n' "# the yard" "5 $owner Yard Office" "7 $haulier Northfield Haulage" "8 North Gravel   # no UUID" "role 7@2 foreman" >a.names
+    tillerclover new a.tables >/dev/null
+    tillerclover judge a.tables --all UPDATE /oic/sec/cred number=office-yard subject=yard >/dev/null 2>errors
+    [ $? -eq 2 ] && grep -q "'office-yard' is no name" errors || fault "an unknown name: $(cat errors)"
+    tillerclover judge a.tables --all UPDATE /oic/sec/cred number=yard-office subject=yard UPDATE /oic/sec/cred number=northfield subject=northfield role=foreman \
+        UPDATE /oic/sec/cred number=8 "subject=$foreman" UPDATE /oic/sec/acl2 number=1 subject=northfield permission=RU resources=/tare \
+        UPDATE /oic/sec/acl2 number=2 subject=foreman permission=U resources=/ticket UPDATE /oic/sec/doxm owner=yard \
+        UPDATE /oic/sec/pstat as yard state=RFPRO UPDATE /oic/sec/pstat as yard state=RFNOP >out || fault "no yard by names: $(cat out)"
+    grep -q "UPDATE /oic/sec/pstat as 5 state=RFPRO  # Yard Office" out || fault "no name in: $(cat out)"
+    # the same tables as without names
+    mkdir -p plain && cp a.tables plain/b
+    gives 0 "a.tables and plain/b hold the same" diff a.tables plain/b
+    gives 0 "owner       $owner (Yard Office)" show a.tables
+    gives 0 "8       $foreman (North Gravel)" show a.tables
+    gives 0 "2       role:7@2 (foreman)" show a.tables
+    gives 0 "owner       $owner" show plain/b
+    ! grep -q "Yard Office" out.plain 2>/dev/null || fault "names of another file"
+    gives 0 "7 (Northfield Haulage), 8 (North Gravel) in a.tables: isolated" isolated a.tables northfield,north-gravel
+    gives 0 "7 (Northfield Haulage), 8 (North Gravel) in a.tables: isolated" isolated a.tables 6-9
+    gives 0 "7 (Northfield Haulage), 8 (North Gravel) in a.tables: isolated" isolated a.tables "all-but yard"
+    gives 2 "'north' may be Northfield Haulage or North Gravel" isolated a.tables north
+    gives 2 "'foreman' is the name of role 7@2, and of no partner" isolated a.tables foreman
+    gives 2 "no credential row has a number of 20-30" isolated a.tables 20-30
+    gives 0 "  south  8 (North Gravel)        isolated" yards a.tables north=northfield south=north-gravel
+    gives 1 "credential 8 (North Gravel) of $foreman" why a.tables UPDATE /tare as north-gravel
+    gives 0 "credential 8 (North Gravel) of $foreman on /tare: - -> RU" why a.tables --with "UPDATE /oic/sec/pstat as yard state=SRESET" \
+        --with "UPDATE /oic/sec/acl2 as yard number=9 subject=north-gravel permission=RU resources=/tare" RETRIEVE /oic/sec/doxm as yard
+    gives 0 '"name": "Northfield Haulage"' who UPDATE /tare a.tables --json
+    gives 0 "7       $haulier (Northfield Haulage)" rights a.tables
+    tillerclover rights a.tables --html - | grep -q "Credential 7 <b>Northfield Haulage</b>" || fault "no name on the page"
+    # other files of names
+    printf '7 Seven & <Sons>\n' >other
+    gives 0 "7       $haulier (Seven & <Sons>)" show plain/b --names other
+    tillerclover rights plain/b --names other --html - | grep -q "<b>Seven &amp; &lt;Sons&gt;</b>" || fault "a name is not escaped"
+    gives 0 "credential 7 (Seven & <Sons>)" why plain/b --names other --clock 0 UPDATE /tare as seven
+    gives 2 "missing: cannot be read" show plain/b --names missing
+    printf '7 %s Northfield\n' "$owner" >other
+    gives 2 "other: 7 Northfield is $owner, and credential row 7 is $haulier" show plain/b --names other
+    printf '7 Northfield\n7 Again\n' >other
+    gives 2 "other: line 2: credential 7 has a name already" show plain/b --names other
+    printf '9 Nobody\n' >other
+    gives 2 "the UUID of Nobody is not known: there is no credential row 9" judge plain/b --names other UPDATE /oic/sec/doxm owner=nobody
+    # a list, and expectations
+    tillerclover judge a.tables UPDATE /oic/sec/pstat as yard state=RFPRO >/dev/null
+    printf 'number=3 subject=northfield permission=U resources=/zero\n' >rows
+    gives 0 "1 row made" list make rows rows.list --names a.names
+    gives 0 "3       $haulier (Northfield Haulage)" list check rows.list --names a.names
+    gives 0 "access row 3 added" list load rows.list a.tables as yard
+    gives 2 "subject=northfield: a subject is a UUID" list make rows gone
+    printf 'tables = "a.tables"\n[[expect]]\nrecord = "UPDATE /tare as northfield"\nanswer = 11\n' >t.toml
+    gives 0 "1 expectation, 1 met, 0 not" test t.toml
 }
 
 # holder KIND FILE: a process that holds a lock on the file; its number in $held. A record lock (posix) is a running

@@ -8,7 +8,7 @@ use crate::colour::verdict;
 use crate::diff::{changes, Change};
 use crate::report::many;
 use crate::steps::{Act, Step};
-use crate::{hex, words};
+use crate::{hex, names, words};
 
 /// A step with what became of it.
 pub struct Judged {
@@ -83,11 +83,14 @@ impl Judged {
         let told = if self.permitted() { permission.to_string() } else { format!("{:<5}", answer.number()) };
         let further: String = self.further().iter().map(|line| format!("{:18}{line}\n", "")).collect();
         let padding = " ".repeat(9 - word.len());
-        format!(
-            "{}{padding}  {told}  {}\n{further}",
-            verdict(self.permitted(), word),
-            step_words(self.act, &self.record)
-        )
+        format!("{}{padding}  {told}  {}\n{further}", verdict(self.permitted(), word), self.named_words())
+    }
+
+    /// The step in words, and the name of its sender as a comment.
+    fn named_words(&self) -> String {
+        let name = Header::read(&self.record).and_then(|header| names::of_number(header.sender));
+        let comment = name.map_or(String::new(), |name| format!("  # {name}"));
+        step_words(self.act, &self.record) + &comment
     }
 
     fn further(&self) -> Vec<String> {

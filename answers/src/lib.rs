@@ -2,13 +2,15 @@
 //! JSON. It decides nothing itself, and needs no file, no clock and no screen.
 //!
 //! What surrounds a program is given to it: the zone and the second of the clock
-//! (`times`), and whether there are colours (`colour`). Each thread has its own.
+//! (`times`), the yard's names (`names`), and whether there are colours (`colour`).
+//! Each thread has its own.
 
 #![forbid(unsafe_code)]
 
 // What people write and read.
 pub mod colour;
 pub mod hex;
+pub mod names;
 pub mod parse;
 pub mod steps;
 pub mod times;

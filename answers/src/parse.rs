@@ -8,8 +8,9 @@ use tillerclover::{
 };
 use tillerclover::{Uuid, Wildcards, ANYONE};
 
-use crate::hex;
+use crate::names::Named;
 use crate::times::{self, Day};
+use crate::{hex, names};
 
 /// The records that arguments name. One in quotes is a record by itself; without quotes a record in words begins at
 /// each verb.
@@ -45,7 +46,7 @@ pub fn one(text: &str) -> Result<Vec<u8>, String> {
     let mut sender = ANYONE;
     if rest.first() == Some(&"as") {
         let number = rest.get(1).ok_or("'as' needs a credential number")?;
-        sender = number_of("credential number", number)?;
+        sender = credential(number)?;
         rest.drain(..2);
     }
     Ok(record(verb, resource, sender, &body(verb, resource, &rest)?))
@@ -105,6 +106,12 @@ fn either(words: &[String]) -> String {
         [one] => one.clone(),
         [all @ .., last] => format!("{} or {last}", all.join(", ")),
     }
+}
+
+/// A credential number, or the partner of a name.
+pub fn credential(text: &str) -> Result<u16, String> {
+    number_of("credential number", text)
+        .or_else(|error| names::partner(text).map_or(Err(error), |found| found.map(|partner| partner.number)))
 }
 
 fn number_of(what: &str, text: &str) -> Result<u16, String> {
@@ -175,7 +182,8 @@ impl<'a> Fields<'a> {
                 Ok(Body::Role(Asserted { role, last: self.second("last", Day::Ends)?.unwrap_or(u32::MAX) }))
             }
             (Verb::DELETE, Resource::CRED) if only == Some("subject") => self.uuid("subject").map(Body::Subject),
-            (Verb::DELETE, Resource::CRED | Resource::ACL2) => self.number("number").map(Body::Number),
+            (Verb::DELETE, Resource::CRED) => self.credential("number").map(Body::Number),
+            (Verb::DELETE, Resource::ACL2) => self.number("number").map(Body::Number),
             _ => Err(format!("{verb} of {resource} has no body with fields; write hex:.. or text:..")),
         }
     }
@@ -188,10 +196,18 @@ impl<'a> Fields<'a> {
         number_of(key, self.must(key)?)
     }
 
+    fn credential(&mut self, key: &str) -> Result<u16, String> {
+        credential(self.must(key)?)
+    }
+
     fn uuid(&mut self, key: &str) -> Result<Uuid, String> {
         match self.must(key)? {
             "none" => Ok(Uuid::NIL),
-            text => text.parse().map_err(|error| format!("{key}={text}: {error}")),
+            text => match (text.parse::<Uuid>(), names::subject(text)) {
+                (Ok(uuid), _) | (_, Some(Ok(uuid))) => Ok(uuid),
+                (_, Some(Err(error))) => Err(format!("{key}={text}: {error}")),
+                (Err(error), None) => Err(format!("{key}={text}: {error}")),
+            },
         }
     }
 
@@ -213,7 +229,7 @@ impl<'a> Fields<'a> {
     fn cred(&mut self) -> Result<Cred, String> {
         let kind = self.0.remove("type").unwrap_or("0");
         Ok(Cred {
-            number: self.number("number")?,
+            number: self.credential("number")?,
             subject: self.uuid("subject")?,
             role: self.role()?.unwrap_or_default(),
             kind: kind
@@ -239,10 +255,15 @@ impl<'a> Fields<'a> {
     }
 }
 
-/// A role: its number, with @ and its authority where that is not the works.
-fn role(text: &str) -> Result<Role, String> {
+/// A role: its number, with @ and its authority where that is not the works; or its name.
+pub fn role(text: &str) -> Result<Role, String> {
     let (number, authority) = text.split_once('@').unwrap_or((text, "0"));
-    Ok(Role { authority: number_of("authority", authority)?, number: number_of("role", number)? })
+    let read = || Ok(Role { authority: number_of("authority", authority)?, number: number_of("role", number)? });
+    match (read(), names::find(text)) {
+        (Err(_), Some(Ok(Named::Role(role)))) => Ok(role),
+        (Err(_), Some(Err(error))) => Err(error),
+        (read, _) => read,
+    }
 }
 
 fn subject(text: &str) -> Result<Subject, String> {
@@ -252,9 +273,16 @@ fn subject(text: &str) -> Result<Subject, String> {
     if let Some(text) = text.strip_prefix("role:") {
         return role(text).map(Subject::Role);
     }
-    text.parse().map(Subject::Uuid).map_err(|_| {
-        format!("subject={text}: a subject is a UUID, role:7, role:7@2 (of authority 2), auth-crypt or anon-clear")
-    })
+    if let Ok(uuid) = text.parse() {
+        return Ok(Subject::Uuid(uuid));
+    }
+    match names::find(text) {
+        Some(Ok(Named::Role(role))) => Ok(Subject::Role(role)),
+        Some(Ok(Named::Partner(partner))) => partner.known_subject().map(Subject::Uuid),
+        Some(Err(error)) => Err(error),
+        None => Err("a subject is a UUID, role:7, role:7@2 (of authority 2), auth-crypt or anon-clear".into()),
+    }
+    .map_err(|error| format!("subject={text}: {error}"))
 }
 
 fn add_resource(row: &mut Ace, name: &str) -> Result<(), String> {

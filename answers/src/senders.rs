@@ -4,7 +4,7 @@
 use serde_json::{json, Value};
 use tillerclover::{Asserted, Connection, Cred, Header, Resource, Role, Subject, Tables, Terminal, Uuid, Verb, ANYONE};
 
-use crate::words;
+use crate::{names, words};
 
 /// Somebody who may send records.
 #[derive(Clone, Copy, Debug, PartialEq, Eq)]
@@ -65,8 +65,10 @@ impl Sender {
     pub fn columns(self) -> String {
         match self {
             Sender::Clear => "clear\tanybody".into(),
-            Sender::Credential(row) => format!("{}\t{}", row.number, row.subject),
-            Sender::Asserting(role) => format!("any\twhoever asserts role {role}"),
+            Sender::Credential(row) => {
+                format!("{}\t{}", row.number, names::beside(row.subject.to_string(), names::of_number(row.number)))
+            }
+            Sender::Asserting(role) => format!("any\twhoever asserts role {}", words::named_role(role)),
         }
     }
 
@@ -74,9 +76,7 @@ impl Sender {
     pub fn json(self) -> Value {
         match self {
             Sender::Clear => json!({ "kind": "clear" }),
-            Sender::Credential(row) => {
-                json!({ "kind": "credential", "number": row.number, "subject": row.subject.to_string() })
-            }
+            Sender::Credential(row) => credential_json(row.number, Some(row.subject)),
             Sender::Asserting(role) => {
                 json!({ "kind": "asserting", "role": role.number, "authority": role.authority })
             }
@@ -87,10 +87,22 @@ impl Sender {
     pub fn words(self) -> String {
         match self {
             Sender::Clear => words::sender(ANYONE),
-            Sender::Credential(row) => format!("{} of {}", words::sender(row.number), row.subject),
-            Sender::Asserting(role) => format!("any credential that asserts role {role}"),
+            Sender::Credential(row) => format!("{} of {}", words::named_sender(row.number), row.subject),
+            Sender::Asserting(role) => format!("any credential that asserts role {}", words::named_role(role)),
         }
     }
+}
+
+/// A partner for programs, with its name where there is one.
+pub fn credential_json(number: u16, subject: Option<Uuid>) -> Value {
+    let mut json = json!({ "kind": "credential", "number": number });
+    if let Some(subject) = subject {
+        json["subject"] = json!(subject.to_string());
+    }
+    if let Some(name) = names::of_number(number) {
+        json["name"] = json!(name);
+    }
+    json
 }
 
 /// The roles that access rows are for, each once.

@@ -12,7 +12,7 @@ use crate::stored::Stored;
 use crate::times::{self, Zone};
 use crate::who::ROLES_ARE_OPEN;
 use crate::yards::{self, Finding, Other, Yard};
-use crate::{service, words};
+use crate::{names, service, words};
 
 const STYLE: &str = include_str!("sheet.css");
 
@@ -55,12 +55,14 @@ fn escape(text: &str) -> String {
 
 fn head(name: &str, terminal: &Terminal, clock: u32) -> String {
     let tables = &terminal.tables;
-    let mut lines =
-        vec![("State", escape(&words::state(tables.state()))), ("Device owner", escape(&words::uuid(tables.owner())))];
+    let mut lines = vec![
+        ("State", escape(&words::state(tables.state()))),
+        ("Device owner", escape(&words::named_uuid(tables.owner()))),
+    ];
     for resource in Resource::WITH_ROW_OWNER {
         let owner = tables.row_owner(resource).unwrap_or_default();
         if !owner.is_nil() {
-            lines.push(("Row owner", format!("{owner} of {resource}")));
+            lines.push(("Row owner", escape(&format!("{} of {resource}", words::named_uuid(owner)))));
         }
     }
     if service::locked_out(terminal) {
@@ -106,8 +108,11 @@ fn rights(lines: &[Line]) -> String {
 fn sender(sender: Sender) -> String {
     match sender {
         Sender::Clear => "Anybody, in clear".into(),
-        Sender::Credential(row) => format!("Credential {} <span class=\"mono\">{}</span>", row.number, row.subject),
-        Sender::Asserting(role) => format!("Any credential that asserts role {role}"),
+        Sender::Credential(row) => {
+            let name = names::of_number(row.number).map_or(String::new(), |name| format!(" <b>{}</b>", escape(&name)));
+            format!("Credential {}{name} <span class=\"mono\">{}</span>", row.number, row.subject)
+        }
+        Sender::Asserting(role) => format!("Any credential that asserts role {}", escape(&words::named_role(role))),
     }
 }
 
@@ -171,7 +176,7 @@ fn access_rows(terminal: &Terminal, clock: u32) -> String {
             "<tr><th scope=\"row\">{}</th><td class=\"mono\">{}</td><td class=\"mono\">{}</td><td>{}</td><td>{}</td>\
              <td class=\"mark\">{}</td></tr>\n",
             row.number,
-            escape(&words::subject(row.subject)),
+            escape(&words::named_subject(row.subject)),
             row.permission,
             escape(&words::resources_or_nothing(row)),
             escape(&times::period(row.period)),
@@ -196,8 +201,8 @@ fn credentials(tables: &Tables) -> String {
         format!(
             "<tr><th scope=\"row\">{}</th><td class=\"mono\">{}</td><td>{}</td><td>{}</td><td>{}</td></tr>\n",
             row.number,
-            row.subject,
-            words::role(row.role),
+            escape(&names::beside(row.subject.to_string(), names::of_number(row.number))),
+            escape(&words::named_role(row.role)),
             row.kind,
             words::asserted(&row.asserted),
         )
@@ -210,7 +215,7 @@ fn waiting(terminal: &Terminal) -> String {
     let heads = ["Sender", "Record"].map(String::from);
     let slots = terminal.waiting.slots();
     let rows = slots.iter().map(|slot| {
-        let (sender, record) = (words::sender(slot.sender), words::record(&slot.record));
+        let (sender, record) = (escape(&words::named_sender(slot.sender)), words::record(&slot.record));
         format!("<tr><th scope=\"row\">{sender}</th><td class=\"mono\">{}</td></tr>\n", escape(&record))
     });
     let rows: String = rows.collect();

@@ -12,7 +12,7 @@ use crate::report::{columns, Report, Status};
 use crate::soundness::{findings, Finding};
 use crate::stored::Stored;
 use crate::times::Zone;
-use crate::{service, words};
+use crate::{names, service, words};
 
 /// What is in a file of tables; seasons are marked as of the clock.
 pub fn show(path: &Path, stored: &Stored, clock: u32) -> Report {
@@ -62,9 +62,13 @@ fn tables(terminal: &Terminal, marks: &[Vec<Mark>]) -> String {
 fn head(terminal: &Terminal) -> Vec<String> {
     let tables = &terminal.tables;
     let owners: Vec<(Resource, Uuid)> = row_owners(tables).filter(|(_, owner)| !owner.is_nil()).collect();
-    let mut lines =
-        vec![format!("state\t{}", words::state(tables.state())), format!("owner\t{}", words::uuid(tables.owner()))];
-    lines.extend(owners.iter().map(|(resource, owner)| format!("row owner\t{owner} of {resource}")));
+    let mut lines = vec![
+        format!("state\t{}", words::state(tables.state())),
+        format!("owner\t{}", words::named_uuid(tables.owner())),
+    ];
+    lines.extend(
+        owners.iter().map(|(resource, owner)| format!("row owner\t{} of {resource}", words::named_uuid(*owner))),
+    );
     if owners.is_empty() {
         lines.push("row owners\tnone".into());
     }
@@ -89,8 +93,9 @@ fn table(title: String, head: &str, rows: Vec<String>) -> String {
 
 fn creds(tables: &Tables) -> String {
     let row = |row: &Cred| {
-        let (role, asserted) = (words::role(row.role), words::asserted(&row.asserted));
-        format!("{}\t{}\t{role}\t{}\t{asserted}", row.number, row.subject, row.kind)
+        let (role, asserted) = (words::named_role(row.role), words::asserted(&row.asserted));
+        let subject = names::beside(row.subject.to_string(), names::of_number(row.number));
+        format!("{}\t{subject}\t{role}\t{}\t{asserted}", row.number, row.kind)
     };
     let title = format!("Credentials, {} of {}", tables.ncreds, Cred::CAPACITY);
     let head = format!("number\tsubject\trole\ttype\tasserted roles ({})", Zone::chosen().name());
@@ -113,7 +118,7 @@ fn waiting(terminal: &Terminal) -> String {
     let Terminal { waiting, .. } = terminal;
     let round = words::round(waiting.last_taken());
     let title = format!("Waiting, {} of {}; the round {round}", waiting.count(), Waiting::CAPACITY);
-    table(title, "record", waiting.slots().iter().map(|slot| words::record(&slot.record)).collect())
+    table(title, "record", waiting.slots().iter().map(|slot| words::named_record(&slot.record)).collect())
 }
 
 fn json(path: &Path, stored: &Stored, found: &[Finding], marks: &[Vec<Mark>]) -> Value {

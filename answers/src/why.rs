@@ -79,15 +79,15 @@ fn sender(tables: &Tables, clock: u32, header: Header) -> String {
     let Some(row) = tables.creds().into_iter().find(|row| row.number == header.sender) else {
         return format!("credential {}, which no row has", header.sender);
     };
-    let mut words = format!("credential {} of {}", row.number, row.subject);
+    let mut said = format!("{} of {}", words::named_sender(row.number), row.subject);
     if row.role.number != 0 {
-        words += &format!(", role {}", row.role);
+        said += &format!(", role {}", words::named_role(row.role));
     }
     for place in row.asserted.iter().filter(|place| place.role.number != 0) {
         let over = if place.last < clock { " (over)" } else { "" };
-        words += &format!(", asserted role {} to {}{over}", place.role, times::word(place.last));
+        said += &format!(", asserted role {} to {}{over}", words::named_role(place.role), times::word(place.last));
     }
-    words
+    said
 }
 
 fn length_note(record: &[u8]) -> Vec<String> {
@@ -256,7 +256,7 @@ fn row_line(fit: &Fit) -> String {
         yes(*subject),
         yes(*resource),
         yes(*season),
-        words::subject(row.subject),
+        words::named_subject(row.subject),
         row.permission,
         times::period(row.period)
     )

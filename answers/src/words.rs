@@ -7,8 +7,8 @@ use tillerclover::{
     Verb, ANYONE,
 };
 
-use crate::hex;
 use crate::times::{self, Zone};
+use crate::{hex, names};
 
 /// A UUID, or that there is none.
 pub fn uuid(uuid: Uuid) -> String {
@@ -27,6 +27,36 @@ pub fn subject(subject: Subject) -> String {
         Subject::Connection(connection) => connection.to_string(),
         Subject::Other { kind, bytes } => format!("kind {kind}, {}", hex::write(&bytes)),
     }
+}
+
+/// A UUID and its partner's name, for people.
+pub fn named_uuid(one: Uuid) -> String {
+    names::beside(uuid(one), names::of_uuid(one))
+}
+
+/// A subject and its name, for people.
+pub fn named_subject(one: Subject) -> String {
+    match one {
+        Subject::Uuid(uuid) => named_uuid(uuid),
+        Subject::Role(role) => names::beside(subject(one), names::of_role(role)),
+        _ => subject(one),
+    }
+}
+
+/// A role and its name, for people; or that there is none.
+pub fn named_role(one: Role) -> String {
+    names::beside(role(one), names::of_role(one))
+}
+
+/// A sender and its name, for people.
+pub fn named_sender(number: u16) -> String {
+    names::beside(sender(number), names::of_number(number))
+}
+
+/// A record, and its sender's name as a comment after it.
+pub fn named_record(bytes: &[u8]) -> String {
+    let name = Header::read(bytes).and_then(|header| names::of_number(header.sender));
+    format!("{}{}", record(bytes), name.map_or(String::new(), |name| format!("  # {name}")))
 }
 
 /// Resources by name and wildcards by sign, with this between them.
@@ -249,5 +279,5 @@ pub fn resources_or_nothing(row: &Ace) -> String {
 pub fn ace_columns(row: &Ace) -> String {
     let resources = resources_or_nothing(row);
     let season = times::period(row.period);
-    format!("{}\t{}\t{}\t{resources}\t{season}", row.number, subject(row.subject), row.permission)
+    format!("{}\t{}\t{}\t{resources}\t{season}", row.number, named_subject(row.subject), row.permission)
 }

@@ -10,10 +10,12 @@ use tillerclover::{Permission, Resource, Set, Subject, Tables, Terminal, Uuid, A
 use crate::colour::{paint, Tone};
 use crate::error::{name, one_line};
 use crate::report::{columns, Report, Status};
-use crate::senders::Sender;
+use crate::senders::{credential_json, Sender};
 use crate::who::ROLES_ARE_OPEN;
-use crate::words;
+use crate::{names, words};
 
+/// The words before a list of those who are left out.
+const ALL_BUT: &str = "all-but";
 /// The word for anybody in clear, who has no number.
 const CLEAR: &str = "clear";
 
@@ -46,35 +48,62 @@ pub struct Other {
 
 // ---- what is written
 
-/// Numbers between commas.
-pub fn senders(list: &str) -> Result<Vec<u16>, String> {
+/// Numbers, ranges and names between commas; after the words `all-but`, all credential rows but these.
+pub fn senders(list: &str, tables: &Tables) -> Result<Vec<u16>, String> {
+    let rows: Vec<u16> = tables.creds().iter().map(|row| row.number).collect();
+    if let Some(rest) = list.trim().strip_prefix(ALL_BUT).filter(|rest| rest.starts_with([' ', ':'])) {
+        let left_out = listed(&rest[1..], &rows)?;
+        let senders: Vec<u16> = rows.into_iter().filter(|number| !left_out.contains(number)).collect();
+        return if senders.is_empty() { Err(format!("'{list}': no credential row is left")) } else { Ok(senders) };
+    }
+    listed(list, &rows)
+}
+
+fn listed(list: &str, rows: &[u16]) -> Result<Vec<u16>, String> {
     let mut senders = Vec::new();
     for word in list.split(',').map(str::trim) {
-        let number = match word {
-            CLEAR => ANYONE,
+        let numbers = match word {
+            CLEAR => vec![ANYONE],
             "" => return Err(format!("'{list}': credential numbers between commas, such as 7,8,9")),
             "0" => return Err(format!("0 is no credential number; anybody in clear is the word {CLEAR}")),
-            _ => word
-                .parse()
-                .map_err(|_| format!("'{word}' is no credential number, which is 1 to 65535, or {CLEAR}"))?,
+            _ => numbered(word, rows)?,
         };
-        if senders.contains(&number) {
-            return Err(format!("{word} stands twice"));
+        for number in numbers {
+            if senders.contains(&number) {
+                return Err(format!("{} stands twice", short(number)));
+            }
+            senders.push(number);
         }
-        senders.push(number);
     }
     Ok(senders)
 }
 
+/// The numbers of a word: one, the credential rows of a range, or the partner of a name.
+fn numbered(word: &str, rows: &[u16]) -> Result<Vec<u16>, String> {
+    if let Ok(number) = word.parse() {
+        return Ok(vec![number]);
+    }
+    let ends = word.split_once('-').and_then(|(first, last)| Some((first.parse().ok()?, last.parse().ok()?)));
+    if let Some((first, last)) = ends {
+        let inside: Vec<u16> = rows.iter().copied().filter(|number| (first..=last).contains(number)).collect();
+        return if inside.is_empty() { Err(format!("no credential row has a number of {word}")) } else { Ok(inside) };
+    }
+    let named = names::partner(word).map(|found| found.map(|partner| vec![partner.number]));
+    named.unwrap_or_else(|| Err(format!("'{word}' is no credential number, which is 1 to 65535, or {CLEAR}")))
+}
+
 /// The yards, each as NAME=LIST; nobody is of two.
-pub fn parse(texts: &[String]) -> Result<Vec<Yard>, String> {
+pub fn parse(texts: &[String], tables: &Tables) -> Result<Vec<Yard>, String> {
     let mut yards: Vec<Yard> = Vec::new();
     for text in texts {
         let (name, list) = text
             .split_once('=')
             .filter(|(name, _)| !name.is_empty())
             .ok_or_else(|| format!("'{text}': a yard is its name and its credential numbers, such as north=7,8,9"))?;
-        let yard = Yard { name: name.into(), senders: senders(list).map_err(|error| format!("yard {name}: {error}"))? };
+        let yard = Yard {
+            name: name.into(),
+            senders: senders(list, tables).map_err(|error| format!("yard {name}: {error}"))?,
+        };
         for other in &yards {
             if other.name == yard.name {
                 return Err(format!("yard {name} stands twice"));
@@ -176,7 +205,7 @@ pub fn others(terminal: &Terminal, yards: &[Yard]) -> Vec<Other> {
 fn short(number: u16) -> String {
     match number {
         ANYONE => CLEAR.into(),
-        _ => number.to_string(),
+        _ => names::beside(number.to_string(), names::of_number(number)),
     }
 }
 
@@ -186,8 +215,8 @@ fn subject_of(tables: &Tables, number: u16) -> Option<Uuid> {
 
 fn named(tables: &Tables, number: u16) -> String {
     match subject_of(tables, number) {
-        Some(subject) => format!("{} of {subject}", words::sender(number)),
-        None => words::sender(number),
+        Some(subject) => format!("{} of {subject}", words::named_sender(number)),
+        None => words::named_sender(number),
     }
 }
 
@@ -210,15 +239,14 @@ fn altering(tables: &Tables, place: usize) -> String {
     let letters = row.permission.without(Permission::RETRIEVE).without(Permission::NOTIFY);
     let security: Vec<Resource> = row.resources.resources().filter(|resource| resource.is_security()).collect();
     let resources = words::set(Set::of(&security)).join(" ");
-    let subject = words::subject(row.subject);
+    let subject = words::named_subject(row.subject);
     format!("may be given {letters} on {resources} by access row {}, which is for {subject}", row.number)
 }
 
 fn sender_json(tables: &Tables, number: u16) -> Value {
     match (number, subject_of(tables, number)) {
         (ANYONE, _) => json!({ "kind": "clear" }),
-        (_, Some(subject)) => json!({ "kind": "credential", "number": number, "subject": subject.to_string() }),
-        (_, None) => json!({ "kind": "credential", "number": number }),
+        (_, subject) => credential_json(number, subject),
     }
 }
 
@@ -317,14 +345,45 @@ mod tests {
     use super::*;
 
     fn fault(texts: &[&str]) -> String {
-        parse(&texts.iter().map(|text| text.to_string()).collect::<Vec<_>>()).expect_err("a fault")
+        let texts: Vec<String> = texts.iter().map(|text| text.to_string()).collect();
+        parse(&texts, &Terminal::new().tables).expect_err("a fault")
     }
 
     #[test]
     fn yards_in_words() {
-        let yards = parse(&["a=7, 8".into(), "b=clear,65535".into()]).expect("two yards");
+        let yards = parse(&["a=7, 8".into(), "b=clear,65535".into()], &Terminal::new().tables).expect("two yards");
         assert_eq!(yards[0], Yard { name: "a".into(), senders: vec![7, 8] });
         assert_eq!((yards[1].senders.clone(), yards[1].list()), (vec![0, 65535], "clear, 65535".into()));
+    }
+
+    #[test]
+    fn ranges_names_and_all_but() {
+        let mut tables = Terminal::new().tables;
+        let row = |number: u8| tillerclover::Cred {
+            number: number.into(),
+            subject: Uuid([number; 16]),
+            ..Default::default()
+        };
+        tables.set_creds(&[row(5), row(7), row(9), row(12)]);
+        names::Names::read("9 Gravel Co\n12 North-1").expect("names").choose();
+        for (list, found) in [
+            ("6-9,12", vec![7, 9, 12]),
+            ("gravel,5", vec![9, 5]),
+            ("north-1", vec![12]),
+            ("all-but 5, gravel", vec![7, 12]),
+            ("all-but:6-12", vec![5]),
+        ] {
+            assert_eq!(senders(list, &tables), Ok(found), "{list}");
+        }
+        for (list, error) in [
+            ("13-20", "no credential row has a number of 13-20"),
+            ("gravle", "'gravle' is no name; did you mean Gravel Co?"),
+            ("9,8-9", "9 (Gravel Co) stands twice"),
+            ("all-but 5-12", "'all-but 5-12': no credential row is left"),
+        ] {
+            assert_eq!(senders(list, &tables), Err(error.into()), "{list}");
+        }
+        names::Names::default().choose();
     }
 
     #[test]

@@ -26,6 +26,15 @@ pub fn command() -> Command {
                 .global(true),
         )
         .arg(
+            option(
+                "names",
+                "FILE",
+                "The yard's names, one to a line; without it those of a file FILE.names beside the tables",
+            )
+            .value_parser(value_parser!(PathBuf))
+            .global(true),
+        )
+        .arg(
             option("color", "WHEN", "Colours; auto is where a terminal shows them and NO_COLOR is not set")
                 .value_parser(["auto", "always", "never"])
                 .default_value("auto")
@@ -123,7 +132,7 @@ fn isolated() -> Command {
     Command::new("isolated")
         .about("Whether partners are isolated: whatever they send changes nothing for anybody else")
         .arg(file())
-        .arg(Arg::new("LIST").required(true).help("Credential numbers between commas; clear is anybody in clear"))
+        .arg(Arg::new("LIST").required(true).help("Credential numbers, ranges as 7-12 and names between commas, or all-but and these; clear is anybody in clear"))
         .arg(absent())
 }
 
@@ -172,13 +181,13 @@ fn list_make() -> Command {
 }
 
 fn list_load() -> Command {
-    let number = Arg::new("NUMBER").value_parser(value_parser!(u16)).required(true);
+    let number = Arg::new("NUMBER").required(true);
     let load = Command::new("load")
         .about("Test a list, then judge its rows as the owner's records on tables: all of them or none")
         .arg(path_argument("LIST", "The list, or the office's JSON"))
         .arg(path_argument("TABLES", "The file with the tables"))
         .arg(Arg::new("as").value_parser(["as"]).required(true).help("The word as"))
-        .arg(number.help("The owner's credential number"))
+        .arg(number.help("The owner's credential number or name"))
         .arg(flag("replace", "Delete all access rows first"))
         .arg(clock());
     stores(defaults(load))

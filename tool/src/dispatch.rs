@@ -15,7 +15,7 @@ use crate::arguments::{clock, defaults, file, force, path, records, tables, text
 use crate::error::{name, Error};
 use crate::records::word;
 use crate::store::{self, Care};
-use crate::{expect, judge, list, manual, new, run, undo, version, yards};
+use crate::{expect, judge, list, manual, names, new, run, undo, version, yards};
 
 /// What a command leaves to do.
 pub enum Done {
@@ -28,13 +28,20 @@ pub enum Done {
 /// Does what the command line says.
 pub fn dispatch(matches: &ArgMatches) -> Result<Done, Error> {
     match matches.subcommand() {
-        Some(("run", arguments)) => run::file(arguments, matches.get_flag("json")).map(Done::Printed),
+        Some(("run", arguments)) => {
+            names::choose(arguments).and_then(|()| run::file(arguments, matches.get_flag("json"))).map(Done::Printed)
+        }
         Some((name, arguments)) => report(name, arguments).map(Done::Report),
         None => unreachable!("clap asks for a subcommand"),
     }
 }
 
 fn report(name: &str, arguments: &ArgMatches) -> Result<Report, Error> {
+    if let Some((name, arguments)) = arguments.subcommand() {
+        names::choose(arguments)?;
+        return list::list(name, arguments);
+    }
+    names::choose(arguments)?;
     match name {
         "new" => new::new(file(arguments, "FILE"), text(arguments, "form"), defaults(arguments)?, force(arguments)),
         "show" => {
@@ -50,7 +57,7 @@ fn report(name: &str, arguments: &ArgMatches) -> Result<Report, Error> {
         "why" => explain(arguments),
         "isolated" => yards::isolated(arguments),
         "yards" => yards::yards(arguments),
-        "test" => expect::test(file(arguments, "FILE")),
+        "test" => expect::test(file(arguments, "FILE"), path(arguments, "names")),
         "completions" => manual::completions(text(arguments, "SHELL").unwrap_or_default()).map(plain),
         "man" => manual::page(&texts(arguments, "COMMAND")).map(plain),
         "diff" => {
@@ -58,10 +65,7 @@ fn report(name: &str, arguments: &ArgMatches) -> Result<Report, Error> {
             let [one, other] = names.map(|name| store::tables(name, Default::default()));
             Ok(diff::report(names, [&one?, &other?]))
         }
-        _ => match arguments.subcommand() {
-            Some((name, arguments)) => list::list(name, arguments),
-            None => unreachable!("clap asks for a subcommand"),
-        },
+        _ => unreachable!("clap knows no such command"),
     }
 }
 
@@ -82,7 +86,8 @@ fn who(arguments: &ArgMatches) -> Result<Report, Error> {
 fn rights(arguments: &ArgMatches) -> Result<Report, Error> {
     let (path, clock) = (file(arguments, "FILE"), clock(arguments)?);
     let stored = store::whole_tables(path, Default::default())?;
-    let named = parse_yards(&texts(arguments, "yard")).map_err(|error| Error::new(format!("--yard: {error}")))?;
+    let named = parse_yards(&texts(arguments, "yard"), &stored.terminal.tables)
+        .map_err(|error| Error::new(format!("--yard: {error}")))?;
     let report = matrix::report(path, &stored, clock);
     match self::path(arguments, "html") {
         Some(page) if report.status == Status::Yes => {

@@ -16,7 +16,7 @@ use tillerclover::{Answer, Permission, Terminal};
 use toml::value::Table;
 
 use crate::error::{name, one_line, Error};
-use crate::{nesting, store};
+use crate::{names, nesting, store};
 
 /// What an answer is to be.
 #[derive(Clone, Copy, Debug, PartialEq, Eq)]
@@ -43,9 +43,12 @@ struct Checked {
 }
 
 /// Tests a file of expectations: status 0 where all are met.
-pub fn test(path: &Path) -> Result<Report, Error> {
-    let suite: Suite = store::read_text(path)?.parse().map_err(|error: String| Error::of(path, error))?;
-    let tables = path.parent().unwrap_or(Path::new("")).join(&suite.tables);
+pub fn test(path: &Path, names: Option<&Path>) -> Result<Report, Error> {
+    let text = store::read_text(path)?;
+    let beside = |tables: &str| path.parent().unwrap_or(Path::new("")).join(tables);
+    let tables = Suite::tables(&text).map(|tables| beside(&tables)).map_err(|error| Error::of(path, error))?;
+    names::choose_for(names, Some(&tables))?;
+    let suite: Suite = text.parse().map_err(|error: String| Error::of(path, error))?;
     let mut terminal = store::whole_tables(&tables, Default::default())?.terminal;
     let results: Vec<Checked> =
         suite.expectations.iter().map(|expectation| expectation.ask(&mut terminal, suite.sequence)).collect();
@@ -54,29 +57,41 @@ pub fn test(path: &Path) -> Result<Report, Error> {
 
 /// A whole file.
 pub struct Suite {
-    tables: String,
     sequence: bool,
     expectations: Vec<Expectation>,
+}
+
+/// The values of a text that is not nested too deep.
+fn toml_of(text: &str) -> Result<toml::Value, String> {
+    match nesting::too_deep(text) {
+        Some(line) => Err(format!("line {line} is nested deeper than any expectation")),
+        None => text.parse().map_err(|error| format!("no TOML: {error}")),
+    }
+}
+
+impl Suite {
+    /// The file with the tables, which has to be known before names can be read.
+    fn tables(text: &str) -> Result<String, String> {
+        let toml = toml_of(text)?;
+        let table = toml.as_table().ok_or("it is no table")?;
+        let tables = string(table, "tables")?;
+        tables.map(String::from).ok_or("tables is missing: the file with the tables, beside this one".into())
+    }
 }
 
 impl FromStr for Suite {
     type Err = String;
 
     fn from_str(text: &str) -> Result<Suite, String> {
-        if let Some(line) = nesting::too_deep(text) {
-            return Err(format!("line {line} is nested deeper than any expectation"));
-        }
-        let toml: toml::Value = text.parse().map_err(|error| format!("no TOML: {error}"))?;
+        let toml = toml_of(text)?;
         let table = table(&toml, &["tables", "clock", "sequence", "expect"])?;
         let clock = clock(table)?;
-        let tables = string(table, "tables")?.ok_or("tables is missing: the file with the tables, beside this one")?;
         let list = table.get("expect").and_then(toml::Value::as_array).filter(|list| !list.is_empty());
         let list = list.ok_or("there is no [[expect]]")?;
         let one = |(place, value): (usize, &toml::Value)| {
             Expectation::read(place + 1, value, clock).map_err(|error| format!("expectation {}: {error}", place + 1))
         };
         Ok(Suite {
-            tables: tables.into(),
             sequence: flag(table, "sequence")?,
             expectations: list.iter().enumerate().map(one).collect::<Result<_, _>>()?,
         })

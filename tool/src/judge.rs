@@ -13,7 +13,7 @@ use tillerclover::Terminal;
 use crate::arguments::{care, clock, defaults, file, not_locked_out, records};
 use crate::error::{name, Error};
 use crate::lock::Locked;
-use crate::{records, store};
+use crate::{names, records, store};
 
 /// `judge FILE RECORD..`, and `hand-in FILE RECORD..`.
 pub fn judge(arguments: &ArgMatches, make: Make) -> Result<Report, Error> {
@@ -52,6 +52,7 @@ fn on_file(arguments: &ArgMatches, clock: u32, steps: Vec<Step>) -> Result<Repor
     let locked = if dry { None } else { Some(Locked::open(path, care.wait)?) };
     let bytes = locked.as_ref().map_or_else(|| store::read(path), Locked::read)?;
     let mut stored = Stored::whole(path, &bytes, given)?;
+    names::still_agree(path, &stored.terminal.tables)?;
     let (before, count) = (stored.terminal.clone(), steps.len());
     let judged = perform(&mut stored.terminal, steps, all);
     let permitted = judged.iter().all(Judged::permitted);

@@ -10,6 +10,7 @@ pub mod command;
 pub mod dispatch;
 pub mod help;
 pub mod manual;
+pub mod names;
 pub mod records;
 pub mod screen;
 pub mod version;

@@ -5,17 +5,17 @@ use std::fs;
 use std::os::unix::fs::MetadataExt;
 use std::path::Path;
 
-use answers::list;
 use answers::load::{self, Load};
 use answers::report::Report;
 use answers::stored::Stored;
+use answers::{list, parse};
 use clap::ArgMatches;
 use tillerclover::Terminal;
 
-use crate::arguments::{care, clock, defaults, file, force, not_locked_out};
+use crate::arguments::{care, clock, defaults, file, force, not_locked_out, text as text_of};
 use crate::error::{name, Error};
 use crate::lock::Locked;
-use crate::store;
+use crate::{names, store};
 
 /// `list NAME ..`.
 pub fn list(name: &str, arguments: &ArgMatches) -> Result<Report, Error> {
@@ -75,7 +75,7 @@ fn not_itself(from: &Path, new: &Path) -> Result<(), Error> {
 fn load(arguments: &ArgMatches) -> Result<Report, Error> {
     let (path, tables) = (file(arguments, "LIST"), file(arguments, "TABLES"));
     let (clock, dry, care) = (clock(arguments)?, arguments.get_flag("dry-run"), care(arguments));
-    let sender = arguments.get_one::<u16>("NUMBER").copied().unwrap_or_default();
+    let sender = parse::credential(text_of(arguments, "NUMBER").unwrap_or_default()).map_err(Error::new)?;
     let list = load::list_bytes(path, store::read(path)?)?;
     if !Terminal::test_list(&list).answer.is_permitted() {
         let mut report = list::check(path, &list);
@@ -86,6 +86,7 @@ fn load(arguments: &ArgMatches) -> Result<Report, Error> {
     let locked = if dry { None } else { Some(Locked::open(tables, care.wait)?) };
     let bytes = locked.as_ref().map_or_else(|| store::read(tables), Locked::read)?;
     let mut stored = Stored::whole(tables, &bytes, given)?;
+    names::still_agree(tables, &stored.terminal.tables)?;
     let before = stored.terminal.clone();
     let load = Load { list: &list, sender, clock, replace: arguments.get_flag("replace") };
     let loaded = match load.into_terminal(tables, &mut stored.terminal) {

@@ -11,33 +11,41 @@ use crate::arguments::{file, text, texts};
 use crate::error::Error;
 use crate::store;
 
-/// Reads FILE. The second is why there is nothing to ask.
-fn tables(arguments: &ArgMatches, yards: &[Yard]) -> Result<Result<Stored, Report>, Error> {
+/// The tables of FILE that are sound, and otherwise why they are not.
+fn tables(arguments: &ArgMatches) -> Result<Result<Stored, Report>, Error> {
     let path = file(arguments, "FILE");
     let stored = store::whole_tables(path, Default::default())?;
-    if let Some(report) = show::unless_sound(path, &stored) {
-        return Ok(Err(report));
-    }
+    Ok(match show::unless_sound(path, &stored) {
+        Some(report) => Err(report),
+        None => Ok(stored),
+    })
+}
+
+fn known(arguments: &ArgMatches, stored: &Stored, yards: &[Yard]) -> Result<(), Error> {
     let absent = arguments.get_flag("absent");
-    yards::known(yards, &stored.terminal.tables, absent).map_err(|error| Error::of(path, error))?;
-    Ok(Ok(stored))
+    yards::known(yards, &stored.terminal.tables, absent).map_err(|error| Error::of(file(arguments, "FILE"), error))
 }
 
 /// `isolated FILE LIST`.
 pub fn isolated(arguments: &ArgMatches) -> Result<Report, Error> {
+    let stored = match tables(arguments)? {
+        Ok(stored) => stored,
+        Err(report) => return Ok(report),
+    };
     let list = text(arguments, "LIST").unwrap_or_default();
-    let yard = Yard { name: String::new(), senders: yards::senders(list).map_err(Error::new)? };
-    Ok(match tables(arguments, std::slice::from_ref(&yard))? {
-        Ok(stored) => yards::isolated(file(arguments, "FILE"), &stored.terminal, &yard),
-        Err(report) => report,
-    })
+    let senders = yards::senders(list, &stored.terminal.tables).map_err(Error::new)?;
+    let yard = Yard { name: String::new(), senders };
+    known(arguments, &stored, std::slice::from_ref(&yard))?;
+    Ok(yards::isolated(file(arguments, "FILE"), &stored.terminal, &yard))
 }
 
 /// `yards FILE NAME=LIST..`.
 pub fn yards(arguments: &ArgMatches) -> Result<Report, Error> {
-    let yards = yards::parse(&texts(arguments, "YARD")).map_err(Error::new)?;
-    Ok(match tables(arguments, &yards)? {
-        Ok(stored) => yards::report(file(arguments, "FILE"), &stored.terminal, &yards),
-        Err(report) => report,
-    })
+    let stored = match tables(arguments)? {
+        Ok(stored) => stored,
+        Err(report) => return Ok(report),
+    };
+    let yards = yards::parse(&texts(arguments, "YARD"), &stored.terminal.tables).map_err(Error::new)?;
+    known(arguments, &stored, &yards)?;
+    Ok(yards::report(file(arguments, "FILE"), &stored.terminal, &yards))
 }
