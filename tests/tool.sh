@@ -12,7 +12,7 @@ root=$PWD
 program=$(realpath "$1") || exit 2
 shift
 
-ALL=(documents keys tables store records faults silences names locks backups questions yards page lists office runs lines expectations habits bad hostile crowd disk kills)
+ALL=(documents keys tables store images records faults silences names locks backups questions yards page lists office runs lines expectations habits bad hostile crowd disk kills)
 work=$(mktemp -d) || exit 2
 small=$work/small
 trap 'umount "$small" 2>/dev/null; rm -rf "$work"' EXIT
@@ -129,6 +129,57 @@ END
     ./again a b || fault "the terminal does not read the file"
     cmp -s a b || fault "the terminal writes another file"
     gives 0 "b: sound" show b
+}
+
+# Images of a store, as read out of a device: with images padded to pages, and with what follows the store.
+part_images() {
+    # image FILE N: the current image of a store of images of N bytes, by docs/STORE.md
+    image() { python3 -c '
+import sys
+store, n = open(sys.argv[1], "rb").read(), int(sys.argv[2])
+place = n * (sum(store[2 * n:2 * n + 8]) % 2)
+sys.stdout.buffer.write(store[place:place + n])' "$1" "$2"; }
+    local form plain n records
+    for form in "store tables 2172" "store-memory memory 8676"; do
+        read -r form plain n <<<"$form"
+        rm -f a b && tillerclover new --form "$form" a >/dev/null && tillerclover new --form "$plain" b >/dev/null
+        gives 0 "a: sound" show a
+        gives 0 "a and b hold the same" diff a b
+        printf '%s\n' "UPDATE /oic/sec/cred number=5 subject=$owner" "UPDATE /oic/sec/doxm owner=$owner" >setup
+        echo "UPDATE /oic/sec/pstat as 5 state=RFPRO" >move
+        for records in setup move; do
+            gives 0 "a: written" judge a "@$records"
+            tillerclover judge b "@$records" >/dev/null
+            image a "$n" | cmp -s - b || fault "$form: the current image is not the tables: $records"
+        done
+        gives 0 "\"form\": \"$form\"" show a --json
+        # the image before is the spare one: the mark decides
+        cmp -s <(tail -c +$((2 * n + 1)) a) <(tail -c +$((2 * n + 1)) a~) && fault "$form: no mark was raised"
+        [ "$(cmp -l a a~ | wc -l)" -lt 80 ] || fault "$form: more was written than differs: $(cmp -l a a~ | wc -l)"
+        # the whole device
+        { cat a && head -c $((32768 - 2 * n - 8)) /dev/zero | tr '\0' '\377'; } >dump
+        gives 0 "dump and a hold the same" diff dump a
+        gives 0 "dump: written" judge dump UPDATE /oic/sec/pstat as 5 state=RFNOP
+        [ "$(stat -c %s dump)" -eq 32768 ] || fault "$form: the dump is another length"
+        gives 0 "RFNOP" show dump
+        # images padded to pages of 64 bytes
+        python3 - a padded "$n" <<'END'
+import sys
+store, n = open(sys.argv[1], "rb").read(), int(sys.argv[3])
+page = bytes(-n % 64)
+open(sys.argv[2], "wb").write(store[:n] + page + store[n:2 * n] + page + store[2 * n:])
+END
+        gives 0 "padded and a hold the same" diff padded a
+        gives 0 "{\"aclist2\":[]}" list text padded
+        gives 1 "is the length of tables" list check padded
+        printf 'x' | dd of=dump bs=1 seek=32000 conv=notrunc status=none
+        gives 2 "dump: ends at byte 32768; a file of tables has" show dump
+    done
+    tillerclover new --force --form store a >/dev/null
+    gives 2 "a: has no room for records that wait, by its form; nothing was changed" hand-in a RETRIEVE /weight
+    tillerclover new --force --form store-memory a >/dev/null
+    gives 0 "kept" hand-in a RETRIEVE /weight
+    gives 0 "Waiting, 1 of 25" show a
 }
 
 part_records() {
@@ -691,7 +742,7 @@ part_lines() {
     gives 1 "nothing waits" take a
     # a form without room for what waits
     tillerclover new --form tables small >/dev/null && cp small before
-    gives 2 "small: is of the form tables, which has no room for records that wait; nothing was changed" hand-in small RETRIEVE /weight
+    gives 2 "small: has no room for records that wait, by its form; nothing was changed" hand-in small RETRIEVE /weight
     gives 0 "kept" hand-in small --dry-run RETRIEVE /weight
     cmp -s small before || fault "a form without room was changed"
 }

@@ -82,7 +82,7 @@ pub fn not_storable(list: &[u8]) -> Option<Tested> {
 pub fn refusal(list: &[u8], tested: Tested) -> String {
     let Tested { answer, row } = tested;
     let whole = list.len() / Ace::LENGTH;
-    if answer == Answer::TEST_BAD_SIZE && Form::of_length(list.len()).is_some() {
+    if answer == Answer::TEST_BAD_SIZE && Form::of(list).is_some() {
         return format!("{} bytes is the length of tables; 'list text' and 'show' take these", list.len());
     }
     if answer == Answer::TEST_BAD_SIZE {
@@ -179,7 +179,7 @@ fn bad_file(file: &[u8]) -> String {
 
 /// The office text of tables, or of a list that a terminal would load.
 pub fn text(path: &Path, bytes: &[u8], seasons: bool) -> Result<Report, Error> {
-    let terminal = if Form::of_length(bytes.len()).is_some() {
+    let terminal = if Form::of(bytes).is_some() {
         Stored::whole(path, bytes, Default::default())?.terminal
     } else {
         match load(bytes) {

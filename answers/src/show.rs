@@ -31,13 +31,13 @@ pub fn unless_sound(path: &Path, stored: &Stored) -> Option<Report> {
     let json = json!({
         "file": path.display().to_string(),
         "sound": false,
-        "faults": faults_json(stored.form.start(), &found),
+        "faults": faults_json(stored.start(), &found),
     });
     (!found.is_empty()).then(|| Report::new(text(path, stored, &found), json, Status::No))
 }
 
 fn text(path: &Path, stored: &Stored, found: &[Finding]) -> String {
-    let Stored { form, damage, .. } = stored;
+    let Stored { damage, .. } = stored;
     let mut text = String::new();
     if let Some(damage) = damage {
         text += &format!("{}: {damage}\n", name(path));
@@ -48,7 +48,7 @@ fn text(path: &Path, stored: &Stored, found: &[Finding]) -> String {
         let unsound = paint(Tone::Bad, "NOT SOUND");
         text += &format!("{}: {unsound}, every record gets 1 until the terminal is cleared\n", name(path));
         for Finding { place, byte, what } in found {
-            text += &format!("  {place}, at byte {}: {what}\n", form.start() + byte);
+            text += &format!("  {place}, at byte {}: {what}\n", stored.start() + byte);
         }
     }
     text
@@ -122,7 +122,7 @@ fn waiting(terminal: &Terminal) -> String {
 }
 
 fn json(path: &Path, stored: &Stored, found: &[Finding], marks: &[Vec<Mark>]) -> Value {
-    let Stored { form, terminal, damage } = stored;
+    let Stored { form, terminal, damage, .. } = stored;
     let tables = &terminal.tables;
     let owners = row_owners(tables).map(|(resource, owner)| (resource.to_string(), json!(owner.to_string()))).collect();
     let marked = |(row, marks): (&Ace, &Vec<Mark>)| {
@@ -136,7 +136,7 @@ fn json(path: &Path, stored: &Stored, found: &[Finding], marks: &[Vec<Mark>]) ->
         "form": form.name(),
         "damage": damage,
         "sound": found.is_empty(),
-        "faults": faults_json(form.start(), found),
+        "faults": faults_json(stored.start(), found),
         "state": { "number": tables.state, "name": tables.state().name() },
         "owned": tables.owned,
         "owner": tables.owner().to_string(),

@@ -156,7 +156,7 @@ fn everything_can_be_shown() {
     visit(1500, 211, |case| {
         let mut terminal = terminal(case);
         let sound = terminal.is_sound();
-        let stored = Stored { form: Form::Memory, terminal: terminal.clone(), damage: None };
+        let stored = Stored::new(Form::Memory, terminal.clone());
         let shown = show(path, &stored, case.clock);
         assert_eq!(shown.json["sound"], sound);
         assert_eq!(shown.text.contains("tables: sound"), sound, "{}", shown.text);

@@ -53,7 +53,8 @@ pub fn command() -> Command {
 }
 
 fn new() -> Command {
-    let form = "The tables alone (2,172 bytes), with what waits (8,676), or with mark and checksum (8,688)";
+    let form = "The tables alone (2,172 bytes), with what waits (8,676), with mark and checksum (8,688), or a store of the first two \
+                (4,352 and 17,360)";
     let new = Command::new("new")
         .about("Write the tables of a new terminal")
         .arg(file())

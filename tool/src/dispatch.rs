@@ -124,7 +124,7 @@ fn explain(arguments: &ArgMatches) -> Result<Report, Error> {
     let without = arguments.get_many("without").unwrap_or_default().copied().collect();
     let plan = Plan { without, with: with.map_err(Error::new)? };
     let stored = tables(arguments)?;
-    let explained = why::explain(&stored.terminal, clock, record).report(stored.form.start());
+    let explained = why::explain(&stored.terminal, clock, record).report(stored.start());
     match plan.is_empty() {
         true => Ok(explained),
         false => Ok(plan::report(explained, &stored.terminal, clock, record, &plan)),

@@ -61,7 +61,7 @@ fn on_file(arguments: &ArgMatches, clock: u32, steps: Vec<Step>) -> Result<Repor
         stored.terminal = before.clone();
     }
     if !dry && stored.loses_waiting() {
-        let message = "is of the form tables, which has no room for records that wait; nothing was changed";
+        let message = "has no room for records that wait, by its form; nothing was changed";
         return Err(Error::of(path, message));
     }
     not_locked_out(arguments, path, [&before, &stored.terminal])?;

@@ -13,7 +13,7 @@ use crate::store::{self, Care};
 /// Writes the tables of a new terminal, in the form of this name.
 pub fn new(path: &Path, form: Option<&str>, defaults: Given, replace: Option<Care>) -> Result<Report, Error> {
     let form = Form::ALL.into_iter().find(|known| Some(known.name()) == form).unwrap_or(Form::Terminal);
-    let stored = Stored { form, terminal: Terminal::with_defaults(defaults), damage: None };
+    let stored = Stored::new(form, Terminal::with_defaults(defaults));
     store::write(path, &stored.bytes(), replace)?;
     let text = format!("{}: written, {} bytes, a new terminal that nobody owns\n", name(path), form.length());
     let json = json!({ "file": path.display().to_string(), "form": form.name(), "bytes": form.length() });
