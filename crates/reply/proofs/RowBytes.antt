@@ -1,5 +1,8 @@
 -- The bytes of the rows that a table holds: of access rows the first bytes of the table, of credential rows their bodies.
-use Rattle.rows.proofs.Prelude.{_≡_, sym, ap, _∙_, List, [], _++_, map, ℕ, suc, _-_, _*_, _≤_, _<_, min, arith, length, take, drop, take-take}
+use Rattle.rows.proofs.Prelude.{_≡_, refl, sym, ap, _∙_, List, [], _++_, map, ℕ, zero, suc, _+_, _-_, _*_, _≤_, _<_, min, arith, length, take, drop, take-take}
+use Rattle.rows.proofs.Prelude.{length-append, length-drop, length-take-le}
+use Rattle.text.specs.Buffer.{largest, Puts}
+use Rattle.text.proofs.Buffers.{puts-beyond}
 use Rattle.rows.specs.Rows.{rowsOf, joined}
 use Rattle.rows.proofs.Laws.{joined-rowsOf, take-rest}
 use Rattle.rules.specs.declared.Table.the-variants.{Creds, Aces}
@@ -36,3 +39,17 @@ bodies-take n b h =
 pub bodies-end : (n : ℕ) (b : List ℕ) → n ≤ 0 → bodies n b ≡ []
 unfolding rowsOf joined
 bodies-end n b h = let e : n ≡ 0 = omega arith in ap (λ (k : ℕ). bodies k b) e
+
+-- so many bytes, where the rows are there
+pub bodies-long : (n : ℕ) (b : List ℕ) → n * credRowSize ≤ length b → length (bodies n b) ≡ n * credBodySize
+unfolding rowsOf joined
+bodies-long zero b h = omega arith
+bodies-long (suc n) b h =
+    rw (one-more n b, length-append, length-take-le credBodySize b (omega arith), bodies-long n (drop credRowSize b) (rw length-drop (omega arith))) (omega arith)
+
+-- past a buffer's end texts of one length are put alike: none is written
+pub counted : {o s t o′ : List ℕ} {at r : ℕ} → length o ≤ at → length s ≡ length t → Puts o at s o′ r → Puts o at t o′ r
+counted {o = o} {s = s} {t = t} {at = at} l e p = record {
+  next = p .next ∙ ap (λ (n : ℕ). min (at + n) largest) e;
+  buffer = p .buffer ∙ sym (puts-beyond o at s l refl .buffer) ∙ puts-beyond o at t l refl .buffer;
+}

@@ -54,6 +54,16 @@ fn put_own(out: &mut [u8], at: usize, h: Head, resource: u16) -> usize
     }
 }
 
+// The body that a row starts with, as bytes of its own: the compiler then copies it in a few moves.
+fn body_at(row: &[u8]) -> [u8; CRED_BODY]
+    requires { ⌜ credRowSize ≤ length (now row) ⌝ }
+    ensures { λ r. ⌜ r ≡ bodyOf (was row) ⌝ }
+{
+    let mut body = [0u8; CRED_BODY];
+    put(&mut body, 0, part(row, 0, CRED_BODY));
+    body
+}
+
 // Writes the bodies of the first `count` credential rows.
 fn put_bodies(out: &mut [u8], at: usize, creds: &[u8], count: usize) -> usize
     requires { ⌜ count * credRowSize ≤ length (now creds) ⌝ }
@@ -63,11 +73,23 @@ fn put_bodies(out: &mut [u8], at: usize, creds: &[u8], count: usize) -> usize
     let mut rest = creds;
     let mut left = count;
     while 0 < left {
-        p = put(out, p, part(rest, 0, CRED_BODY));
+        let body = body_at(rest);
+        p = put(out, p, &body);
         rest = &rest[CRED_ROW..];
         left -= 1;
     }
     p
+}
+
+// The same. Past the buffer's end the bodies are counted: as many bytes of the table are put, and none is written.
+fn put_creds(out: &mut [u8], at: usize, creds: &[u8], count: usize) -> usize
+    requires { ⌜ count * credRowSize ≤ length (now creds) ⌝ }
+    ensures { λ r. ⌜ Puts (was out) at (joined (map bodyOf (rowsOf credRowSize count (was creds)))) (became out) r ⌝ }
+{
+    if out.len() <= at {
+        return put(out, at, part(creds, 0, count * CRED_BODY));
+    }
+    put_bodies(out, at, creds, count)
 }
 
 fn put_rows<'a>(
@@ -86,7 +108,7 @@ fn put_rows<'a>(
     match resource {
         Resource::CRED => {
             let n = held(h.ncreds, CREDS);
-            put_bodies(out, at, creds, n)
+            put_creds(out, at, creds, n)
         }
         Resource::ACL2 => {
             let n = held(h.naces, ACES) * ACE_ROW;
@@ -160,8 +182,14 @@ pub fn reply_length<'a>(
 ) -> usize
     ensures { λ r. ⌜ r ≡ length (replyTo clock (before h creds aces) (callerRow (before h creds aces) caller) (caller .header)) ⌝ }
 {
+    let header = caller.header;
+    if !is_read(header) {
+        return 0;
+    }
+    let place = caller.row;
+    let e = header.resource;
     let mut none = [0u8; 0];
-    put_reply(&mut none, clock, h, creds, aces, caller)
+    put_contents(&mut none, clock, h, creds, aces, place, e.number)
 }
 
 // Check 15: the reply does not fit the buffer.

@@ -19,16 +19,16 @@ row-here c = a-row credRowSize _ (c .before .loop .rest .now) (c .loop-test .tak
 loop-again : tie.Need-loop-again Inv-loop μ-loop
 loop-again c =
     let put = c .before .before .before in
-    let row = put .before in
-    let turn = row .before .before in
+    let body = put .before .before .before in
+    let turn = body .before in
     let l = turn .before .loop in (
       simp (take-rest, length-drop) (omega (arith, l .inv .0, turn .loop-test .taken)),
-      writing-step _ _ (l .inv .1) (bodies-take (l .left) (l .rest .now) (turn .loop-test .taken)) (rw (row .part .ensures) at (put .put .ensures)),
+      writing-step _ _ (l .inv .1) (bodies-take (l .left) (l .rest .now) (turn .loop-test .taken)) (rw (body .body-at .ensures) at (put .put .ensures)),
     )
 
 pub put-bodies-spec : {M : Type 1} → Rattle.reply.proofs.put_bodies.Statement.statement M
 put-bodies-spec = tie.close (tie.spec
     Inv-loop μ-loop (λ c. (c .before .before .pre, writing-start _ _ _ (omega arith) (omega arith)))
-    (λ c κs. search needs) (λ c κs. search needs) (λ c. search needs) (λ c. search needs) (λ c. search needs) (λ c. search needs)
+    (λ c κs. row-here c) (λ c. search needs) (λ c κs. search needs) (λ c. search needs) (λ c. search needs) (λ c. search needs) (λ c. search needs)
     (λ c. search needs) loop-again (λ c. writing-length (c .before .loop .inv .1))
     (λ c. writing-end (c .before .loop .inv .1) (bodies-end (c .before .loop .left) _ (c .loop-test .left))))

@@ -6,8 +6,8 @@ use Rattle.rules.specs.declared.Table.the-variants.{Creds}
 use Rattle.rules.specs.Tables.{tableSize}
 use Rattle.reply.proofs.put_rows.Tie as tie
 
-put-bodies-requires : tie.Need-put-bodies-requires
-put-bodies-requires c κs =
+put-creds-requires : tie.Need-put-creds-requires
+put-creds-requires c κs =
     let held = c .before .before in
     let l : length (now (held .before .before .before .args .creds)) ≡ tableSize Creds = search needs in
     omega (arith, held .held .ensures)
@@ -15,11 +15,11 @@ put-bodies-requires c κs =
 pub put-rows-spec : {M : Type 1} → Rattle.reply.proofs.put_rows.Statement.statement M
 unfolding rowBytes
 put-rows-spec = tie.close (tie.spec
-    (λ c κs. search needs) put-bodies-requires (λ c κs. search needs) (λ c. search needs) (λ c κs. search needs) (λ c κs. search needs)
+    (λ c κs. search needs) put-creds-requires (λ c κs. search needs) (λ c. search needs) (λ c κs. search needs) (λ c κs. search needs)
     (λ c κs. search needs) (λ c κs. search needs) (λ c. search needs) (λ c κs. search needs) (λ c. search needs)
     (λ c. let bodies = c .before .before in
     let held = bodies .before .before .before in
-    rw (held .before .match .keys1, ← bodies-held _ _ _ (held .held .ensures)) (bodies .put-bodies .ensures))
+    rw (held .before .match .keys1, ← bodies-held _ _ _ (held .held .ensures)) (bodies .put-creds .ensures))
     (λ c. search needs)
     (λ c. let put = c .before .before in
     let held = put .before .before .before .before in
