@@ -84,12 +84,68 @@ static void answer_lost(struct core *c)
     }
 }
 
-/* The sessions of credentials whose rows are no more: after the answers, which still go to them. */
+/* ---- Sessions that are over */
+
+/* A record of this credential that is not handed in yet came in a session that is over. */
+static void drop_held(struct core *c, unsigned sender)
+{
+    struct client *client = find(c, sender);
+    if (client != NULL) {
+        answer_dropped(c, client);
+    }
+}
+
+/* A front that was started again has no session of before. */
+static void forget_lives_before(struct core *c)
+{
+    if (c->life != c->fronts.list[FRONT_SECURE].lives) {
+        c->life = c->fronts.list[FRONT_SECURE].lives;
+        memset(c->unconfirmed, 0, sizeof c->unconfirmed);
+    }
+}
+
+/* The sessions of credentials whose rows are no more, or others: after the answers, which still go to them. */
 static void end_sessions(struct core *c)
 {
     for (size_t i = 0; i < c->terminal.ended_length; i++) {
-        fronts_say(&c->fronts, FRONT_SECURE, MESSAGE_END, c->terminal.ended[i], NULL, 0);
+        unsigned sender = c->terminal.ended[i];
+        drop_held(c, sender);
+        forget_lives_before(c);
+        c->unconfirmed[sender]++;
+        fronts_say(&c->fronts, FRONT_SECURE, MESSAGE_END, sender, NULL, 0);
     }
+}
+
+/* The front has ended the sessions of a credential. All that it handed over before has come by now. */
+static bool take_ended(struct core *c, int front, const struct message *m)
+{
+    if (front != FRONT_SECURE || m->length != 0 || m->number > UINT16_MAX || c->unconfirmed[m->number] == 0) {
+        return false;
+    }
+    c->unconfirmed[m->number]--;
+    return true;
+}
+
+/* The front has the keys, and has ended the sessions of these credentials. */
+static bool take_keys(struct core *c, int front, const struct message *m)
+{
+    if (front != FRONT_SECURE || m->length % 2 != 0) {
+        return false;
+    }
+    for (size_t i = 0; i < m->length; i += 2) {
+        drop_held(c, (unsigned)m->body[i] << 8 | m->body[i + 1]);
+    }
+    if (c->keys_asked) {
+        log_say("%u keys read", m->number);
+    }
+    c->keys_asked = false;
+    return true;
+}
+
+void core_keys(struct core *c, const struct keys *keys)
+{
+    c->keys_asked = true;
+    fronts_say(&c->fronts, FRONT_SECURE, MESSAGE_KEYS, 0, keys, sizeof *keys);
 }
 
 /* ---- Hand-ins */
@@ -109,6 +165,42 @@ static bool may_store(const tillerclover_record *r)
            tillerclover_record_resource(r->bytes) < TILLERCLOVER_WEIGHT;
 }
 
+/* The credential whose row the record may change, or 0: a change of cred has its number first. */
+static unsigned target_of(const tillerclover_record *r)
+{
+    const uint8_t *body = r->bytes + TILLERCLOVER_HEADER_LENGTH;
+    bool changes = may_store(r) && tillerclover_record_resource(r->bytes) == TILLERCLOVER_CRED &&
+                   r->length >= TILLERCLOVER_HEADER_LENGTH + 2;
+    return changes ? (unsigned)body[0] << 8 | body[1] : 0;
+}
+
+/* Whether a record may change the row of the other's sender. */
+static bool changes_row_of(const struct client *a, const struct client *b)
+{
+    return b->sender != 0 && a->sender != b->sender && target_of(&a->record) == b->sender;
+}
+
+/* Not while it may change the tables, and they were stored a moment ago. Whoever has a key and no row is refused at
+ * once, and takes no place. */
+static bool is_due(const struct core *c, const struct client *client, int64_t now)
+{
+    return now >= c->next_store || !may_store(&client->record) || !terminal_knows(&c->terminal, client->sender);
+}
+
+/* Whether the record can be in the next round. A record is judged by its sender's row as it was when it came: so it is
+ * in no round in which another may change that row. Of two such records the one that came first is taken first. */
+static bool fits(const struct core *c, const struct client *client, int64_t now)
+{
+    for (size_t i = 0; i < TERMINAL_PLACES; i++) {
+        const struct client *other = &c->clients[i];
+        bool before = !other->held || (is_due(c, other, now) && other->order < client->order);
+        if (other->waits && before && (changes_row_of(other, client) || changes_row_of(client, other))) {
+            return false;
+        }
+    }
+    return true;
+}
+
 /* Hands the record of a client in. False: it is refused, and answered. */
 static bool hand_in(struct core *c, const struct client *client)
 {
@@ -123,9 +215,9 @@ static void take_record(struct core *c, struct client *from)
 {
     struct client *before = find(c, from->sender);
     struct client *place = before != NULL ? before : find_free(c);
-    /* Whoever has a key and no row is refused at once, and takes no place. */
-    from->held =
-        may_store(&from->record) && terminal_knows(&c->terminal, from->sender) && clock_steady() < c->next_store;
+    int64_t now = clock_steady();
+    from->order = ++c->came;
+    from->held = !is_due(c, from, now) || !fits(c, from, now);
     if (place == NULL || (before != NULL && (before->held || from->held))) {
         refuse(c, from, TILLERCLOVER_OCCUPIED);
     } else if (from->held || hand_in(c, from)) {
@@ -164,10 +256,18 @@ static bool take(struct core *c, int front, struct message *m)
                 .waits = true, .sender = tillerclover_record_sender(m->body), .front = front, .ticket = m->number};
             from.record.length = m->length;
             memcpy(from.record.bytes, m->body, m->length);
-            take_record(c, &from);
+            if (c->unconfirmed[from.sender] > 0) {
+                refuse(c, &from, TILLERCLOVER_NOTHING_WAITING);
+            } else {
+                take_record(c, &from);
+            }
             return true;
         }
         return false;
+    case MESSAGE_ENDED:
+        return take_ended(c, front, m);
+    case MESSAGE_KEYS:
+        return take_keys(c, front, m);
     default:
         return false;
     }
@@ -176,6 +276,7 @@ static bool take(struct core *c, int front, struct message *m)
 void core_read(struct core *c)
 {
     static struct message m;
+    forget_lives_before(c);
     for (int front = 0; front < FRONTS; front++) {
         for (int i = 0; i < MESSAGES && fronts_take(&c->fronts, front, &m); i++) {
             if (!take(c, front, &m)) {
@@ -206,28 +307,52 @@ static void serve(struct core *c)
     end_sessions(c);
 }
 
-/* Hands in what is held, where it is time. */
-static void hand_in_held(struct core *c)
+/* The held record that came next after one, or NULL. */
+static struct client *next_held(struct core *c, unsigned long order)
 {
+    struct client *next = NULL;
     for (size_t i = 0; i < TERMINAL_PLACES; i++) {
         struct client *client = &c->clients[i];
-        if (client->waits && client->held) {
+        if (client->waits && client->held && client->order > order && (next == NULL || client->order < next->order)) {
+            next = client;
+        }
+    }
+    return next;
+}
+
+/* Hands in what is held and can be in the next round, in the order in which it came. */
+static void hand_in_held(struct core *c, int64_t now)
+{
+    struct client *client;
+    for (unsigned long order = 0; (client = next_held(c, order)) != NULL; order = client->order) {
+        if (is_due(c, client, now) && fits(c, client, now)) {
             client->held = false;
             client->waits = hand_in(c, client);
         }
     }
 }
 
-int core_round(struct core *c)
+/* Milliseconds until a held record is due, or -1 where none is held. */
+static int until_due(const struct core *c)
 {
     int64_t now = clock_steady();
-    bool anybody = false, held = false;
-    if (now >= c->next_store) {
-        hand_in_held(c);
+    int least = -1;
+    for (size_t i = 0; i < TERMINAL_PLACES; i++) {
+        const struct client *client = &c->clients[i];
+        if (client->waits && client->held) {
+            int left = is_due(c, client, now) ? 0 : (int)(c->next_store - now);
+            least = least < 0 || left < least ? left : least;
+        }
     }
+    return least;
+}
+
+int core_round(struct core *c)
+{
+    bool anybody = false;
+    hand_in_held(c, clock_steady());
     for (size_t i = 0; i < TERMINAL_PLACES; i++) {
         anybody = anybody || (c->clients[i].waits && !c->clients[i].held);
-        held = held || (c->clients[i].waits && c->clients[i].held);
     }
     unsigned long stores = c->terminal.stores;
     if (anybody) {
@@ -236,7 +361,7 @@ int core_round(struct core *c)
     if (c->terminal.stores > stores) {
         c->next_store = clock_steady() + BETWEEN_STORES;
     }
-    return held ? (int)(c->next_store > now ? c->next_store - now : 0) : -1;
+    return until_due(c);
 }
 
 void core_clear(struct core *c)

@@ -12,8 +12,11 @@ struct client {
     unsigned sender;
     int front;
     uint32_t ticket;
-    /* The record is not handed in yet: it may change the tables, and they were stored a moment ago. */
+    /* The record is not handed in yet: it may change the tables, and they were stored a moment ago; or it has to be in
+     * another round than one that came before. */
     bool held;
+    /* counts the records as they came, from 1 */
+    unsigned long order;
     tillerclover_record record;
 };
 
@@ -28,6 +31,15 @@ struct core {
     bool verbose;
     /* steady milliseconds: no store before this */
     int64_t next_store;
+    /* records that came */
+    unsigned long came;
+    /* For each credential, how often the secure front was told that its sessions are over and has not confirmed it:
+     * until then what it hands over in this name may be of a session that was opened under another row. And which life
+     * of the front that is about. */
+    uint16_t unconfirmed[UINT16_MAX + 1];
+    unsigned life;
+    /* whether the keys were read again, and the front has not confirmed it */
+    bool keys_asked;
 };
 
 /* Reads what the fronts say, and answers what is refused at once. */
@@ -39,5 +51,8 @@ int core_round(struct core *c);
 
 /* The clear button. */
 void core_clear(struct core *c);
+
+/* The keys were read again: the secure front gets them. */
+void core_keys(struct core *c, const struct keys *keys);
 
 #endif

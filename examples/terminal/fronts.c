@@ -77,6 +77,7 @@ static bool launch(struct fronts *f, struct front *front)
         return false;
     }
     front->pid = pid;
+    front->lives++;
     front->socket = pair[0];
     front->started = front->heard = clock_steady();
     if (front == &f->list[FRONT_SECURE]) {

@@ -19,6 +19,8 @@ struct front {
     const char *name, *port;
     /* 0: it does not run */
     pid_t pid;
+    /* how often it was started */
+    unsigned lives;
     int socket;
     /* steady milliseconds: when it started, was heard last, or is to be started again; and the pause before that */
     int64_t started, heard, due, pause;

@@ -123,8 +123,7 @@ static void read_keys_again(struct program *p)
 {
     char error[KEYS_ERROR];
     if (keys_read(&p->keys, p->options.keys, error)) {
-        fronts_say(&p->core.fronts, FRONT_SECURE, MESSAGE_KEYS, 0, &p->keys, sizeof p->keys);
-        log_say("%zu keys read", p->keys.length);
+        core_keys(&p->core, &p->keys);
     } else {
         log_say("%s; the keys stay as they were", error);
     }

@@ -13,11 +13,14 @@ enum message_kind {
     MESSAGE_ALIVE = 1,
     MESSAGE_RECORD,
     MESSAGE_NOTE,
-    /* By the core: the answer to the record of ticket `number`; the keys; the sessions of credential `number` are over.
-     */
+    /* By the core: the answer to the record of ticket `number`; the sessions of credential `number` are over. */
     MESSAGE_ANSWER,
-    MESSAGE_KEYS,
-    MESSAGE_END
+    MESSAGE_END,
+    /* By a front: those sessions have ended, and nothing of them comes any more. */
+    MESSAGE_ENDED,
+    /* By the core: the keys. By a front: it has `number` keys, and has ended the sessions of the credentials in the
+     * body, of 16 bits each, whose keys are others now. */
+    MESSAGE_KEYS
 };
 
 enum {

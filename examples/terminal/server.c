@@ -119,10 +119,18 @@ static void end_sessions(struct server *s, unsigned sender)
     }
 }
 
+/* What the core must hear, or it waits for it for ever: a front that cannot say it ends. */
+static void confirm(struct server *s, enum message_kind kind, uint32_t number, const void *body, size_t length)
+{
+    s->over = s->over || !message_send(s->core, kind, number, body, length);
+}
+
 /* Sessions whose key is no more, or is another, are over. */
 static void take_keys(struct server *s, const struct message *m)
 {
     static struct keys before;
+    uint8_t numbers[2 * KEYS_MOST];
+    size_t length = 0;
     if (m->length != sizeof s->keys) {
         return;
     }
@@ -130,11 +138,15 @@ static void take_keys(struct server *s, const struct message *m)
     memcpy(&s->keys, m->body, sizeof s->keys);
     s->key_changes++;
     for (size_t i = 0; i < before.length; i++) {
-        const struct key *key = keys_of(&s->keys, before.list[i].number);
+        unsigned number = before.list[i].number;
+        const struct key *key = keys_of(&s->keys, number);
         if (key == NULL || strcmp(key->secret, before.list[i].secret) != 0) {
-            end_sessions(s, before.list[i].number);
+            end_sessions(s, number);
+            numbers[length++] = (uint8_t)(number >> 8);
+            numbers[length++] = (uint8_t)number;
         }
     }
+    confirm(s, MESSAGE_KEYS, (uint32_t)s->keys.length, numbers, length);
 }
 
 static void obey(struct server *s, const struct message *m)
@@ -148,6 +160,7 @@ static void obey(struct server *s, const struct message *m)
         break;
     case MESSAGE_END:
         end_sessions(s, m->number);
+        confirm(s, MESSAGE_ENDED, m->number, NULL, 0);
         break;
     case MESSAGE_ALIVE:
         s->unheard = false;
@@ -171,7 +184,7 @@ bool server_hear(struct server *s)
             obey(s, &m);
             break;
         case MESSAGE_NONE:
-            return true;
+            return !s->over;
         default:
             return false;
         }

@@ -24,6 +24,8 @@ struct server {
     struct unacknowledged unacknowledged;
     struct waiting waiting;
     uint32_t ticket;
+    /* the core did not hear what it must */
+    bool over;
     /* a message of the core that came in the middle of a request */
     struct message held;
     bool holds;
@@ -37,7 +39,7 @@ struct server {
 /* Opens the endpoint. A port that is in use ends the program. */
 void server_open(struct server *s, int core, bool secure, const char *address, const char *port);
 
-/* Hears what the core has said, and sends the answers. False: the core is gone. */
+/* Hears what the core has said, and sends the answers. False: the core is gone, or does not listen. */
 bool server_hear(struct server *s);
 
 /* Reads a datagram; a request in it goes to the core. False: there is none. */
