@@ -17,6 +17,7 @@ use Rattle.rules_typed.specs.Outcome.{refused, outcome}
 use Rattle.rules_typed.specs.Reading.{readTables, readRecord}
 use Rattle.rules_typed.specs.Writing.{writtenOutcome, writtenLinks}
 use Rattle.rules_typed.specs.Struct.{IsStruct, DefaultBytes}
+use Rattle.rules_typed.proofs.SoundExact.{read-is}
 use Rattle.rules_typed.proofs.Whole.{outcome-written}
 use Rattle.rules_waiting.specs.Terminal.{Terminal, Transition, soundTerminal, takeChecks, due, taken, HandedOut, judged}
 use Rattle.rules_waiting.specs.Calls.{Takes, Judges}
@@ -24,9 +25,9 @@ use Rattle.rules_waiting.proofs.Sound.{terminal-parts}
 use Rattle.rules_demands.specs.Demands.{freshOf, tablesIn, judgedIn, Tells}
 
 -- on a sound terminal the tables are read
-in-sound : (x : Terminal) → soundTerminal x ≡ true → readTables (x .tables) ≡ tablesIn x
-unfolding readTables tablesIn when
-in-sound x h = rw (h, terminal-parts x h .tables)
+in-sound : (x : Terminal) → IsStruct (x .tables) → soundTerminal x ≡ true → readTables (x .tables) ≡ tablesIn x
+unfolding tablesIn when
+in-sound x i h = rw (read-is (x .tables) i, h, terminal-parts x h .tables)
 
 take-sound : (x : Terminal) → verdictBytes (takeChecks x) ≡ Pass → soundTerminal x ≡ true
 take-sound x p = not-false _ (passed (takeChecks x) p 1)
@@ -36,7 +37,7 @@ module _ (d : Defaults) (e : DefaultBytes d) (x : Terminal) (i : IsStruct (x .ta
   whole : (q : ByteRequest) → isBytes (q .bytes) ≡ true → soundTerminal x ≡ true → outcomeBytes d (x .tables) q ≡ writtenOutcome (x .tables) (judgedIn d x q)
   whole q b h =
       outcome-written d e (x .tables) i q b
-      ∙ ap (λ (m : Maybe Tables). writtenOutcome (x .tables) (outcome (freshOf d) m (readRecord q))) (in-sound x h)
+      ∙ ap (λ (m : Maybe Tables). writtenOutcome (x .tables) (outcome (freshOf d) m (readRecord q))) (in-sound x i h)
 
   not-sound : (q : ByteRequest) → soundTerminal x ≡ false → judgedIn d x q ≡ refused 1 none
   unfolding tablesIn when outcome verdict

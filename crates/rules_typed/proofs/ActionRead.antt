@@ -62,7 +62,7 @@ asked-when f t x = bool-cases t (λ z. rw z) (λ z. rw z)
 zero-nil : (u : List ℕ) → length u ≡ 16 → isNil u ≡ allZero u
 zero-nil u l = test-same _ _ (nil-zeros u) (zeros-nil u l)
 
-owner-valid : (u : List ℕ) → length u ≡ 16 → isBytes u ≡ true → uuidOrNone (ownerOf u) ≡ true
+pub owner-valid : (u : List ℕ) → length u ≡ 16 → isBytes u ≡ true → uuidOrNone (ownerOf u) ≡ true
 unfolding ownerOf
 owner-valid u l h = bool-cases (allZero u) (λ z. rw z) (λ z. rw z (uuid-is u l h (zero-nil u l ∙ z)))
 
@@ -123,7 +123,7 @@ target-body (x ∷ []) l h =
 
 -- ---- roles, 8 bytes
 
-role-body : (b : List ℕ) → length b ≡ 8 → isBytes b ≡ true → not (noRole b) ≡ (validAsserted (assertedOf b) && same (assertedBytes (assertedOf b)) b)
+pub role-body : (b : List ℕ) → length b ≡ 8 → isBytes b ≡ true → not (noRole b) ≡ (validAsserted (assertedOf b) && same (assertedBytes (assertedOf b)) b)
 unfolding noRole validAsserted validRole
 role-body b l h =
     test-same _ _

@@ -24,6 +24,7 @@ use Rattle.rules.proofs.TableLaws.{few-rows, rows-long}
 use Rattle.rules_typed.proofs.PermissionRead.{creds-good}
 use Rattle.rules_typed.specs.Effect.{withCredentials}
 use Rattle.rows.specs.Rows.{Row}
+use Rattle.rules_typed.proofs.SoundExact.{read-is}
 
 -- a row without its asserted roles
 bare-read : (w : Row) → Good credHeld w → credentialAs (withoutRoles w) ≡ credentialIn w []
@@ -71,11 +72,12 @@ module _ (chosen : Sender → Bool) where
   -- tables of which the same is compared, over bytes, are compared the same
   pub compared-read : (t u : ByteTables) → IsStruct t → IsStruct u → soundBytes t ≡ soundBytes u → comparedBytes chosen t ≡ comparedBytes chosen u
       → compared chosen (readTables t) ≡ compared chosen (readTables u)
-  unfolding readTables when comparedBytes
+  unfolding when comparedBytes
   compared-read t u i j s e =
-      bool-cases (soundBytes t)
+      rw (read-is t i, read-is u j)
+      (bool-cases (soundBytes t)
       (λ x. let y : soundBytes u ≡ true = sym s ∙ x in
       let is : redactedIn chosen t ≡ redactedIn chosen u = rw (x, y) at e in
       rw (x, y) (sym (tables-redacted t (record { isSound = x; struct = i })) ∙ ap (λ (v : ByteTables). just (tablesOf v)) is
       ∙ tables-redacted u (record { isSound = y; struct = j })))
-      (λ x. let y : soundBytes u ≡ false = sym s ∙ x in rw (x, y))
+      (λ x. let y : soundBytes u ≡ false = sym s ∙ x in rw (x, y)))

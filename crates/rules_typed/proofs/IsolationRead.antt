@@ -36,6 +36,7 @@ use Rattle.rules.specs.Directory.{entryOf, resourceOf as byteResource, someSecu
 use Rattle.rules.specs.declared.Resource.{Resource as ByteResource}
 use Rattle.rules_typed.proofs.DirectoryRead.{entry-read}
 use Rattle.rules_typed.proofs.HeaderRead.{sender-read}
+use Rattle.rules_typed.proofs.SoundExact.{read-is}
 
 -- ---- the premise
 
@@ -92,8 +93,8 @@ module _ (t : ByteTables) (g : Given t) where
   }
 
 premise-read : (chosen : Sender → Bool) (t : ByteTables) → IsStruct t → Premise chosen (readTables t) → PremiseBytes chosen t
-unfolding readTables when
-premise-read chosen t i p s = harmless-read t (record { isSound = s; struct = i }) chosen (rw s at p)
+unfolding when
+premise-read chosen t i p s = harmless-read t (record { isSound = s; struct = i }) chosen (rw (read-is t i, s) at p)
 
 -- ---- along the book's run
 

@@ -73,7 +73,7 @@ own-bytes r n l =
 abbrev pub number : ApplicationResource → ℕ
 number a = numberOf (Application a)
 
-below : (a : ApplicationResource) → rowOf a .number < 64
+pub below : (a : ApplicationResource) → rowOf a .number < 64
 below Weight = omega arith
 below Tare = omega arith
 below Zero = omega arith

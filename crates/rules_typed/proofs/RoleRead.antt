@@ -29,7 +29,7 @@ module _ (v w : Row) (e : bodyOf v ≡ bodyOf w) where
 
 -- ---- roles
 
-few-there : (ps : List Row) → Few ps → withoutRows noRole ps ≡ ps
+pub few-there : (ps : List Row) → Few ps → withoutRows noRole ps ≡ ps
 unfolding withoutRows
 few-there [] f = refl
 few-there (p ∷ []) f = rw (f .1)

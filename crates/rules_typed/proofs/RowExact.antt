@@ -53,7 +53,7 @@ uuid-there u h =
     let there : not (allZero u) ≡ true = search (and-left, and-right) in
     bool-cases (isNil u) (λ n. contradiction (nil-zeros u n) (not-true _ there)) (λ n. n)
 
-role-long : (m : Maybe Role) → length (roleBytes m) ≡ 4
+pub role-long : (m : Maybe Role) → length (roleBytes m) ≡ 4
 unfolding be16
 role-long none = refl
 role-long (just r) = refl
@@ -143,7 +143,7 @@ module _ (b : List ℕ) (h : isBytes b ≡ true) where
 
 -- ---- a row of 36 bytes
 
-subject-long : (s : Subject) → validSubject s ≡ true → length (subjectBytes s) ≡ 16
+pub subject-long : (s : Subject) → validSubject s ≡ true → length (subjectBytes s) ≡ 16
 unfolding be16
 subject-long (IsUuid u) v = uuid-long u v
 subject-long (HasRole r) v = refl
@@ -162,11 +162,11 @@ subject-valid w h l k =
     (λ f. rw (e, f)))
 
 -- a set's bits are those of the bytes, one by one
-flag-small : (b : Bool) → flag b < 2
+pub flag-small : (b : Bool) → flag b < 2
 flag-small true = omega arith
 flag-small false = omega arith
 
-digits : (set : Resource → Bool) (w : List ℕ) (s n : ℕ) → bitsFrom set s n ≡ bits w (32 + s) n → (k : ℕ) → k < n
+pub digits : (set : Resource → Bool) (w : List ℕ) (s n : ℕ) → bitsFrom set s n ≡ bits w (32 + s) n → (k : ℕ) → k < n
     → flag (inSet set (s + k)) ≡ bit w (32 + (s + k))
 unfolding bitsFrom bits
 digits set w s zero e k l = absurd (omega arith)

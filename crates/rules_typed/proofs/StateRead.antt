@@ -25,7 +25,7 @@ pub record IsState (s : ℕ) : Type 0 where
   pub low : 1 ≤ s
   pub high : s ≤ 4
 
-of-state : (P : ℕ → Type 0) → P 1 → P 2 → P 3 → P 4 → (s : ℕ) → IsState s → P s
+pub of-state : (P : ℕ → Type 0) → P 1 → P 2 → P 3 → P 4 → (s : ℕ) → IsState s → P s
 of-state P b c d e zero h = absurd (omega (arith, h .low))
 of-state P b c d e (suc n) h = to-four (λ k. 1 ≤ k → P k) (λ l. absurd (omega arith)) (λ _. b) (λ _. c) (λ _. d) (λ _. e) (suc n) (h .high) (h .low)
 

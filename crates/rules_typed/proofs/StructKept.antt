@@ -58,7 +58,7 @@ rows-long : (k : Table) (ws : List Row) → length ws * stride k ≤ tableSize k
 rows-long k ws fits s = length-packed (stride k) (tableSize k) ws (every-long (stride k) (storable k) (sized k) ws (s .stores)) fits
 
 -- the tables with other rows, other row owners, another owner
-rows-struct : (k : Table) (t : ByteTables) (ws : List Row) → SoundRows k ws → Each IsBytes ws → IsStruct t → IsStruct (withRows k t ws)
+pub rows-struct : (k : Table) (t : ByteTables) (ws : List Row) → SoundRows k ws → Each IsBytes ws → IsStruct t → IsStruct (withRows k t ws)
 rows-struct Creds t ws s q x = record {
   owner-long = x .owner-long;
   owners-long = x .owners-long;

@@ -20,6 +20,7 @@ use Rattle.rules_typed.proofs.OutcomeRead.{outcome-typed}
 use Rattle.rules_typed.proofs.TablesBack.{tables-back}
 use Rattle.rules_typed.proofs.StructKept.{given-kept}
 use Rattle.rules.specs.Run.{replies, final}
+use Rattle.rules_typed.proofs.SoundExact.{read-is}
 
 -- bytes that are no tables get 1, and stay
 unsound-written : (d : Defaults) (fresh : Tables) (t : ByteTables) (q : ByteRequest) → soundBytes t ≡ false
@@ -40,11 +41,12 @@ module _ (d : Defaults) (e : DefaultBytes d) where
 
   pub outcome-written : (t : ByteTables) → IsStruct t → (q : ByteRequest) → isBytes (q .bytes) ≡ true
       → outcomeBytes d t q ≡ writtenOutcome t (outcome first (readTables t) (readRecord q))
-  unfolding readTables when
+  unfolding when
   outcome-written t i q h =
-      bool-cases (soundBytes t)
+      rw (read-is t i)
+      (bool-cases (soundBytes t)
       (λ s. rw s (sound-written t (record { isSound = s; struct = i }) q h))
-      (λ s. rw s (unsound-written d first t q s))
+      (λ s. rw s (unsound-written d first t q s)))
 
   -- the tables afterwards are arrays of bytes again, and are read as the typed ones
   pub struct-kept : (t : ByteTables) → IsStruct t → (q : ByteRequest) → isBytes (q .bytes) ≡ true → IsStruct (tablesAfter d t q)
@@ -56,12 +58,13 @@ module _ (d : Defaults) (e : DefaultBytes d) where
 
   pub next-read : (t : ByteTables) → IsStruct t → (q : ByteRequest) → isBytes (q .bytes) ≡ true
       → readTables (tablesAfter d t q) ≡ next first (readTables t) (readRecord q)
-  unfolding readTables when outcomeBytes outcomeAt outcome verdictBytes verdict
+  unfolding when outcomeBytes outcomeAt outcome verdictBytes verdict
   next-read t i q h =
-      bool-cases (soundBytes t)
+      rw (read-is t i, read-is (tablesAfter d t q) (struct-kept t i q h))
+      (bool-cases (soundBytes t)
       (λ s. let g : Given t = record { isSound = s; struct = i } in
       rw (s, given-kept d e t g q h .isSound) (outcome-typed d t g q h .tables))
-      (λ s. rw (s, tablesAfter, s))
+      (λ s. rw (s, tablesAfter, s)))
 
   -- ---- runs
 

@@ -12,14 +12,14 @@ use Rattle.rules.specs.Lookup.{lookup}
 use Rattle.rules.specs.Bits.{bit, bits}
 use Rattle.rules.specs.Record.{Request as ByteRequest}
 use Rattle.rules.specs.Roles.{noRole, rolesOf}
-use Rattle.rules.specs.Tables.{rows, sound as soundBytes}
+use Rattle.rules.specs.Tables.{rows}
 use Rattle.rules_typed.specs.Lists.{Maybe, none, just, when}
 use Rattle.rules_typed.specs.Types.{Bytes, Uuid, Verb, Create, Retrieve, Update, Delete, Observe, Connection, AnonClear, AuthCrypt, Record, State, RFOTM}
 use Rattle.rules_typed.specs.Types.{RFPRO, RFNOP, SRESET, Target, Reset, To, Role, Asserted, Credential, Access, RowOwners, Tables, Subject, IsUuid}
 use Rattle.rules_typed.specs.Types.{HasRole, IsConnection}
 use Rattle.rules_typed.specs.Directory.{numberOf, resourceOf}
-use Rattle.rules_typed.specs.Tables.{uuidOrNone, validCredential, validAccess, validAsserted}
-use Rattle.rules_typed.specs.Writing.{ownerBytes, targetBytes, credentialBytes, assertedBytes, accessBytes}
+use Rattle.rules_typed.specs.Tables.{uuidOrNone, validCredential, validAccess, validAsserted, sound}
+use Rattle.rules_typed.specs.Writing.{ownerBytes, targetBytes, credentialBytes, assertedBytes, accessBytes, writtenTables}
 
 -- ---- numbers
 
@@ -125,8 +125,20 @@ tablesOf t = record {
   accesses = map accessOf (rows Aces t);
 }
 
+unfoldable pub sameTables : ByteTables → ByteTables → Bool
+sameTables t u =
+    eqb (t .state) (u .state)
+    && eqb (t .owned) (u .owned)
+    && eqb (t .ncreds) (u .ncreds)
+    && eqb (t .naces) (u .naces)
+    && same (t .devowner) (u .devowner)
+    && same (t .rowners) (u .rowners)
+    && same (t .creds) (u .creds)
+    && same (t .aces) (u .aces)
+
+-- none: the bytes are no tables (check 1)
 unfoldable pub readTables : ByteTables → Maybe Tables
-readTables t = when (soundBytes t) (tablesOf t)
+readTables t = when (sound (tablesOf t) && sameTables (writtenTables (tablesOf t)) t) (tablesOf t)
 
 -- ---- a record: verb (3), connection (1), resource (6), zeros (6), credential number (16), body
 
