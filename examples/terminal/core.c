@@ -16,16 +16,25 @@ enum {
 
 /* ---- The log */
 
-_Static_assert(LOG_SOURCES == 2 * FRONTS, "each front is two sources of lines");
+_Static_assert((int)LOG_FRONTS == (int)FRONTS, "each front has lines of its own");
+
+static enum log_kind kind_of(const uint8_t *record, unsigned number)
+{
+    unsigned verb = tillerclover_record_verb(record);
+    if (number != TILLERCLOVER_PERMITTED || verb == TILLERCLOVER_RETRIEVE || verb == TILLERCLOVER_OBSERVE) {
+        return LOG_READ;
+    }
+    return tillerclover_record_resource(record) < TILLERCLOVER_WEIGHT ? LOG_CHANGE : LOG_ACT;
+}
 
 static void report(const struct core *c, const uint8_t *record, size_t size, unsigned number, unsigned code)
 {
     static const char *const VERBS[] = {"CREATE", "RETRIEVE", "UPDATE", "DELETE", "OBSERVE", "5", "6", "7"};
+    unsigned sender = tillerclover_record_sender(record);
     if (c->verbose) {
-        log_line(tillerclover_record_sender(record) == 0 ? FRONT_CLEAR : FRONT_SECURE,
-                 "%u %s %s, %zu bytes: %u %s, %u.%02u", tillerclover_record_sender(record),
-                 VERBS[tillerclover_record_verb(record)], directory_path(tillerclover_record_resource(record)),
-                 size - TILLERCLOVER_HEADER_LENGTH, number, answer_meaning(number), code / 100, code % 100);
+        log_record(sender, kind_of(record, number), "%u %s %s, %zu bytes: %u %s, %u.%02u", sender,
+                   VERBS[tillerclover_record_verb(record)], directory_path(tillerclover_record_resource(record)),
+                   size - TILLERCLOVER_HEADER_LENGTH, number, answer_meaning(number), code / 100, code % 100);
     }
 }
 
@@ -35,7 +44,7 @@ static void report_note(const struct core *c, int front, struct message *m)
     for (size_t i = 0; i < m->length; i++) {
         m->body[i] = isprint(m->body[i]) ? m->body[i] : '?';
     }
-    log_line(FRONTS + front, "%s: %.*s", c->fronts.list[front].name, (int)(m->length < 200 ? m->length : 200),
+    log_note(front, "%s: %.*s", c->fronts.list[front].name, (int)(m->length < 200 ? m->length : 200),
              (const char *)m->body);
 }
 

@@ -328,12 +328,13 @@ static int on_event(coap_session_t *session, const coap_event_t event)
 
 /* A client begins a session. Whoever has not returned its cookie is asked for it. A session that it has from before is
  * over: it has forgotten it, as after a loss of power. */
-static bool hello_passes(struct server *s, const struct guard_hello *hello, const coap_address_t *from)
+static bool hello_passes(struct server *s, const struct guard_hello *hello, const struct endpoint_arrival *arrival)
 {
+    const coap_address_t *from = &arrival->from;
     if (!guard_cookie_fits(hello, &from->addr.sa, from->size)) {
         uint8_t datagram[GUARD_VERIFY];
         guard_verify_request(hello, &from->addr.sa, from->size, datagram);
-        sendto(s->endpoint, datagram, sizeof datagram, MSG_DONTWAIT, &from->addr.sa, from->size);
+        endpoint_reply(s->endpoint, arrival, datagram, sizeof datagram);
         return false;
     }
     coap_session_t *before = sessions_from(&s->sessions, from);
@@ -348,30 +349,31 @@ static bool hello_passes(struct server *s, const struct guard_hello *hello, cons
 }
 
 /* In a handshake the shortest enciphered record is the one that ends it, and that is longer than any overhead. */
-static bool passes_secure(struct server *s, const uint8_t *datagram, size_t length, const coap_address_t *from)
+static bool passes_secure(struct server *s, const uint8_t *datagram, size_t length,
+                          const struct endpoint_arrival *arrival)
 {
     struct guard_hello hello;
-    const coap_session_t *session = sessions_from(&s->sessions, from);
+    const coap_session_t *session = sessions_from(&s->sessions, &arrival->from);
     switch (guard_hello(datagram, length, &hello)) {
     case GUARD_LATER:
         return guard_records(datagram, length, endpoint_overhead(session));
     case GUARD_ENCIPHERED:
         return session != NULL && guard_records(datagram, length, endpoint_overhead(session));
     case GUARD_HELLO:
-        return hello_passes(s, &hello, from);
+        return hello_passes(s, &hello, arrival);
     default:
         return false;
     }
 }
 
-static bool passes(struct server *s, const uint8_t *datagram, size_t length, const coap_address_t *from)
+static bool passes(struct server *s, const uint8_t *datagram, size_t length, const struct endpoint_arrival *arrival)
 {
     if (s->secure) {
-        return passes_secure(s, datagram, length, from);
+        return passes_secure(s, datagram, length, arrival);
     }
     enum guard_kind kind = guard_message(datagram, length);
     if (kind == GUARD_RECEIPT) {
-        unacknowledged_receipt(&s->unacknowledged, from, NULL, guard_message_id(datagram));
+        unacknowledged_receipt(&s->unacknowledged, &arrival->from, NULL, guard_message_id(datagram));
     }
     return kind != GUARD_NONE;
 }
@@ -380,15 +382,12 @@ bool server_read(struct server *s)
 {
     /* as much of a datagram as libcoap takes, and more */
     uint8_t datagram[2048];
-    coap_address_t from;
-    coap_address_init(&from);
-    from.size = sizeof from.addr;
-    ssize_t length =
-        recvfrom(s->endpoint, datagram, sizeof datagram, MSG_PEEK | MSG_DONTWAIT, &from.addr.sa, &from.size);
+    struct endpoint_arrival arrival;
+    ssize_t length = endpoint_peek(s->endpoint, datagram, sizeof datagram, &arrival);
     if (length < 0 && (errno == EAGAIN || errno == EWOULDBLOCK)) {
         return false;
     }
-    if (length < 0 || !passes(s, datagram, (size_t)length, &from)) {
+    if (length < 0 || !passes(s, datagram, (size_t)length, &arrival)) {
         recv(s->endpoint, datagram, sizeof datagram, MSG_DONTWAIT);
     } else {
         coap_io_process(s->context, COAP_IO_NO_WAIT);
