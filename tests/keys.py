@@ -20,6 +20,11 @@ COMMANDS = [
     ("new", ["new", "b", "--force"], ""),
     ("judge", ["judge", "b", "UPDATE /oic/sec/cred number=5 subject=" + "1" * 32, "RETRIEVE /oic/sec/cred"], ""),
     ("hand-in", ["hand-in", "b", "RETRIEVE /weight"], ""),
+    ("fresh", ["fresh", "b", "missing"], ""),
+    ("clear", ["clear", "e", "missing"], ""),
+    ("many", ["show", "b", "b"], ""),
+    ("many", ["diff", "b", "b", "c"], ""),
+    ("many", ["list", "check", "old", "missing"], ""),
     ("show", ["show", "b"], ""),
     ("take", ["take", "b", "2"], ""),
     ("undo", ["undo", "b"], ""),
@@ -110,6 +115,8 @@ def prepare(program):
     subprocess.run([program, "judge", "d", MOVE, loose, "--no-backup"], check=True, stdout=subprocess.DEVNULL)
     with open("bad", "wb") as file:
         file.write(b"\x09" + bytes(2171))
+    with open("e", "wb") as file:
+        file.write(tables)
     with open("old", "wb") as file:
         file.write(bytes(16) + b"\x10\x00\x80" + bytes(6))
     with open("t.toml", "w", encoding="utf-8") as file:

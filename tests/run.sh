@@ -57,10 +57,10 @@ need_component() {
 }
 
 # The crates that the answers and the tool need, from Debian's packages.
-CRATES=(chrono chrono-tz clap clap_complete crc32fast indicatif libc serde serde_json strsim tabwriter tempfile toml)
+CRATES=(chrono chrono-tz clap clap_complete crc32fast indicatif libc serde serde_json sha2 strsim tabwriter tempfile toml)
 need_crates() {
     local crate packages=()
-    for crate in "${CRATES[@]}" sha2; do
+    for crate in "${CRATES[@]}"; do
         compgen -G "/usr/share/cargo/registry/$crate-[0-9]*" >/dev/null || packages+=("librust-${crate//_/-}-dev")
     done
     need_cargo && { [ "${#packages[@]}" -eq 0 ] || get "${packages[@]}"; }

@@ -12,7 +12,7 @@ root=$PWD
 program=$(realpath "$1") || exit 2
 shift
 
-ALL=(documents keys tables store images records faults silences names locks backups questions yards page lists office runs lines expectations habits bad hostile crowd disk kills)
+ALL=(documents keys tables store images records faults silences names boxing many locks backups questions yards page lists office runs lines expectations habits bad hostile crowd disk kills)
 work=$(mktemp -d) || exit 2
 small=$work/small
 trap 'umount "$small" 2>/dev/null; rm -rf "$work"' EXIT
@@ -67,10 +67,10 @@ part_documents() {
         grep -vx 'tillerclover\|answers' | tr _ - | sort -u >needed
     sed -n 's/.*librust-{\(.*\)}-dev.*/\1/p' "$root/docs/TOOL.md" | tr , '\n' | sort >named
     cmp -s needed named || fault "docs/TOOL.md names other packages than the tool needs: $(diff needed named | head -n 5)"
-    sed -n 's/^CRATES=(\(.*\))/\1 sha2/p' "$root/tests/run.sh" | tr ' _' '\n-' | sort >installed
+    sed -n 's/^CRATES=(\(.*\))/\1/p' "$root/tests/run.sh" | tr ' _' '\n-' | sort >installed
     cmp -s needed installed || fault "tests/run.sh installs other packages than the tool needs: $(diff needed installed | head -n 5)"
     ! grep -n 'std::\(env\|fs\|net\|os\|process\|thread\|time\)\b' -r "$root/answers/src" || fault "the answers need more than they are given"
-    "$root/tests/shown.py" "$program" "$root/README.md" "$root/docs/TOOL.md" || fault "the documents show something else"
+    "$root/tests/shown.py" "$program" "$root/README.md" "$root/docs/TOOL.md" "$root/docs/BOXING.md" || fault "the documents show something else"
     local form length
     while IFS='|' read -r _ form length _; do
         gives 0 "written, $(tr -d ' ,' <<<"$length") bytes" new --force --form "$(tr -d ' `' <<<"$form")" made
@@ -353,6 +353,116 @@ part_names() {
     gives 2 "subject=northfield: a subject is a UUID" list make rows gone
     printf 'tables = "a.tables"\n[[expect]]\nrecord = "UPDATE /tare as northfield"\nanswer = 11\n' >t.toml
     gives 0 "1 expectation, 1 met, 0 not" test t.toml
+}
+
+# The maker's line: fresh or what is left over, cleared without a trace, and a record for the box.
+part_boxing() {
+    local form
+    bytes "0009 $(tr -d - <<<$owner) 0000 0000 04" >creds
+    printf '# the service tool\nnumber=9 subject=%s type=1\n' "$owner" >creds.txt
+    printf 'number=1 subject=auth-crypt permission=R resources=/weight\n' >aces.txt
+    gives 0 "new terminal" new a --default-creds creds
+    gives 0 "new terminal" new b --default-creds creds.txt
+    cmp -s a b || fault "default rows in words are other rows"
+    gives 0 "new terminal" new --force b --default-creds creds.txt --default-aces aces.txt
+    gives 0 "Access control entries, 1 of 32" show b
+    printf 'number=9\n' >bad.txt
+    gives 2 "bad.txt: line 1: subject= is missing" new --force b --default-creds bad.txt
+    for form in tables memory terminal store store-memory; do
+        rm -f a a~
+        tillerclover new --form $form a --default-creds creds >/dev/null
+        gives 0 "fresh  a   $form" fresh a --default-creds creds.txt
+        gives 1 "credential row 9 added" fresh a
+        tillerclover judge a UPDATE /oic/sec/cred number=7 "subject=$haulier" >/dev/null
+        gives 1 "NOT FRESH  a   $form" fresh a --default-creds creds
+        gives 1 "credential row 7 added: number=7 subject=$haulier" fresh a --default-creds creds
+        [ -e a~ ] || fault "$form: no file is kept"
+        # a RESET gives the fresh tables, and in a store the image before stays: that is seen
+        tillerclover judge a UPDATE /oic/sec/cred number=5 "subject=$foreman" UPDATE /oic/sec/doxm "owner=$foreman" >/dev/null
+        tillerclover judge a UPDATE /oic/sec/pstat as 5 state=RESET --default-creds creds >/dev/null || fault "$form: no RESET"
+        case $form in
+        store*) gives 1 "the spare image of the store: " fresh a --default-creds creds ;;
+        *) gives 0 "fresh  a   $form" fresh a --default-creds creds ;;
+        esac
+        gives 0 "1 file, 1 cleared, 0 not" clear a --default-creds creds
+        gives 0 "fresh  a   $form" fresh a --default-creds creds
+        [ ! -e a~ ] && ! grep -qaF 2222222 <(xxd -p a | tr -d '\n') || fault "$form: something of the last customer is left"
+    done
+    gives 1 "missing: cannot be read: no such file or directory" clear a missing
+    gives 1 "2 files, 1 cleared, 1 not" clear a missing
+    # records
+    tillerclover new --force a >/dev/null && tillerclover new --force b >/dev/null && tillerclover new --force --form store c >/dev/null
+    tillerclover judge b UPDATE /oic/sec/cred number=7 "subject=$haulier" >/dev/null
+    gives 1 "box.csv: 3 records added" fresh a b c --record box.csv
+    gives 0 "box.csv: 1 record added" fresh a --record box.csv --serial 'T-1, "north"'
+    [ "$(head -n 1 box.csv)" = "serial,date,file,form,library,archive,defaults,image,verdict" ] && [ "$(wc -l <box.csv)" -eq 5 ] || fault "$(cat box.csv)"
+    python3 - box.csv "$(sha256sum a | cut -d ' ' -f 1)" "$(sha256sum "$root/target/staticlib/libterminal.a" | cut -d ' ' -f 1)" <<'END' || fault "the records: $(cat box.csv)"
+import csv, sys
+rows = list(csv.DictReader(open(sys.argv[1], newline="")))
+sys.exit(not ([row["serial"] for row in rows] == ["a", "b", "c", 'T-1, "north"'] and rows[0]["image"] == sys.argv[2]
+              and all(row["archive"] == sys.argv[3] for row in rows) and rows[1]["verdict"].startswith("NOT FRESH: credential row 7 added")
+              and rows[3]["verdict"] == "fresh"))
+END
+    gives 1 "box.jsonl: 2 records added" fresh a b --record box.jsonl
+    printf '{"torn' >>box.jsonl
+    gives 0 "box.jsonl: 1 record added" fresh a --record box.jsonl
+    [ "$(grep -c '"verdict":' box.jsonl)" -eq 3 ] && tail -n 1 box.jsonl | python3 -m json.tool >/dev/null || fault "a torn line: $(cat box.jsonl)"
+    gives 2 "box.txt: is neither .csv nor .jsonl" fresh a --record box.txt
+    gives 2 "--serial names one terminal, and there are 2 files" fresh a c --record box.csv --serial 7
+    # many at once: no line is lost or torn
+    local i pids=()
+    rm -f box.csv
+    for ((i = 0; i < 12; i++)); do tillerclover fresh a c --record box.csv >/dev/null & pids+=($!); done
+    for i in "${pids[@]}"; do wait "$i" || fault "a record of many"; done
+    [ "$(wc -l <box.csv)" -eq 25 ] && [ "$(grep -c ',fresh$' box.csv)" -eq 24 ] || fault "records of many: $(wc -l <box.csv)"
+    # a disk that is full
+    if mount -t tmpfs -o size=8k none "$small" 2>/dev/null; then
+        for ((i = 0; i < 40; i++)); do
+            tillerclover fresh a c --record "$small/box.csv" >out 2>errors || break
+            cp "$small/box.csv" short.csv
+        done
+        grep -q "box.csv: cannot be written: no space left on device; no record was added" errors && cmp -s short.csv "$small/box.csv" ||
+            fault "a full disk: $(cat out errors)"
+        umount "$small"
+    fi
+    # a whole year's
+    mkdir -p year && for ((i = 0; i < 640; i++)); do cp a "year/$i"; done
+    gives 0 "640 files, 640 fresh, 0 not" fresh year
+    cp b year/333
+    gives 1 "NOT FRESH  year/333" fresh year
+}
+
+# Many files and folders in one command.
+part_many() {
+    mkdir -p one two
+    busy_yard one/a
+    cp one/a one/b && rm -f one/*~ && cp one/a one/b two/ && : >one/.hidden && cp one/a one/c~ && echo "7 Northfield" >one/a.names
+    gives 0 "2 files, 2 sound, 0 not" show one
+    gives 0 "3 files, 3 sound, 0 not" show one two/a
+    gives 0 "2 pairs, 2 the same, 0 not" diff one two
+    gives 0 "2 pairs, 2 the same, 0 not" diff one/a two
+    tillerclover judge two/b UPDATE /oic/sec/pstat as 5 state=RFPRO --no-backup >/dev/null
+    gives 1 "from one/b to two/b: 1 difference" diff one two
+    gives 1 "2 pairs, 1 the same, 1 not" diff one two
+    bytes 00 | dd of=two/a bs=1 seek=8686 conv=notrunc status=none
+    gives 1 "two/a: damaged: the checksum at byte 8684" diff one two
+    gives 1 "two/a: damaged: the checksum at byte 8684" show one two
+    gives 1 "4 files, 3 sound, 1 not" show one two
+    gives 1 '"well": 3' show one two --json
+    rm two/a && : >two/c
+    gives 1 "two/a: cannot be read: no such file or directory" diff one two
+    gives 1 "two/c: ends at byte 0" show two
+    gives 2 "one: is a folder, which is compared with one other folder" diff one two/b
+    mkdir -p empty && gives 2 "empty: is a folder without files" show empty
+    bytes "0001 8400 0080000000000000 000000000000000000000000 0000 0001 00000000 ffffffff" >good
+    head -c 20 good >bad
+    gives 1 "2 lists, 1 accepted, 1 not" list check good bad
+    gives 1 "bad: not accepted, 19" list check good bad
+    printf 'tables = "one/a"\n[[expect]]\nrecord = "RETRIEVE /weight"\nanswer = 0\n' >t.toml
+    sed 's/answer = 0/answer = 8/' t.toml >u.toml
+    gives 1 "u.toml: 1 expectation, 0 met, 1 not" test t.toml u.toml
+    gives 1 "2 files, 1 met, 1 not" test t.toml u.toml
+    gives 0 "2 files, 2 met, 0 not" test t.toml t.toml
 }
 
 # holder KIND FILE: a process that holds a lock on the file; its number in $held. A record lock (posix) is a running
@@ -927,7 +1037,7 @@ part_bad() {
         # shellcheck disable=SC2046
         gives 2 "missing: cannot be read: no such file or directory" $(on_file missing)
         # shellcheck disable=SC2046
-        gives 2 "folder: cannot be read: is a directory" $(on_file folder)
+        [ "$on" = show ] || gives 2 "folder: cannot be read: is a directory" $(on_file folder)
         [[ $on == list* ]] && continue
         # shellcheck disable=SC2046
         gives 2 "short: ends at byte 100; a file of tables has 2172 bytes" $(on_file short)

@@ -9,6 +9,7 @@
 
 // What people write and read.
 pub mod colour;
+pub mod csv;
 pub mod hex;
 pub mod names;
 pub mod parse;
@@ -18,6 +19,7 @@ pub mod words;
 
 // What the library is asked.
 pub mod diff;
+pub mod fresh;
 pub mod judge;
 pub mod list;
 pub mod load;

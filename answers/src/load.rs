@@ -10,7 +10,6 @@ use crate::diff::{changes, Change};
 use crate::error::{name, Error};
 use crate::list::{not_storable, refusal, rows, warning};
 use crate::report::{many, Report, Status};
-use crate::steps::without_comment;
 use crate::stored::without_mark;
 use crate::{colour, office, parse, service, words};
 
@@ -35,14 +34,7 @@ pub fn read(path: &Path, text: &str) -> Result<Read, Error> {
         let (rows, seasons) = office::read(text).map_err(|error| Error::of(path, error))?;
         return Ok(Read { rows, seasons });
     }
-    let mut rows = Vec::new();
-    for (place, line) in text.lines().enumerate() {
-        let line = without_comment(line);
-        if !line.is_empty() {
-            let row = parse::access_row(line);
-            rows.push(row.map_err(|error| Error::of(path, format!("line {}: {error}", place + 1)))?);
-        }
-    }
+    let rows = parse::rows(text, parse::access_row).map_err(|error| Error::of(path, error))?;
     Ok(Read { rows, seasons: 0 })
 }
 

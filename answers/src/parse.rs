@@ -9,6 +9,7 @@ use tillerclover::{
 use tillerclover::{Uuid, Wildcards, ANYONE};
 
 use crate::names::Named;
+use crate::steps::without_comment;
 use crate::times::{self, Day};
 use crate::{hex, names};
 
@@ -144,12 +145,35 @@ fn body(verb: Verb, resource: Resource, words: &[&str]) -> Result<Vec<u8>, Strin
 
 /// An access row in words, as the body that stores it.
 pub fn access_row(text: &str) -> Result<Ace, String> {
+    row(text, "an access row", |fields| fields.ace())
+}
+
+/// A credential row in words, as the body that stores it.
+pub fn credential_row(text: &str) -> Result<Cred, String> {
+    row(text, "a credential row", |fields| fields.cred())
+}
+
+fn row<R>(text: &str, what: &str, read: impl Fn(&mut Fields) -> Result<R, String>) -> Result<R, String> {
     let mut fields = Fields::read(&text.split_whitespace().collect::<Vec<_>>())?;
-    let row = fields.ace()?;
+    let row = read(&mut fields)?;
     match fields.0.keys().next() {
-        Some(key) => Err(format!("{key}= is no part of an access row")),
+        Some(key) => Err(format!("{key}= is no part of {what}")),
         None => Ok(row),
     }
+}
+
+/// The rows of a text, one to a line; which line is wrong otherwise.
+pub fn rows<R>(text: &str, read: fn(&str) -> Result<R, String>) -> Result<Vec<R>, String> {
+    let lines = text.lines().enumerate().map(|(place, line)| (place + 1, without_comment(line)));
+    let row = |(place, line)| read(line).map_err(|error| format!("line {place}: {error}"));
+    lines.filter(|(_, line)| !line.is_empty()).map(row).collect()
+}
+
+/// Whether bytes are rows in words.
+pub fn are_words(bytes: &[u8]) -> bool {
+    let text = std::str::from_utf8(bytes).unwrap_or_default();
+    let first = text.lines().map(without_comment).find(|line| !line.is_empty());
+    first.is_some_and(|line| line.contains("number="))
 }
 
 /// The fields of a body that were not asked for yet.

@@ -208,6 +208,27 @@ impl Stored {
         Ok(Stored { form, terminal, damage: damage(form, bytes), store: None })
     }
 
+    /// What the spare image of a store holds, which a terminal does not read; none where it is blank.
+    pub fn spare(&self) -> Option<Terminal> {
+        let store = self.store.as_ref()?;
+        let start = if store.start() == 0 { store.image } else { 0 };
+        let spare = &store.bytes[start..start + store.image];
+        let blank = [0, 0xff].iter().any(|value| spare.iter().all(|byte| byte == value));
+        (!blank).then(|| terminal(store.form, spare, self.terminal.defaults.clone()))
+    }
+
+    /// The same file with a fresh terminal and nothing of what it held: a store is written as one that was blank.
+    pub fn cleared(&self, defaults: Given) -> Stored {
+        let blank = |store: &Store| {
+            let mut store = store.clone();
+            let length = store::length(store.image);
+            store.bytes[..length].fill(0xff);
+            store
+        };
+        let store = self.store.as_ref().map(blank);
+        Stored { form: self.form, terminal: Terminal::with_defaults(defaults), damage: None, store }
+    }
+
     /// Where the tables begin in the file.
     pub fn start(&self) -> usize {
         match &self.store {

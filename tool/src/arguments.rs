@@ -5,8 +5,9 @@ use std::ffi::OsString;
 use std::path::{Path, PathBuf};
 use std::time::Duration;
 
+use answers::parse;
 use answers::service::{self, LOCKED_OUT};
-use answers::stored::Stored;
+use answers::stored::{without_mark, Stored};
 use answers::times::{self, Day};
 use clap::ArgMatches;
 use tillerclover::{Ace, Cred, Given, Terminal};
@@ -74,10 +75,29 @@ pub fn tables(arguments: &ArgMatches) -> Result<Stored, Error> {
     store::whole_tables(file(arguments, "FILE"), defaults(arguments)?)
 }
 
+fn bytes<const N: usize>(rows: impl Iterator<Item = [u8; N]>) -> Vec<u8> {
+    rows.flatten().collect()
+}
+
+/// The rows of a file, which has their bytes or their words; none where no file is named.
+fn default_rows(file: Option<&Path>, read: impl Fn(&str) -> Result<Vec<u8>, String>) -> Result<Vec<u8>, Error> {
+    let Some(file) = file else { return Ok(Vec::new()) };
+    let bytes = store::read(file)?;
+    match std::str::from_utf8(without_mark(&bytes)) {
+        Ok(text) if parse::are_words(text.as_bytes()) => read(text).map_err(|error| Error::of(file, error)),
+        _ => Ok(bytes),
+    }
+}
+
 /// The build's default rows. Lists that the library counts as none are a mistake.
 pub fn defaults(arguments: &ArgMatches) -> Result<Given, Error> {
-    let list = |name: &str| path(arguments, name).map_or(Ok(Vec::new()), store::read);
-    let given = Given { creds: list("default-creds")?, aces: list("default-aces")? };
+    let creds =
+        |text: &str| parse::rows(text, parse::credential_row).map(|rows| bytes(rows.into_iter().map(Cred::body)));
+    let aces = |text: &str| parse::rows(text, parse::access_row).map(|rows| bytes(rows.into_iter().map(Ace::body)));
+    let given = Given {
+        creds: default_rows(path(arguments, "default-creds"), creds)?,
+        aces: default_rows(path(arguments, "default-aces"), aces)?,
+    };
     let fresh = Terminal::with_defaults(given.clone()).tables;
     let counts = [
         ("default-creds", given.creds.len(), fresh.creds().len() * Cred::LENGTH),

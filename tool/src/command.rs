@@ -40,7 +40,7 @@ pub fn command() -> Command {
                 .default_value("auto")
                 .global(true),
         )
-        .subcommands([new(), judge(), hand_in(), take(), undo()])
+        .subcommands([new(), judge(), hand_in(), take(), undo(), fresh(), clear()])
         .subcommands([show(), who(), rights(), why(), isolated(), yards(), diff()])
         .subcommand(
             Command::new("list")
@@ -89,10 +89,30 @@ fn undo() -> Command {
         .arg(wait())
 }
 
+fn fresh() -> Command {
+    let record = "Add a line for each file to this one, .csv or .jsonl: serial, date, library, default rows, sum of the image, verdict";
+    let serial = "The serial number of the terminal; without it the file's name is";
+    let fresh = Command::new("fresh")
+        .about("Whether files hold what a new terminal of this build holds, and nothing else")
+        .arg(files("Files with tables, or folders of them"))
+        .arg(option("record", "FILE", record).value_parser(value_parser!(PathBuf)))
+        .arg(option("serial", "TEXT", serial).requires("record"));
+    defaults(fresh.arg(wait()))
+}
+
+fn clear() -> Command {
+    let clear = Command::new("clear")
+        .about("Write a new terminal over what files hold, and keep nothing of it: no backup, and no image in a store")
+        .arg(files("Files with tables"));
+    defaults(clear.arg(wait()))
+}
+
 fn show() -> Command {
     Command::new("show")
-        .about("Show tables: state, owners, rows, what waits, and why they are not sound")
-        .arg(file())
+        .about(
+            "Show tables: state, owners, rows, what waits, and why they are not sound; of many files whether they are",
+        )
+        .arg(files("Files with tables, or folders of them"))
         .arg(clock())
 }
 
@@ -151,15 +171,21 @@ fn absent() -> Arg {
 
 fn diff() -> Command {
     Command::new("diff")
-        .about("Compare two files of tables: rows field by field, owners, state, asserted roles, what waits")
-        .arg(path_argument("A", "The first file of tables"))
-        .arg(path_argument("B", "The second"))
+        .about("Compare files of tables: rows field by field, owners, state, asserted roles, what waits")
+        .arg(path_argument("A", "The first file of tables, or a folder of them"))
+        .arg(
+            path_argument(
+                "B",
+                "The second, or all that are compared with the first; of a folder the files of the same names",
+            )
+            .num_args(1..),
+        )
 }
 
 fn list_check() -> Command {
     Command::new("check")
-        .about("Test a list before it is loaded: rows of 36 bytes")
-        .arg(path_argument("FILE", "The list"))
+        .about("Test lists before they are loaded: rows of 36 bytes")
+        .arg(files("Lists, or folders of them"))
 }
 
 fn list_convert() -> Command {
@@ -215,7 +241,7 @@ fn run() -> Command {
 fn test() -> Command {
     Command::new("test")
         .about("Test a yard's expectations: what records get at a clock, in a file of TOML")
-        .arg(path_argument("FILE", "The expectations"))
+        .arg(files("Files of expectations, or folders of them"))
         .after_help(EXPECT)
 }
 
@@ -282,6 +308,10 @@ fn defaults(command: Command) -> Command {
 
 fn file() -> Arg {
     path_argument("FILE", "The file with the tables")
+}
+
+fn files(help: &'static str) -> Arg {
+    path_argument("FILE", help).num_args(1..)
 }
 
 fn path_argument(name: &'static str, help: &'static str) -> Arg {

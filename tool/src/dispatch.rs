@@ -1,6 +1,7 @@
 //! From the command line to what does it.
 
-use std::path::Path;
+use std::ffi::OsString;
+use std::path::{Path, PathBuf};
 
 use answers::plan::{self, Plan};
 use answers::report::{Report, Status};
@@ -13,9 +14,10 @@ use serde_json::json;
 
 use crate::arguments::{clock, defaults, file, force, path, records, tables, text, texts, wait};
 use crate::error::{name, Error};
+use crate::files::{self, Sum};
 use crate::records::word;
 use crate::store::{self, Care};
-use crate::{expect, judge, list, manual, names, new, run, undo, version, yards};
+use crate::{boxing, expect, judge, list, manual, names, new, run, undo, version, yards};
 
 /// What a command leaves to do.
 pub enum Done {
@@ -44,9 +46,12 @@ fn report(name: &str, arguments: &ArgMatches) -> Result<Report, Error> {
     names::choose(arguments)?;
     match name {
         "new" => new::new(file(arguments, "FILE"), text(arguments, "form"), defaults(arguments)?, force(arguments)),
+        "fresh" => boxing::fresh(arguments),
+        "clear" => boxing::clear(arguments),
         "show" => {
-            let path = file(arguments, "FILE");
-            Ok(show::show(path, &store::tables(path, Default::default())?, clock(arguments)?))
+            let clock = clock(arguments)?;
+            let show = |path: &Path| Ok(show::show(path, &store::tables(path, Default::default())?, clock));
+            on_each(arguments, show, &Sum { what: "file", well: "sound", not: "not" })
         }
         "judge" => judge::judge(arguments, Act::Judge),
         "hand-in" => judge::judge(arguments, Act::HandIn),
@@ -57,16 +62,55 @@ fn report(name: &str, arguments: &ArgMatches) -> Result<Report, Error> {
         "why" => explain(arguments),
         "isolated" => yards::isolated(arguments),
         "yards" => yards::yards(arguments),
-        "test" => expect::test(file(arguments, "FILE"), path(arguments, "names")),
+        "test" => {
+            let test = |file: &Path| expect::test(file, path(arguments, "names"));
+            on_each(arguments, test, &Sum { what: "file", well: "met", not: "not" })
+        }
         "completions" => manual::completions(text(arguments, "SHELL").unwrap_or_default()).map(plain),
         "man" => manual::page(&texts(arguments, "COMMAND")).map(plain),
-        "diff" => {
-            let names = ["A", "B"].map(|name| file(arguments, name));
-            let [one, other] = names.map(|name| store::tables(name, Default::default()));
-            Ok(diff::report(names, [&one?, &other?]))
-        }
+        "diff" => compare(arguments),
         _ => unreachable!("clap knows no such command"),
     }
+}
+
+/// Asks about the file of a command, or about each of many.
+pub fn on_each(
+    arguments: &ArgMatches,
+    ask: impl Fn(&Path) -> Result<Report, Error>,
+    sum: &Sum,
+) -> Result<Report, Error> {
+    match files::one(arguments, "FILE") {
+        true => ask(file(arguments, "FILE")),
+        false => Ok(files::together(files::each(&files::named(arguments, "FILE")?, ask), sum)),
+    }
+}
+
+/// Two files, one beside each of many, or the files of the same names in two folders.
+fn compare(arguments: &ArgMatches) -> Result<Report, Error> {
+    let first = file(arguments, "A");
+    let two = |one: &Path, other: &Path| {
+        let [left, right] = [one, other].map(|name| store::tables(name, Default::default()));
+        Ok(diff::report([one, other], [&left?, &right?]))
+    };
+    let sum = Sum { what: "pair", well: "the same", not: "not" };
+    let others: Vec<&PathBuf> = arguments.get_many("B").unwrap_or_default().collect();
+    let reports = match (first.is_dir(), &others[..]) {
+        (false, [other]) if !other.is_dir() => return two(first, other),
+        (false, _) => files::each(&files::named(arguments, "B")?, |other| two(first, other)),
+        (true, [folder]) if folder.is_dir() => {
+            let names = |folder: &Path| -> Result<Vec<OsString>, Error> {
+                let files = files::in_folder(folder)?;
+                Ok(files.iter().filter_map(|file| file.file_name().map(OsString::from)).collect())
+            };
+            let mut all = [names(first)?, names(folder)?].concat();
+            all.sort();
+            all.dedup();
+            let all: Vec<PathBuf> = all.into_iter().map(PathBuf::from).collect();
+            files::each(&all, |name| two(&first.join(name), &folder.join(name)))
+        }
+        (true, _) => return Err(Error::of(first, "is a folder, which is compared with one other folder")),
+    };
+    Ok(files::together(reports, &sum))
 }
 
 /// A text alone.

@@ -16,7 +16,9 @@ pub mod screen;
 pub mod version;
 
 // The commands that do more than read tables and report.
+pub mod boxing;
 pub mod expect;
+pub mod files;
 pub mod judge;
 pub mod list;
 pub mod nesting;

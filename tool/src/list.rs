@@ -13,14 +13,16 @@ use clap::ArgMatches;
 use tillerclover::Terminal;
 
 use crate::arguments::{care, clock, defaults, file, force, not_locked_out, text as text_of};
+use crate::dispatch::on_each;
 use crate::error::{name, Error};
+use crate::files::Sum;
 use crate::lock::Locked;
 use crate::{names, store};
 
 /// `list NAME ..`.
 pub fn list(name: &str, arguments: &ArgMatches) -> Result<Report, Error> {
     match name {
-        "check" => check(file(arguments, "FILE")),
+        "check" => on_each(arguments, check, &Sum { what: "list", well: "accepted", not: "not" }),
         "convert" => convert(arguments),
         "make" => make(arguments),
         "load" => load(arguments),

@@ -182,7 +182,8 @@ fn sync(path: &Path, target: &Path) -> Result<(), Error> {
     })
 }
 
-fn sync_folder(target: &Path) -> io::Result<()> {
+/// Syncs the folder of a file.
+pub fn sync_folder(target: &Path) -> io::Result<()> {
     File::open(folder_of(target)).and_then(|folder| folder.sync_all())
 }
 
