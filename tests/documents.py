@@ -5,7 +5,8 @@
     tests/documents.py --write    first makes the pictures and tables of docs/PICTURES.md, ANSWERS.md and SECURITY-MODEL.md anew
 
 ARCHITECTURE.md the layers with crates.txt; what must be believed with what the contracts cite
-PROOFS.md       each theorem that its tables name is exported with a statement by a file named; each function stands in the file or crate;
+PROOFS.md       each theorem that its tables name is exported with a statement by a file named, and that statement's names are defined in
+                specs/ (tests/statements.py); each function stands in the file or crate;
                 each public function with a `requires` is in the table of what is asked for; each function for C is an entry point
 README.md, ARCHITECTURE.md, INTEGRATION.md, SECURITY.md, CHANGELOG.md, SECURITY-MODEL.md, ASSESSOR.md, ANSWERS.md, TARGETS.md, BENCHMARKS.md, PICTURES.md
                 each theorem that is named before its file, as `name` (crate/proofs/File.antt), stands there, and each
@@ -31,6 +32,7 @@ import sys
 sys.dont_write_bytecode = True
 from answers import ANSWERS, answers, check_header_rules, order_picture, sequence_picture, states_picture, writes_table  # noqa: E402
 from sources import HEADER, Changed, asks, contracts, exports, faults, fault, found, functions_of, number, read, right_side, rows_of  # noqa: E402
+from statements import check_statements  # noqa: E402
 
 PAGE, MODEL = "docs/PICTURES.md", "docs/SECURITY-MODEL.md"
 HOUSE = "docs/ARCHITECTURE.md"
@@ -467,11 +469,15 @@ def check_proofs():
     text = read("docs/PROOFS.md")
     claims = text.split("## Twelve claims")[1].split("\n## ")[0]
     theorems, told = text.split("## Theorems over the definitions")[1].split("## Contracts")
+    stated = []
     for cells in [row[1:] for row in rows_of(claims)[1:]] + rows_of(theorems)[1:]:
         paths = files_of(cells[1:])
         for name in re.findall(r"`([^`]+)`", cells[1]):
-            if not any(exports(path, name) for path in paths):
+            homes = [path for path in paths if exports(path, name)]
+            if not homes:
                 fault(f"PROOFS.md: {name} is exported with a statement by no file that its row names")
+            stated += [(path, name) for path in homes]
+    check_statements(stated)
     told = told.split("## The reviewer's")[0]
     entries, rest = told.split("Between the layers")
     between, asked = rest.split("Some of them ask something")

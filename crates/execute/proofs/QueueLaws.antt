@@ -13,9 +13,9 @@ use Rattle.rules.specs.Action.{action}
 use Rattle.rules.specs.Decision.{decided}
 use Rattle.rules.specs.Outcome.{Outcome, tablesAfter, effectBy}
 use Rattle.rules_waiting.specs.Slots.{Round, queueOf, emptyQueue}
-use Rattle.rules_waiting.specs.Round.{seats, sameSeats, orphaned, heldRound}
+use Rattle.rules_waiting.specs.Round.{seats, sameSeats, orphaned, heldRound, sameCount}
 use Rattle.rules_waiting.specs.Terminal.{isReset, clears, queueAfter}
-use Rattle.rules_waiting.proofs.RowsMoved.{sameCount, count-tells}
+use Rattle.rules_waiting.proofs.RowsMoved.{count-tells}
 use Rattle.execute.proofs.Laws.{action-is, passes}
 
 module _ (t : Tables) (q : Request) (g : Decision) (is : g ≡ decided t q) (pass : g .check ≡ Pass) (h : sound t ≡ true) where

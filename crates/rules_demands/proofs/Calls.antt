@@ -23,13 +23,13 @@ use Rattle.rules_typed.proofs.IsolationRead.{others-read, premise-along, kept-b
 use Rattle.rules_typed.proofs.ComparedRead.{compared-read}
 use Rattle.rules_waiting.specs.Terminal.{Terminal}
 use Rattle.rules_waiting.specs.Inputs.{Input}
-use Rattle.rules_waiting.proofs.Built.{Call, Built, handedBack}
-use Rattle.rules_waiting.proofs.Shown.{allShown}
+use Rattle.rules_waiting.specs.CallRun.{Call, Built, handedBack, allShown}
 use Rattle.rules_handed.specs.Isolation.{requestsOf, allTold, AsRules, Isolated}
 use Rattle.rules_handed.proofs.Calls.{handed-isolation, built-rules}
 use Rattle.rules_interface.specs.Memory.{Memory, terminalAt}
 use Rattle.rules_interface.specs.Calls.{CCall, CBuilt}
-use Rattle.rules_interface.proofs.CCalls.{callsOf, c-built}
+use Rattle.rules_interface.specs.CallRun.{callsOf}
+use Rattle.rules_interface.proofs.CCalls.{c-built}
 use Rattle.rules_demands.specs.Demands.{freshOf, AsTyped, fed, TypedPremise, TypedIsolated, InputBytes}
 use Rattle.rules_demands.proofs.FedBytes.{fed-bytes}
 

@@ -15,15 +15,16 @@ use Rattle.rules_waiting.specs.Slots.{anew, after, slotOf, queueOf, emptyQueue}
 use Rattle.rules_waiting.specs.Round.{seats, sameSeats}
 use Rattle.rules_waiting.specs.Terminal.{Terminal, terminal, Transition}
 use Rattle.rules_waiting.specs.Inputs.{Input, handIn, takeAt, next, othersTurn, turns, recordsIn, countOf}
-use Rattle.rules_waiting.proofs.Isolated.{Premises, AsTheBook, turns-isolated}
+use Rattle.rules_waiting.specs.CallRun.{Call, handedBack, allShown}
+use Rattle.rules_waiting.specs.Isolation.{Premises, AsTheBook}
+use Rattle.rules_waiting.proofs.Isolated.{turns-isolated}
 use Rattle.rules_waiting.proofs.RowsMoved.{seats-are}
-use Rattle.rules_waiting.proofs.Built.{Call, handedBack}
-use Rattle.rules_waiting.proofs.Shown.{allShown}
 use Rattle.rules_handed.specs.Events.{sentBy, newestOf, gathered}
 use Rattle.rules_handed.specs.Isolation.{requestsOf, BookPremise, Isolated}
 use Rattle.rules_handed.specs.Waits.{recordKept, recordTaken, resets, Steady, Quiet, QuietFor, roundIn, isRemoved}
+use Rattle.rules_handed.specs.Made.{callAt, callsAt}
 use Rattle.rules_handed.proofs.Calls.{handed-isolation, built-served, built-kept-served, built-none-lost}
-use Rattle.rules_handed.proofs.Exists.{callAt, callsAt, calls-built}
+use Rattle.rules_handed.proofs.Exists.{calls-built}
 use Rattle.rules_examples.proofs.Isolation.{chosen7, calm, calm-harmless}
 use Rattle.rules_examples.proofs.Waiting.{waitingDefinitions, quiet, ask, morning, closed, deleting, storing, resetting, atOnce}
 

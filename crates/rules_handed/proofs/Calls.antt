@@ -9,14 +9,15 @@ use Rattle.rules.specs.Outcome.{Said}
 use Rattle.rules.specs.Run.{final}
 use Rattle.rules_waiting.specs.Terminal.{Terminal, Transition, soundTerminal, handedIn}
 use Rattle.rules_waiting.specs.Inputs.{Input, handIn, next, takes, recordsIn, keptAt, countOf}
-use Rattle.rules_waiting.proofs.Built.{Call, Built, left, handedBack, call-left}
-use Rattle.rules_waiting.proofs.Shown.{allShown, built-shown}
+use Rattle.rules_waiting.specs.CallRun.{Call, left, Built, handedBack, allShown}
+use Rattle.rules_waiting.proofs.Built.{call-left}
+use Rattle.rules_waiting.proofs.Shown.{built-shown}
 use Rattle.rules_handed.specs.Events.{gathered}
-use Rattle.rules_handed.specs.Isolation.{requestsOf, allTold, AsRules, BookPremise, Isolated}
+use Rattle.rules_handed.specs.Isolation.{requestsOf, allTold, AsRules, BookPremise, Isolated, answersTo}
 use Rattle.rules_handed.specs.Waits.{recordKept, recordTaken, Quiet, QuietFor, FreshAfterReset, waitsAtEnd, roundIn, roundAtEnd, TakenInTurn}
 use Rattle.rules_handed.specs.OneByOne.{oneByOne, AllPass}
 use Rattle.rules_handed.proofs.Seen.{kept-seen, gathered-is}
-use Rattle.rules_handed.proofs.Isolation.{answersTo, requests-are, isolated-handed, rules-handed}
+use Rattle.rules_handed.proofs.Isolation.{requests-are, isolated-handed, rules-handed}
 use Rattle.rules_handed.proofs.Served.{waiting-served, kept-served, none-lost-seen, came-seen}
 use Rattle.rules_handed.proofs.Waits.{waits-at-end, round-at-end, fresh-after-reset}
 use Rattle.rules_handed.proofs.InTurn.{taken-in-turn}

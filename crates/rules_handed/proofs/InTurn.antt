@@ -20,10 +20,10 @@ use Rattle.rules_waiting.proofs.SeatLaws.{turn-of}
 use Rattle.rules_waiting.proofs.Held.{seat-long}
 use Rattle.rules_waiting.proofs.Sound.{terminal-parts, turn-is, sound-next}
 use Rattle.rules_handed.specs.Waits.{recordTaken, roundIn, inSeat, firstSeat, takenNext, TakenInTurn}
+use Rattle.rules_handed.specs.Isolation.{answersTo}
 use Rattle.rules_handed.proofs.Judged.{SlotIs, SlotsAre}
 use Rattle.rules_handed.proofs.Seen.{taken-seen}
 use Rattle.rules_handed.proofs.Waits.{waits-seen, round-seen}
-use Rattle.rules_handed.proofs.Isolation.{answersTo}
 
 -- tests that agree on the members of a list find the same
 first-agree : (p q : Row → Bool) (ws : List Row) → ((w : Row) → some (same w) ws ≡ true → p w ≡ q w) → firstRow p ws ≡ firstRow q ws

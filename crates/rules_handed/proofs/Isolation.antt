@@ -9,23 +9,19 @@ use Rattle.rules.specs.Record.{Request, received}
 use Rattle.rules.specs.Defaults.{Defaults}
 use Rattle.rules.specs.Checks.{verdict}
 use Rattle.rules.specs.Outcome.{Response, responseTo, tablesAfter}
-use Rattle.rules.specs.Run.{replies, final, kept, keptOf}
+use Rattle.rules.specs.Run.{final, kept, keptOf}
 use Rattle.rules.specs.Isolation.{isOthers}
 use Rattle.rules.proofs.CheckLaws.{check-cases}
-use Rattle.rules_waiting.specs.Terminal.{Terminal, terminal, Transition, handInChecks, withRecord, handedIn, takeChecks, due, takeOf, taken, directChecks}
+use Rattle.rules_waiting.specs.Terminal.{Terminal, terminal, handInChecks, withRecord, handedIn, takeChecks, due, takeOf, taken, directChecks}
 use Rattle.rules_waiting.specs.Terminal.{directOf, judged}
-use Rattle.rules_waiting.specs.Inputs.{Input, handIn, takeAt, direct, transition, next, Turn, judgedAt, allJudged, requestOf, turnTold}
+use Rattle.rules_waiting.specs.Inputs.{Input, handIn, takeAt, direct, next, Turn, judgedAt, allJudged, requestOf, turnTold}
 use Rattle.rules_waiting.specs.Inputs.{othersTurn, recordsIn}
 use Rattle.rules_waiting.proofs.Lockstep.{collected-through}
 use Rattle.rules_waiting.proofs.Isolated.{isolated}
-use Rattle.rules_handed.specs.Events.{requests, eventOf, toldOf}
-use Rattle.rules_handed.specs.Isolation.{requestsOf, allTold, AsRules, othersOf, BookPremise, Isolated}
-use Rattle.rules_handed.proofs.Judged.{eventAt, judged-handed}
+use Rattle.rules_handed.specs.Events.{requests, eventOf, toldOf, eventAt}
+use Rattle.rules_handed.specs.Isolation.{requestsOf, allTold, AsRules, othersOf, BookPremise, Isolated, answersTo}
+use Rattle.rules_handed.proofs.Judged.{judged-handed}
 use Rattle.rules_handed.proofs.Seen.{event-seen, told-seen, gathered-is}
-
--- the answers of the definitions to a run
-abbrev pub answersTo : Defaults → Terminal → List Input → List Transition
-answersTo d = replies (transition d) (next d)
 
 module _ (d : Defaults) (x : Terminal) (is : List Input) where
   -- the records judged are those of the hand-ins

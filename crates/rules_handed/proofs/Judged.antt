@@ -7,8 +7,7 @@ use Rattle.rows.proofs.Laws.{every-append}
 use Rattle.rows.proofs.Kept.{same-true, same-refl, every-without, distinct-without, distinct-parts}
 use Rattle.rules.specs.declared.Tables.{Tables}
 use Rattle.rules.specs.declared.Table.the-variants.{Creds}
-use Rattle.rules.specs.declared.Check.{Check}
-use Rattle.rules.specs.declared.Check.the-variants.{Pass, Refuse}
+use Rattle.rules.specs.declared.Check.the-variants.{Pass}
 use Rattle.rules.specs.Bits.{be16}
 use Rattle.rules.specs.Record.{Request, received, credential}
 use Rattle.rules.specs.Tables.{rows, sound}
@@ -20,29 +19,15 @@ use Rattle.rules.proofs.OwnRow.{first-passes, first-every}
 use Rattle.rules_waiting.specs.Slots.{Seat, Round, anew, after, seatOf, slotOf, recordOf, roundOf, waiting}
 use Rattle.rules_waiting.specs.Round.{seats, occupied, orphaned}
 use Rattle.rules_waiting.specs.Terminal.{Terminal, slotSound, soundTerminal, handInChecks, withRecord, handedIn, clears, queueAfter, takeChecks}
-use Rattle.rules_waiting.specs.Terminal.{turn, due, takeOf, taken, directChecks, directOf, judged}
-use Rattle.rules_waiting.specs.Inputs.{Input, handIn, takeAt, direct, next, collected, allJudged, requestOf, recordsIn}
+use Rattle.rules_waiting.specs.Terminal.{turn, due, takeOf, taken, directOf, judged}
+use Rattle.rules_waiting.specs.Inputs.{Input, handIn, takeAt, direct, next, allJudged, requestOf, recordsIn}
 use Rattle.rules_waiting.proofs.SlotLaws.{TwoLong, waiting-back, record-back, short-record, slot-parts, slot-key, slot-seat}
 use Rattle.rules_waiting.proofs.Sound.{terminal-parts, hand-passed, hand-free, turn-is, take-passed, sound-next, fresh-is}
 use Rattle.rules_waiting.proofs.Stays.{direct-ready}
 use Rattle.rules_waiting.proofs.Refused.{unsound-run}
 use Rattle.rules_waiting.proofs.Served.{hand-queue, key-is}
 use Rattle.rules_waiting.proofs.Origin.{after-waiting}
-use Rattle.rules_handed.specs.Events.{Event, enqueued, dequeued, immediate, sentBy, newestOf, requests}
-
--- ---- the event of an input
-
-abbrev eventIf : Event → Check → List Event
-eventIf e Pass = e ∷ []
-eventIf e (Refuse n) = []
-
-abbrev pub eventAt : Terminal → Input → List Event
-eventAt x (handIn r) = eventIf (enqueued r) (verdict (handInChecks x r))
-eventAt x (takeAt clock capacity) = eventIf (dequeued (credential (due x)) clock capacity) (verdict (takeChecks x))
-eventAt x (direct q) = eventIf (immediate q) (verdict (directChecks x))
-
-abbrev pub events : Defaults → Terminal → List Input → List Event
-events d = collected (next d) eventAt
+use Rattle.rules_handed.specs.Events.{sentBy, newestOf, requests, events}
 
 -- ---- each slot keeps the newest record of its sender
 

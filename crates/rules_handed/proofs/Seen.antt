@@ -14,9 +14,8 @@ use Rattle.rules_waiting.specs.Inputs.{Input, handIn, takeAt, direct, transitio
 use Rattle.rules_waiting.proofs.Sound.{take-passed}
 use Rattle.rules_waiting.proofs.Refused.{among, refused-among}
 use Rattle.rules_waiting.proofs.Built.{refused-number, direct-number, judged-number}
-use Rattle.rules_handed.specs.Events.{eventOf, toldOf, gathered}
+use Rattle.rules_handed.specs.Events.{eventOf, toldOf, gathered, eventAt}
 use Rattle.rules_handed.specs.Waits.{recordKept, recordTaken, resets}
-use Rattle.rules_handed.proofs.Judged.{eventAt}
 
 -- 0 is no refusal's number
 pub not-zero : (es : List (ℕ × Bool)) (n : ℕ) → among 0 es ≡ false → verdict es ≡ Refuse n → eqb n 0 ≡ false

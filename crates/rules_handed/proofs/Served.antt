@@ -19,7 +19,7 @@ use Rattle.rules_waiting.proofs.Served.{served}
 use Rattle.rules_waiting.proofs.Origin.{none-lost, taken-came, kept-waits}
 use Rattle.rules_handed.specs.Events.{gathered}
 use Rattle.rules_handed.specs.Waits.{recordKept, recordTaken, Quiet, QuietFor}
-use Rattle.rules_handed.proofs.Isolation.{answersTo}
+use Rattle.rules_handed.specs.Isolation.{answersTo}
 use Rattle.rules_handed.proofs.Seen.{not-zero, kept-seen, taken-seen, resets-seen, gathered-is}
 
 -- where the record is not handed out, it is quiet throughout

@@ -29,9 +29,9 @@ use Rattle.rules_waiting.proofs.Served.{hand-queue}
 use Rattle.rules_waiting.proofs.Origin.{after-waiting, none-gone, handed-records}
 use Rattle.rules_handed.specs.Events.{sentBy}
 use Rattle.rules_handed.specs.Waits.{FreshAfterReset, isRemoved, waitsAfter, waitsAtEnd, roundIn, moved, roundAfter, roundAtEnd}
+use Rattle.rules_handed.specs.Isolation.{answersTo}
 use Rattle.rules_handed.proofs.Judged.{SlotIs, SlotsAre, other-number, key-seat, due-seat}
 use Rattle.rules_handed.proofs.Seen.{kept-seen, taken-seen, resets-seen}
-use Rattle.rules_handed.proofs.Isolation.{answersTo}
 
 -- ---- slots and their records
 

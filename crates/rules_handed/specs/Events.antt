@@ -7,8 +7,12 @@ use lib.Dec.{eqb}
 use Rattle.rows.specs.Rows.{firstRow, without}
 use Rattle.rules.specs.Record.{Request, received, credential}
 use Rattle.rules.specs.Outcome.{Response}
-use Rattle.rules_waiting.specs.Terminal.{Transition}
-use Rattle.rules_waiting.specs.Inputs.{Input, handIn, takeAt, direct}
+use Rattle.rules_waiting.specs.Terminal.{Transition, Terminal, directChecks, due, handInChecks, takeChecks}
+use Rattle.rules_waiting.specs.Inputs.{Input, handIn, takeAt, direct, collected, next}
+use Rattle.rules.specs.Checks.{verdict}
+use Rattle.rules.specs.Defaults.{Defaults}
+use Rattle.rules.specs.declared.Check.{Check}
+use Rattle.rules.specs.declared.Check.the-variants.{Pass, Refuse}
 
 pub data Event : Type 0 where
   -- this record was handed in, and answered with 0
@@ -69,3 +73,20 @@ abbrev pub gathered : {A : Type 0} → (Input → Transition → List A) → Lis
 gathered f [] answers = []
 gathered f (i ∷ is) [] = []
 gathered f (i ∷ is) (a ∷ answers) = f i a ++ gathered f is answers
+
+-- ---- the same by the definitions
+
+-- an event where the checks pass
+abbrev pub eventIf : Event → Check → List Event
+eventIf e Pass = e ∷ []
+eventIf e (Refuse n) = []
+
+-- the event of an input
+abbrev pub eventAt : Terminal → Input → List Event
+eventAt x (handIn r) = eventIf (enqueued r) (verdict (handInChecks x r))
+eventAt x (takeAt clock capacity) = eventIf (dequeued (credential (due x)) clock capacity) (verdict (takeChecks x))
+eventAt x (direct q) = eventIf (immediate q) (verdict (directChecks x))
+
+-- of a run
+abbrev pub events : Defaults → Terminal → List Input → List Event
+events d = collected (next d) eventAt

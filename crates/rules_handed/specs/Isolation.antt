@@ -11,7 +11,7 @@ use Rattle.rules.specs.Outcome.{Response, responseTo, tablesAfter}
 use Rattle.rules.specs.Run.{replies, final, Along, kept, keptOf}
 use Rattle.rules.specs.Isolation.{Premise, isOthers, compared}
 use Rattle.rules_waiting.specs.Terminal.{Terminal, Transition, soundTerminal}
-use Rattle.rules_waiting.specs.Inputs.{Input, recordsIn}
+use Rattle.rules_waiting.specs.Inputs.{Input, recordsIn, next, transition}
 use Rattle.rules_handed.specs.Events.{requests, eventOf, toldOf, gathered}
 
 -- the records judged, with the bytes of the hand-ins, and what their senders are told
@@ -39,3 +39,7 @@ module _ (d : Defaults) (chosen : Sender → Bool) (x : Terminal) (is : List Inp
   pub record Isolated (end : Terminal) : Type 0 where
     pub told-same : keptOf (isOthers chosen) (requestsOf x is answers) (allTold is answers) ≡ replies (responseTo d) (tablesAfter d) (x .tables) othersOf
     pub tables-same : compared chosen (end .tables) ≡ compared chosen (final (tablesAfter d) (x .tables) othersOf)
+
+-- the answers of the definitions to a run
+abbrev pub answersTo : Defaults → Terminal → List Input → List Transition
+answersTo d = replies (transition d) (next d)

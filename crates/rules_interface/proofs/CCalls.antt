@@ -1,58 +1,26 @@
 -- Theorem, demand 3 of C calls: what the C functions promise (`Promised`, specs/Calls.antt), with the payload read at its offset and length,
 -- are calls as `built-isolation` takes them (rules_waiting/proofs/Built.antt), each on the bytes that the one before left.
-use Rattle.rows.proofs.Prelude.{_≡_, ap, _∙_, Bool, List, [], _∷_, ℕ, length, take, getD}
+use Rattle.rows.proofs.Prelude.{_≡_, ap, _∙_, Bool, List, [], _∷_, ℕ, length, getD}
 use Rattle.rules.specs.declared.Tables.{Tables}
 use Rattle.rules.specs.declared.Sender.{Sender}
 use Rattle.rules.specs.Defaults.{Defaults}
 use Rattle.rules.specs.Checks.{verdict}
-use Rattle.rules.specs.Outcome.{Said, payloadPart}
+use Rattle.rules.specs.Outcome.{payloadPart}
 use Rattle.rules.specs.Run.{kept}
 use Rattle.rules.proofs.CheckLaws.{check-cases}
 use Rattle.rules_waiting.specs.Slots.{padded}
 use Rattle.rules_waiting.specs.Terminal.{Terminal, Transition, handInChecks, handedIn, taken, judged, said, handedOut}
 use Rattle.rules_waiting.specs.Inputs.{Input, handIn, takeAt, direct, othersTurn}
-use Rattle.rules_waiting.proofs.Isolated.{Premises, AsTheBook}
-use Rattle.rules_waiting.proofs.Built.{Call, Meets, Built, handedBack, callTurns, built-isolation}
+use Rattle.rules_waiting.specs.CallRun.{Meets, Built, handedBack, callTurns}
+use Rattle.rules_waiting.specs.Isolation.{Premises, AsTheBook}
+use Rattle.rules_waiting.proofs.Built.{built-isolation}
 use Rattle.rules_interface.specs.Memory.{Memory, terminalAt, memoryOf}
 use Rattle.rules_interface.specs.Interface.{wordsOf}
 use Rattle.rules_interface.specs.Calls.{CCall, Promised, CBuilt}
-use Rattle.rules_interface.proofs.Payload.{payloadIn, part-found}
+use Rattle.rules_interface.specs.CallRun.{payloadIn, callOf, callsOf, saidIn}
+use Rattle.rules_interface.proofs.Payload.{part-found}
 
 -- ---- a C call as a call
-
--- the words, read in their order
-abbrev pub saidIn : List ℕ → Tables → Said
-saidIn words t = record {
-  answer = getD words 0 0;
-  permission = getD words 1 0;
-  payload = getD words 3 0;
-  reply = getD words 4 0;
-  places = record { first = getD words 5 0; count = getD words 6 0 };
-  links = record { set = getD words 7 0; size = getD words 8 0 };
-  tables = t;
-}
-
--- the record whose part the payload is; a hand-in has none
-abbrev pub recordIn : Input → CCall → List ℕ
-recordIn (handIn r) c = []
-recordIn (takeAt clock capacity) c = take (getD (c .size) 0 0) (c .bytes)
-recordIn (direct q) c = q .bytes
-
-abbrev pub callOf : Input → CCall → Call
-callOf i c = record {
-  judgement = saidIn (c .words) (terminalAt (c .memory) .tables);
-  queue = c .memory .queue;
-  lent = c .lent;
-  buffer = c .buffer;
-  payload = payloadIn (c .words) (recordIn i c);
-  size = getD (c .size) 0 0;
-  bytes = c .bytes;
-}
-
-abbrev pub callsOf : List Input → List CCall → List Call
-callsOf [] cs = []
-callsOf (i ∷ is) [] = []
-callsOf (i ∷ is) (c ∷ cs) = callOf i c ∷ callsOf is cs
 
 -- ---- each call meets what demand 3 asks for
 

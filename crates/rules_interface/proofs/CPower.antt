@@ -1,37 +1,20 @@
 -- Theorem: a day with power cuts, of C calls. Each is on the bytes that the one before left or, after a cut, on those that the store held.
 -- They are calls as the theorems of power cuts take them (rules_power/proofs/PowerCuts.antt).
-use Rattle.rows.proofs.Prelude.{_≡_, ap, List, [], map, ℕ, length, getD}
+use Rattle.rows.proofs.Prelude.{_≡_, ap, List, ℕ, length}
 use Rattle.rules.specs.Defaults.{Defaults}
 use Rattle.rules_waiting.specs.Terminal.{Terminal}
-use Rattle.rules_waiting.specs.Inputs.{Input}
-use Rattle.rules_waiting.proofs.Built.{Call}
 use Rattle.rules_store.specs.Store.{sizeFor}
 use Rattle.rules_power.specs.Image.{tablesSize, terminalSize}
 use Rattle.rules_power.specs.Day.{Event, found, Day, Restarts, AsRun}
 use Rattle.rules_power.specs.Kept as kept
-use Rattle.rules_power.specs.Kept.{Act, input, clear, Calls, nothingWaits, whole, tablesAlone}
-use Rattle.rules_power.proofs.Days.{eventOf, day-mapped}
-use Rattle.rules_power.proofs.PowerCuts.{byCalls, tablesByCalls, whole-calls, tables-calls}
+use Rattle.rules_power.specs.Kept.{Act, input, clear, Calls, nothingWaits, whole, tablesAlone, byCalls, tablesByCalls}
+use Rattle.rules_power.proofs.Days.{day-mapped}
+use Rattle.rules_power.proofs.PowerCuts.{whole-calls, tables-calls}
 use Rattle.rules_interface.specs.Memory.{Memory, terminalAt}
 use Rattle.rules_interface.specs.Calls.{CCall, PromisedBy}
-use Rattle.rules_interface.proofs.CCalls.{saidIn, callOf, c-meets}
-
--- a C call on memory that is read as the one terminal, which leaves memory that is read as the other
-pub data CGives (d : Defaults) : Terminal → Act → CCall → Terminal → Type 0 where
-  gives : (m : Memory) (act : Act) (c : CCall) → PromisedBy d m act c → CGives d (terminalAt m) act c (terminalAt (c .memory))
-
--- a C call as a call. Of tillerclover_clear_at and tillerclover_fresh_at the memory counts alone
-abbrev pub callAt : Act → CCall → Call
-callAt (input i) c = callOf i c
-callAt clear c = record {
-  judgement = saidIn (c .words) (terminalAt (c .memory) .tables);
-  queue = c .memory .queue;
-  lent = c .lent;
-  buffer = c .buffer;
-  payload = [];
-  size = getD (c .size) 0 0;
-  bytes = c .bytes;
-}
+use Rattle.rules_interface.specs.CallRun.{callOf}
+use Rattle.rules_interface.specs.Power.{CGives, gives, callAt, seen}
+use Rattle.rules_interface.proofs.CCalls.{c-meets}
 
 c-act : (d : Defaults) (m : Memory) (act : Act) (c : CCall) → PromisedBy d m act c → Calls d (terminalAt m) act (callAt act c) (terminalAt (c .memory))
 c-act d m (input i) c p = kept.gives (terminalAt m) i (callOf i c) (c-meets d m i c p)
@@ -39,9 +22,6 @@ c-act d m clear c p = kept.clears (terminalAt m) (callAt clear c) (ap terminalAt
 
 c-calls : (d : Defaults) (x y : Terminal) (act : Act) (c : CCall) → CGives d x act c y → Calls d x act (callAt act c) y
 c-calls d x y act c (gives m _ _ p) = c-act d m act c p
-
-abbrev pub seen : List (Event Act CCall) → List (Event Act Call)
-seen = map (eventOf callAt)
 
 module _ (d : Defaults) where
   -- tables and what waits as one image: a run without power cuts

@@ -8,7 +8,7 @@ use Rattle.rules_waiting.specs.Slots.{waiting}
 use Rattle.rules_waiting.specs.Inputs.{handIn, takeAt, direct}
 use Rattle.rules_waiting.proofs.Refused.{take-nothing, refused-take, refused-direct, refused-hand-in}
 use Rattle.rules_interface.specs.Memory.{Memory, terminalAt, memoryOf, withQueue}
-use Rattle.rules_interface.specs.Interface.{offsetOf, wordsOf}
+use Rattle.rules_interface.specs.Interface.{offsetOf, wordsOf, numberWords}
 use Rattle.rules_interface.specs.Calls.{CCall, Promised}
 
 -- four bytes, read and written
@@ -31,10 +31,6 @@ queue-back : (m : Memory) (queue : List ℕ) → length (m .counts) ≡ 4 → me
 queue-back m queue e =
     ap (λ (b : List ℕ). record { counts = b; devowner = m .devowner; rowners = m .rowners; creds = m .creds; aces = m .aces; queue = queue })
     (four (m .counts) e)
-
--- a number and nothing else
-abbrev pub numberWords : ℕ → List ℕ
-numberWords n = n ∷ 0 ∷ 0 ∷ 0 ∷ 0 ∷ 0 ∷ 0 ∷ 0 ∷ 0 ∷ []
 
 module _ (d : Defaults) (m : Memory) (sized : length (m .counts) ≡ 4) (c : CCall) (n : ℕ) where
   -- a record judged at once that is refused

@@ -1,5 +1,5 @@
 -- Theorem: the offset and the length that C gets are those of the outcome's payload within the record.
-use Rattle.rows.proofs.Prelude.{_≡_, refl, _∙_, List, ℕ, zero, suc, arith, length, take, drop, getD, ne-eqb}
+use Rattle.rows.proofs.Prelude.{_≡_, refl, _∙_, List, ℕ, zero, suc, arith, length, ne-eqb}
 use Rattle.rules.specs.Record.{Request, received}
 use Rattle.rules.specs.Defaults.{Defaults}
 use Rattle.rules.specs.Checks.{verdict}
@@ -8,14 +8,7 @@ use Rattle.rules.proofs.CheckLaws.{check-cases}
 use Rattle.rules.proofs.Refusals.{payload-is}
 use Rattle.rules_waiting.specs.Terminal.{Terminal, takeChecks, due, taken, directChecks, judged}
 use Rattle.rules_interface.specs.Interface.{offsetOf, wordsOf}
-
--- the part at this offset, of this length
-abbrev pub partAt : ℕ → ℕ → List ℕ → List ℕ
-partAt offset n r = take n (drop offset r)
-
--- the part that the words name
-abbrev pub payloadIn : List ℕ → List ℕ → List ℕ
-payloadIn words r = partAt (getD words 2 0) (getD words 3 0) r
+use Rattle.rules_interface.specs.CallRun.{partAt, payloadIn}
 
 -- a payload stands behind the header, and none has no place
 pub part-found : (n : ℕ) (r : List ℕ) → partAt (offsetOf n) n r ≡ payloadPart n r

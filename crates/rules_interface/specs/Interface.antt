@@ -41,6 +41,10 @@ wordsIn s =
 abbrev pub wordsOf : Transition → List ℕ
 wordsOf a = wordsIn (said a)
 
+-- a number and nothing else
+abbrev pub numberWords : ℕ → List ℕ
+numberWords n = n ∷ 0 ∷ 0 ∷ 0 ∷ 0 ∷ 0 ∷ 0 ∷ 0 ∷ 0 ∷ []
+
 -- ---- a terminal
 
 -- new, of any bytes

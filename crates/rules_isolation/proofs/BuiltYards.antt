@@ -6,15 +6,14 @@ use Rattle.rules.specs.declared.Sender.{Sender}
 use Rattle.rules.specs.Defaults.{Defaults}
 use Rattle.rules_waiting.specs.Terminal.{Terminal}
 use Rattle.rules_waiting.specs.Inputs.{Input, recordsIn}
-use Rattle.rules_waiting.proofs.Built.{Call, Built, handedBack}
-use Rattle.rules_waiting.proofs.Shown.{allShown}
+use Rattle.rules_waiting.specs.CallRun.{Call, Built, handedBack, allShown}
 use Rattle.rules_handed.specs.Isolation as handed
 use Rattle.rules_handed.proofs.Calls.{of-calls}
 use Rattle.rules_isolation.specs.declared.Isolation.the-variants.{Isolated}
 use Rattle.rules_isolation.specs.Question.{chosenBy, isolationOf}
-use Rattle.rules_isolation.specs.Service.{othersEndanger, turnsHanded, Again}
+use Rattle.rules_isolation.specs.Service.{othersEndanger, turnsHanded, Again, Within}
 use Rattle.rules_isolation.specs.Yards.{ofYards, Disjoint, AllIsolated, YardAlone, BothAlone}
-use Rattle.rules_isolation.proofs.InService.{Within, in-service, in-quiet-service}
+use Rattle.rules_isolation.proofs.InService.{in-service, in-quiet-service}
 use Rattle.rules_isolation.proofs.Separate.{each-yard, each-yard-quiet, two-yards, two-yards-quiet}
 
 module _ (d : Defaults) (x : Terminal) (is : List Input) (cs : List Call) (built : Built d x is cs) where

@@ -13,20 +13,12 @@ use Rattle.rules.specs.Tables.{rows, sound}
 use Rattle.rules.specs.Permission.{senderRow, connectionOf}
 use Rattle.rules.specs.Isolation.{namesOwner, mayAlter, Harmless}
 use Rattle.rules_isolation.specs.declared.Isolation.{Isolation}
-use Rattle.rules_isolation.specs.declared.Isolation.the-variants.{Isolated, OddLength, Unsound, NoOwner, NamesOwner, MayAlter}
+use Rattle.rules_isolation.specs.declared.Isolation.the-variants.{Isolated}
 use Rattle.rules_isolation.specs.Question.{entries, senderOf, sameSender, chosenBy, oddLength, lacksOwner, letsAlter, alteringPlace}
 use Rattle.rules_isolation.specs.Question.{entryAnswer, entriesAnswer, isolationOf}
+use Rattle.rules_isolation.specs.Answers.{FirstAt, Says, harms, isolated, odd, unsound, unowned, names, alters}
 
 -- ---- the first row that passes a test
-
--- w is at place i, counted from 1, passes the test, and no row before it does
-pub record FirstAt (passes : Row → Bool) (ws : List Row) (i : ℕ) (w : Row) : Type 0 where
-  pub before : List Row
-  pub after : List Row
-  pub stands : ws ≡ before ++ (w ∷ after)
-  pub place : i ≡ suc (length before)
-  pub none : some passes before ≡ false
-  pub does : passes w ≡ true
 
 -- there is one at this place
 pub record First (passes : Row → Bool) (ws : List Row) (i : ℕ) : Type 0 where
@@ -55,21 +47,6 @@ first-at p (w ∷ ws) h =
     }))
 
 -- ---- what each answer says
-
--- the entry's sender is not harmless
-unfoldable pub harms : Tables → Row → Bool
-harms t e = namesOwner t (senderOf e) || mayAlter t (senderOf e)
-
-pub data Says (t : Tables) (list : List ℕ) : Isolation → Type 0 where
-  isolated : oddLength list ≡ false → sound t ≡ true → Harmless (chosenBy list) t → Says t list Isolated
-  odd : oddLength list ≡ true → Says t list OddLength
-  unsound : oddLength list ≡ false → sound t ≡ false → Says t list Unsound
-  unowned : oddLength list ≡ false → sound t ≡ true → lacksOwner t list ≡ true → Says t list NoOwner
-  names : {i : ℕ} {e : Row} → oddLength list ≡ false → sound t ≡ true → lacksOwner t list ≡ false
-      → FirstAt (harms t) (entries list) i e → namesOwner t (senderOf e) ≡ true → Says t list (NamesOwner i)
-  alters : {i j : ℕ} {e a : Row} → oddLength list ≡ false → sound t ≡ true → lacksOwner t list ≡ false
-      → FirstAt (harms t) (entries list) i e → namesOwner t (senderOf e) ≡ false
-      → FirstAt (letsAlter (senderRow t (senderOf e)) (connectionOf (senderOf e))) (rows Aces t) j a → Says t list (MayAlter i j)
 
 -- ---- the senders of the entries
 

@@ -24,17 +24,18 @@ use Rattle.rules.proofs.Isolated.{Related, silent, congruent}
 use Rattle.rules_waiting.specs.Terminal.{Terminal, handInChecks, handedIn, takeChecks, due, taken, directChecks, judged}
 use Rattle.rules_waiting.specs.Inputs.{Input, handIn, takeAt, direct, transition, next, Turn, turnIf, judgedAt, allJudged, requestOf, turnTold, bytesOf}
 use Rattle.rules_waiting.specs.Inputs.{othersTurn, recordsIn}
-use Rattle.rules_waiting.proofs.Isolated.{others}
-use Rattle.rules_handed.specs.Events.{Event, enqueued, dequeued, immediate, sentBy, newestOf, requests, recordsAfter, eventOf, toldOf}
+use Rattle.rules_handed.specs.Events.{Event, enqueued, dequeued, immediate, sentBy, newestOf, requests, recordsAfter, eventOf, toldOf, eventAt, events}
 use Rattle.rules_handed.specs.Isolation as handed
-use Rattle.rules_handed.proofs.Judged.{eventAt, events, judged-handed}
+use Rattle.rules_handed.specs.Isolation.{answersTo}
+use Rattle.rules_handed.proofs.Judged.{judged-handed}
 use Rattle.rules_handed.proofs.Seen.{event-seen, told-seen}
-use Rattle.rules_handed.proofs.Isolation.{answersTo, requests-are, told-are, others-are, isolated-handed}
+use Rattle.rules_handed.proofs.Isolation.{requests-are, told-are, others-are, isolated-handed}
 use Rattle.rules_isolation.specs.declared.Isolation.the-variants.{Isolated}
 use Rattle.rules_isolation.specs.Question.{entries, anonymous, senderOf, sameSender, chosenBy, isolationOf}
-use Rattle.rules_isolation.specs.Service.{endangering, othersEndanger, paired, turnsHanded, Again}
+use Rattle.rules_isolation.specs.Service.{endangering, othersEndanger, paired, turnsHanded, Again, Within, SmallNumbers}
 use Rattle.rules_isolation.proofs.Exact.{same-sender, isolated-harmless}
-use Rattle.rules_isolation.proofs.Kept.{SmallNumbers, harmless-kept}
+use Rattle.rules_isolation.proofs.Kept.{harmless-kept}
+use Rattle.rules_waiting.specs.Isolation.{others}
 
 -- ---- one input: it judges a record, or leaves the tables alone
 
@@ -59,10 +60,6 @@ AgainAt d chosen Such x [] = Unit {0}
 AgainAt d chosen Such x (i ∷ is) = (othersEndanger chosen (judgedAt d x i) ≡ true → Such (next d x i .tables)) × AgainAt d chosen Such (next d x i) is
 
 -- ---- sets of senders
-
--- each sender of the part is chosen
-abbrev pub Within : (Sender → Bool) → (Sender → Bool) → Type 0
-Within part chosen = (s : Sender) → part s ≡ true → chosen s ≡ true
 
 pub harmless-within : (part chosen : Sender → Bool) (t : Tables) → Within part chosen → Harmless chosen t → Harmless part t
 harmless-within part chosen t within safe = record {
@@ -218,10 +215,7 @@ list-small list n h = some-small n (entries list) h
 
 module _ (d : Defaults) (list : List ℕ) (x : Terminal) (is : List Input) (asked : isolationOf (x .tables) list ≡ Isolated)
     (part : Sender → Bool) (within : Within part (chosenBy list)) where
-  abbrev PartAlone : Type 0
-  PartAlone = handed.Isolated d part x is (answersTo d x is) (final (next d) x is)
-
-  part-alone : AgainAt d (chosenBy list) (λ t. isolationOf t list ≡ Isolated) x is → PartAlone
+  part-alone : AgainAt d (chosenBy list) (λ t. isolationOf t list ≡ Isolated) x is → handed.Isolated d part x is (answersTo d x is) (final (next d) x is)
   part-alone a =
       isolated-handed d part x is
       (λ _. rw (others-are d part x is)
@@ -230,9 +224,11 @@ module _ (d : Defaults) (list : List ℕ) (x : Terminal) (is : List Input) (aske
 
   -- a list answered 'isolated', and again after each input by which somebody else endangers it: what any part of the list sends, all of it or
   -- one haulier, changes nothing for the others, the rest of the list among them. The book is fed what was handed in
-  pub in-service : Again (chosenBy list) (λ t. isolationOf t list ≡ Isolated) (recordsIn x) is (answersTo d x is) → PartAlone
+  pub in-service : Again (chosenBy list) (λ t. isolationOf t list ≡ Isolated) (recordsIn x) is (answersTo d x is)
+      → handed.Isolated d part x is (answersTo d x is) (final (next d) x is)
   in-service a = part-alone (again-handed d (chosenBy list) _ x is a)
 
   -- or nobody else endangers it, and the question is asked once
-  pub in-quiet-service : othersEndanger (chosenBy list) (turnsHanded x is (answersTo d x is)) ≡ false → PartAlone
+  pub in-quiet-service : othersEndanger (chosenBy list) (turnsHanded x is (answersTo d x is)) ≡ false
+      → handed.Isolated d part x is (answersTo d x is) (final (next d) x is)
   in-quiet-service n = part-alone (never-handed d (chosenBy list) _ x is n)

@@ -1,5 +1,5 @@
 -- Theorem: harmless senders stay harmless, whatever they send, and whatever others send that is permitted and does not endanger them.
-use Rattle.rows.proofs.Prelude.{_≡_, refl, sym, ap, _∙_, Bool, true, false, _&&_, List, [], _∷_, ℕ, _<_, take, eqb}
+use Rattle.rows.proofs.Prelude.{_≡_, refl, sym, ap, _∙_, Bool, true, false, _&&_, List, [], _∷_, ℕ, take, eqb}
 use Rattle.rows.proofs.Prelude.{cond-cases, bool-cases, contradiction, or-left, or-right, or-neither, and-false, and-both}
 use Rattle.rows.specs.Rows.{Row, hasKey, numberedAs, firstRow, some, distinctNumbers, stored, without}
 use Rattle.rows.proofs.Kept.{same-true, some-without, distinct-parts}
@@ -29,7 +29,7 @@ use Rattle.rules.proofs.SoundKept.{SoundRows, Passed, passed-all, stored-sound,
 use Rattle.rules.proofs.OwnRow.{asserts, asserted-two, numbered-two, number-is, same-number}
 use Rattle.rules.proofs.Alike.{first-none, compared-at, harmless-alike}
 use Rattle.rules.proofs.Isolated.{silent}
-use Rattle.rules_isolation.specs.Service.{endangers}
+use Rattle.rules_isolation.specs.Service.{endangers, SmallNumbers}
 use Rattle.rules_isolation.specs.Question.{letsAlter}
 
 -- ---- a sender's row among rows that change
@@ -125,10 +125,6 @@ module _ (chosen : Sender → Bool) (t : Tables) (safe : Harmless chosen t) wher
 
 -- ---- a record
 
--- the numbers of the chosen partners have 16 bits
-abbrev pub SmallNumbers : (Sender → Bool) → Type 0
-SmallNumbers chosen = (n : ℕ) → chosen (Partner n) ≡ true → n < 65536
-
 module _ (d : Defaults) (chosen : Sender → Bool) (small : SmallNumbers chosen) where
   -- a row whose number no chosen partner has
   other-number : (n m : ℕ) (new : Row) → chosen (Partner n) ≡ true → rowNumber new ≡ m → chosen (Partner m) ≡ false → numbered n new ≡ false
@@ -176,10 +172,8 @@ module _ (d : Defaults) (chosen : Sender → Bool) (small : SmallNumbers chosen)
         creds-changed chosen t safe _ (asserted-sound k t q h x) (other-stored (a .number) _ _ number (ap chosen (sym (a .is)) ∙ o))
     effect-harmless Malformed o x e = safe
 
-    abbrev NotEndangered : Type 0
-    NotEndangered = (eqb (responseTo d t q .answer) 0 && endangers chosen (body (q .bytes)) (action (q .bytes))) ≡ false
-
-    others-harmless : chosen (sender (q .bytes)) ≡ false → NotEndangered → Harmless chosen (tablesAfter d t q)
+    others-harmless : chosen (sender (q .bytes)) ≡ false
+        → (eqb (responseTo d t q .answer) 0 && endangers chosen (body (q .bytes)) (action (q .bytes))) ≡ false → Harmless chosen (tablesAfter d t q)
     unfolding outcome outcomeAt
     others-harmless o e =
         let p = permission (q .clock) t (q .bytes) in
@@ -195,5 +189,7 @@ module _ (d : Defaults) (chosen : Sender → Bool) (small : SmallNumbers chosen)
         harmless-alike chosen (tablesAfter d t q) t (sym (compared-at chosen (tablesAfter d t q) after) ∙ e .same ∙ compared-at chosen t h) after h safe
 
     -- of anybody
-    pub harmless-kept : (chosen (sender (q .bytes)) ≡ false → NotEndangered) → Harmless chosen (tablesAfter d t q)
+    pub harmless-kept :
+        (chosen (sender (q .bytes)) ≡ false → (eqb (responseTo d t q .answer) 0 && endangers chosen (body (q .bytes)) (action (q .bytes))) ≡ false)
+        → Harmless chosen (tablesAfter d t q)
     harmless-kept e = bool-cases (chosen (sender (q .bytes))) own-harmless (λ o. others-harmless o (e o))

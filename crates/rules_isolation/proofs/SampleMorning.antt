@@ -9,10 +9,10 @@ use Rattle.rules_waiting.specs.Round.{seats, held, occupied, start, inTurn, fir
 use Rattle.rules_waiting.specs.Terminal.{Terminal, terminal, slotSound, queueSound, soundTerminal, withRecord}
 use Rattle.rules_waiting.specs.Terminal.{handedIn, clears, queueAfter, turn, due, taken, judged}
 use Rattle.rules_waiting.specs.Inputs.{Input, handIn, takeAt, direct, Turn, turnTold}
-use Rattle.rules_waiting.proofs.Built.{Call, handedBack}
-use Rattle.rules_waiting.proofs.Shown.{allShown}
+use Rattle.rules_waiting.specs.CallRun.{Call, handedBack, allShown}
 use Rattle.rules_handed.specs.Events.{sentBy, newestOf}
-use Rattle.rules_handed.proofs.Exists.{callsAt, calls-built}
+use Rattle.rules_handed.specs.Made.{callsAt}
+use Rattle.rules_handed.proofs.Exists.{calls-built}
 use Rattle.rules_isolation.specs.Question.{chosenBy}
 use Rattle.rules_isolation.specs.Service.{endangering, othersEndanger, turnsHanded}
 use Rattle.rules_isolation.specs.Yards.{ofYards, Disjoint, bookTurns, turnsOf, requestsWithout, BothAlone}

@@ -11,14 +11,14 @@ use Rattle.rules.specs.Run.{replies, final, kept}
 use Rattle.rules.specs.Isolation.{Harmless, Premise}
 use Rattle.rules_waiting.specs.Terminal.{Terminal}
 use Rattle.rules_waiting.specs.Inputs.{Input, next, Turn, requestOf, turnTold, bytesOf, othersTurn, recordsIn}
-use Rattle.rules_waiting.proofs.Isolated.{AsTheBook, isolated}
-use Rattle.rules_handed.proofs.Isolation.{answersTo}
+use Rattle.rules_waiting.specs.Isolation.{AsTheBook}
+use Rattle.rules_waiting.proofs.Isolated.{isolated}
 use Rattle.rules_isolation.specs.Question.{chosenBy}
-use Rattle.rules_isolation.specs.Service.{othersEndanger, turnsHanded, Again}
+use Rattle.rules_isolation.specs.Service.{othersEndanger, turnsHanded, Again, Within, SmallNumbers}
 use Rattle.rules_isolation.specs.Yards.{ofYards, ofOtherYards, Disjoint, AllIsolated, bookTurns, turnsOf, Alone, AloneIn, YardAlone, BothAlone}
 use Rattle.rules_isolation.proofs.Exact.{isolated-harmless}
-use Rattle.rules_isolation.proofs.Kept.{SmallNumbers}
-use Rattle.rules_isolation.proofs.InService.{AgainAt, Within, list-small, service, again-map, turns-handed, again-handed, never-handed}
+use Rattle.rules_isolation.proofs.InService.{AgainAt, list-small, service, again-map, turns-handed, again-handed, never-handed}
+use Rattle.rules_handed.specs.Isolation.{answersTo}
 
 -- ---- the yards together
 

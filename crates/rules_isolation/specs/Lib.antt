@@ -1,4 +1,5 @@
--- The question and its answer (Question), what can end isolation in service (Service), and yards beside each other (Yards).
+-- The question and its answer (Question), what each answer says (Answers), what can end isolation in service (Service), and yards beside each other (Yards).
 pub mod Question
 pub mod Service
 pub mod Yards
+pub mod Answers

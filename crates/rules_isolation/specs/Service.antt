@@ -1,6 +1,6 @@
 -- Isolation in service: what a record of somebody else may do that ends it.
 -- It is read in the record and its answer alone, not in the tables.
-use Prim.Native.Nat.{ℕ}
+use Prim.Native.Nat.{ℕ, _<_}
 use mathlib.Core.Path.{_≡_}
 use mathlib.Core.Bool.{Bool, true, false, _&&_, _||_}
 use mathlib.Core.List.{List, [], _∷_}
@@ -80,3 +80,11 @@ Again chosen Such rs (i ∷ is) [] = Unit {0}
 Again chosen Such rs (i ∷ is) (a ∷ answers) =
     (othersEndanger chosen (paired (requests rs (eventOf i a)) (toldOf i a)) ≡ true → Such (a .terminal .tables))
     × Again chosen Such (recordsAfter rs (eventOf i a)) is answers
+
+-- each sender of the part is chosen
+abbrev pub Within : (Sender → Bool) → (Sender → Bool) → Type 0
+Within part chosen = (s : Sender) → part s ≡ true → chosen s ≡ true
+
+-- the numbers of the chosen partners have 16 bits
+abbrev pub SmallNumbers : (Sender → Bool) → Type 0
+SmallNumbers chosen = (n : ℕ) → chosen (Partner n) ≡ true → n < 65536

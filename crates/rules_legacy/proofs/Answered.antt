@@ -8,7 +8,7 @@ use Rattle.rules_lists.specs.Lists.{listed}
 use Rattle.rules.specs.Reading.{filled}
 use Rattle.rules.specs.Checks.{verdict, numberOf}
 use Rattle.rules_legacy.specs.OldList.{badFile}
-use Rattle.rules_legacy.specs.Conversion.{rowsMade, tooManyRows, bufferTooShort, conversionVerdict, handedOut, conversionReply}
+use Rattle.rules_legacy.specs.Conversion.{rowsMade, tooManyRows, bufferTooShort, conversionVerdict, handedOut, conversionReply, Converted}
 use Rattle.rules_legacy.proofs.Stored.{rows-long, rows-size, few-rows}
 use Rattle.rules.specs.declared.Table.the-variants.{Aces}
 use Rattle.rules.specs.Sizes.{aceRowSize}
@@ -23,13 +23,7 @@ module _ (f : List ℕ) (capacity : ℕ) where
       (λ a. bool-cases (tooManyRows f) (λ b. rw (a, b)) (λ b. bool-cases (bufferTooShort f capacity) (λ c. rw (a, b, c)) (λ c. rw (a, b, c))))
 
   -- with 0 no check applies, and the rows are handed out
-  pub record Converted : Type 0 where
-    pub good : badFile f ≡ false
-    pub few : tooManyRows f ≡ false
-    pub fits : bufferTooShort f capacity ≡ false
-    pub response : conversionReply f capacity ≡ joined (rowsMade f)
-
-  pub converted : numberOf (conversionVerdict f capacity) ≡ 0 → Converted
+  pub converted : numberOf (conversionVerdict f capacity) ≡ 0 → Converted f capacity
   unfolding conversionReply conversionVerdict verdict
   converted e =
       bool-cases (badFile f) (λ a. absurd (omega (arith, rw a at e)))

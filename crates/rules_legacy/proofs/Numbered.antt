@@ -1,11 +1,11 @@
 -- Rows numbered one after the other, whatever follows the numbers: how many they are, their numbers, and that no number stands twice.
-use Rattle.rows.proofs.Prelude.{_≡_, refl, ap, ap₂, _∙_, true, false, _&&_, List, [], _∷_, _++_, map, ℕ, zero, suc, _+_, _/_, _%_, _≤_, _<_, add-zero, arith}
+use Rattle.rows.proofs.Prelude.{_≡_, refl, ap, ap₂, _∙_, true, false, _&&_, List, [], _∷_, _++_, map, ℕ, suc, _+_, _/_, _%_, _≤_, _<_, add-zero, arith}
 use Rattle.rows.proofs.Prelude.{length, eqb, eqb-true, bool-cases, and-left, and-right, or-neither}
 use Rattle.rows.specs.Rows.{Row, same, numberedAs, some, distinctNumbers}
 use Rattle.rules.specs.Bits.{be16}
 use Rattle.rules.specs.Bodies.{rowNumber}
 use Rattle.rules.proofs.BitLaws.{bits-word}
-use Rattle.rules_legacy.specs.Conversion.{numberedFrom}
+use Rattle.rules_legacy.specs.Conversion.{numberedFrom, numbersFrom}
 
 pub numbered-length : (i : ℕ) (es : List (List ℕ)) → length (numberedFrom i es) ≡ length es
 unfolding numberedFrom
@@ -20,10 +20,6 @@ numbered-append i (e ∷ es) ds =
     ap (λ (ws : List Row). (be16 i ++ e) ∷ ws) (rw n (numbered-append (i + 1) es ds))
 
 -- ---- the numbers are those from i on
-
-abbrev pub numbersFrom : ℕ → ℕ → List ℕ
-numbersFrom i zero = []
-numbersFrom i (suc k) = i ∷ numbersFrom (i + 1) k
 
 pub number-is : (i : ℕ) (e : List ℕ) → i < 65536 → rowNumber (be16 i ++ e) ≡ i
 unfolding be16

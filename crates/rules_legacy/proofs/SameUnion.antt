@@ -11,6 +11,7 @@ use Rattle.rules.specs.declared.Sender.the-variants.{Unauthenticated, Partner}
 use Rattle.rules.specs.Bodies.{credSubject, aceConnection, everySecond}
 use Rattle.rules.specs.Permission.{isRow, senderRowIn, connectionOf, subjectIs, subjectFits, resourceFits, inForce, rowFits, grants}
 use Rattle.rules_legacy.specs.OldList.{oldSubject, oldPermission, inOldSet, isAnybody, oldFits, oldGives, oldRows, oldUnion}
+use Rattle.rules_legacy.specs.OldList.{Standing, authenticated, anonymous}
 use Rattle.rules_legacy.specs.Conversion.{uuidEntry, connectionSubject, connectionEntry, entriesOf, allEntries, numberedFrom, rowsMade}
 use Rattle.rules_legacy.proofs.BitParts.{bits-drop}
 use Rattle.rules_legacy.proofs.Made.{Made, made}
@@ -37,11 +38,6 @@ module _ (i : ℕ) (o : Row) (long : length o ≡ 25) where
   in-connection c s w v e = sym (bits-drop 12 (be16 i ++ connectionEntry c o) s w) ∙ ap (λ (r : List ℕ). bits r s w) (made-connection c .behind) ∙ e
 
 -- ---- what they give to a sender
-
--- a sender as rule 1 sees it: over connection 1 with any credential row or none, over connection 0 with none
-pub data Standing : Row → ℕ → Type 0 where
-  authenticated : (w : Row) → Standing w 1
-  anonymous : Standing [] 0
 
 pub standing : (ws : List Row) (s : Sender) → Standing (senderRowIn ws s) (connectionOf s)
 standing ws Unauthenticated = anonymous

@@ -13,8 +13,9 @@ use Rattle.rules.specs.Tables.{capacity}
 use Rattle.rules.proofs.SoundKept.{SoundRows}
 use Rattle.rules_legacy.specs.OldList.{oldZeros, inOldSet, isAnybody, oldRows, badRow, badFile}
 use Rattle.rules_legacy.specs.Conversion.{uuidEntry, connectionSubject, connectionEntry, entriesOf, allEntries, numberedFrom, rowsMade, tooManyRows}
+use Rattle.rules_legacy.specs.Conversion.{numbersFrom}
 use Rattle.rules_legacy.proofs.Made.{Made}
-use Rattle.rules_legacy.proofs.Numbered.{numbered-length, numbered-append, numbersFrom, number-is, numbers-are, numbers-distinct}
+use Rattle.rules_legacy.proofs.Numbered.{numbered-length, numbered-append, number-is, numbers-are, numbers-distinct}
 use Rattle.rules_legacy.proofs.SameUnion.{old-long, made-uuid, made-connection, in-connection}
 use Rattle.rules.specs.Sizes.{aceRowSize}
 

@@ -17,7 +17,8 @@ use Rattle.rules.proofs.BodyLaws.{security-number}
 use Rattle.rules.proofs.PermissionLaws.{security-same}
 use Rattle.rules.proofs.SoundKept.{SoundRows}
 use Rattle.rules_lists.specs.Lists.{listed, badSize, unfit, excessive, listTested}
-use Rattle.rules_lists.proofs.Exact.{Fault, size, row, unstored, excess, Behind, accepted-faultless, any-fault}
+use Rattle.rules_lists.specs.Faults.{Behind, Fault, size, row, unstored, excess}
+use Rattle.rules_lists.proofs.Exact.{accepted-faultless, any-fault}
 use Rattle.rules_legacy.specs.OldList.{oldPermission, inOldSet, isAnybody, oldRows, opensSecurity, badFile}
 use Rattle.rules_legacy.specs.Conversion.{uuidEntry, connectionEntry, entriesOf, allEntries, numberedFrom, rowsMade, tooManyRows}
 use Rattle.rules_legacy.proofs.Numbered.{numbered-append}

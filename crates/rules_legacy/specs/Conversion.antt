@@ -1,6 +1,7 @@
 -- The access rows that an old list becomes (U12), and the answer to a call for them, with the lent buffer afterwards.
-use Prim.Native.Nat.{ℕ, _+_, _*_}
-use mathlib.Core.Bool.{Bool, cond}
+use Prim.Native.Nat.{ℕ, _+_, _*_, suc, zero}
+use mathlib.Core.Path.{_≡_}
+use mathlib.Core.Bool.{Bool, cond, false}
 use mathlib.Core.List.{List, [], _∷_, _++_}
 use lib.Dec.{ltb}
 use lib.ListN.{length, replicate}
@@ -72,3 +73,15 @@ handedOut f (Refuse n) = []
 
 unfoldable pub conversionReply : List ℕ → ℕ → List ℕ
 conversionReply f capacity = handedOut f (conversionVerdict f capacity)
+
+-- no check applies, and the rows are handed out
+pub record Converted (f : List ℕ) (capacity : ℕ) : Type 0 where
+  pub good : badFile f ≡ false
+  pub few : tooManyRows f ≡ false
+  pub fits : bufferTooShort f capacity ≡ false
+  pub response : conversionReply f capacity ≡ joined (rowsMade f)
+
+-- so many numbers, from i on
+abbrev pub numbersFrom : ℕ → ℕ → List ℕ
+numbersFrom i zero = []
+numbersFrom i (suc k) = i ∷ numbersFrom (i + 1) k

@@ -2,7 +2,7 @@
 -- From the request and rule 1 of 'Permission' alone: nothing here knows an access row.
 use Prim.Native.Nat.{ℕ, _+_, _/_, _%_}
 use mathlib.Core.Bool.{Bool, cond, not, _&&_, _||_}
-use mathlib.Core.List.{List}
+use mathlib.Core.List.{List, []}
 use lib.Dec.{eqb}
 use lib.ListN.{length, take, drop}
 use Rattle.rows.specs.Rows.{Row, rowsOf, same, some, unionOf}
@@ -65,3 +65,8 @@ badRow o = not (eqb (oldZeros o) 0) || someBelow 64 (λ n. inOldSet o n && not (
 -- a length that is no multiple of 25, or a bad row
 unfoldable pub badFile : List ℕ → Bool
 badFile f = not (eqb (length f % 25) 0) || some badRow (oldRows f)
+
+-- a sender as rule 1 sees it: over connection 1 with any credential row or none, over connection 0 with none
+pub data Standing : Row → ℕ → Type 0 where
+  authenticated : (w : Row) → Standing w 1
+  anonymous : Standing [] 0

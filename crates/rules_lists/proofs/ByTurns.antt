@@ -18,8 +18,7 @@ use Rattle.rules.proofs.CheckLaws.{check-cases}
 use Rattle.rules.proofs.BodyLaws.{sized}
 use Rattle.rules_waiting.specs.Terminal.{Terminal, soundTerminal}
 use Rattle.rules_waiting.specs.Inputs.{recordsIn}
-use Rattle.rules_waiting.proofs.Built.{Call, Built, handedBack}
-use Rattle.rules_waiting.proofs.Shown.{allShown}
+use Rattle.rules_waiting.specs.CallRun.{Call, Built, handedBack, allShown}
 use Rattle.rules_handed.specs.Events.{gathered}
 use Rattle.rules_handed.specs.Isolation.{allTold}
 use Rattle.rules_handed.specs.Waits.{recordKept}

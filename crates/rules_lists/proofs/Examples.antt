@@ -15,10 +15,11 @@ use Rattle.rules.specs.Isolation.{rowAlters}
 use Rattle.rules.proofs.Samples.{samples, uuid, credRow, withCreds, owned5, aceBody, aceRow, weight, connected}
 use Rattle.rules_waiting.specs.Slots.{waiting, emptyQueue}
 use Rattle.rules_waiting.specs.Terminal.{Terminal, terminal}
+use Rattle.rules_waiting.specs.CallRun.{handedBack}
 use Rattle.rules_waiting.proofs.Direct.{fresh-whole}
-use Rattle.rules_waiting.proofs.Built.{handedBack}
 use Rattle.rules_handed.specs.OneByOne.{oneByOne}
-use Rattle.rules_handed.proofs.Exists.{callsAt, calls-built}
+use Rattle.rules_handed.specs.Made.{callsAt}
+use Rattle.rules_handed.proofs.Exists.{calls-built}
 use Rattle.rules_lists.specs.Lists.{badSize, unfit, excessive, said, accepted, rowsTested, listTested}
 use Rattle.rules_lists.specs.Loading.{ownsDevice, storing, OwnerStores, Ready, Loaded}
 use Rattle.rules_lists.proofs.Loaded.{accepted-loaded}

@@ -33,9 +33,9 @@ use Rattle.rules.proofs.Restored.{retrieved-sound, rows-told, reply-judged}
 use Rattle.rules.proofs.Gaps.{has-number}
 use Rattle.rules_waiting.specs.Terminal.{Terminal}
 use Rattle.rules_waiting.specs.Inputs.{Input, direct}
-use Rattle.rules_waiting.proofs.Direct.{Whole}
-use Rattle.rules_waiting.proofs.Built.{Call, told, Built, handedBack, directs-told}
-use Rattle.rules_waiting.proofs.Shown.{allShown}
+use Rattle.rules_waiting.specs.CallRun.{Call, told, Built, handedBack, allShown}
+use Rattle.rules_waiting.specs.Direct.{Whole}
+use Rattle.rules_waiting.proofs.Built.{directs-told}
 use Rattle.rules_handed.specs.Isolation.{requestsOf, allTold}
 use Rattle.rules_handed.proofs.Calls.{built-rules}
 use Rattle.rules_lists.specs.Lists.{listed, badSize, listTested}

@@ -1,5 +1,5 @@
 -- Two rows are equal where their packed fields agree one after the other, from the first bit to the last.
-use Rattle.rows.proofs.Prelude.{_≡_, refl, sym, ap, ap₂, _∙_, Bool, true, List, [], _∷_, ℕ, zero, suc, _+_, _-_, _*_, _/_, _%_, _^_, _≤_, _<_, add-one, arith}
+use Rattle.rows.proofs.Prelude.{_≡_, refl, sym, ap, ap₂, _∙_, true, List, [], _∷_, ℕ, zero, suc, _+_, _-_, _*_, _/_, _%_, _^_, _≤_, _<_, add-one, arith}
 use Rattle.rows.proofs.Prelude.{length, take, drop, getD, getD-drop, getD-take, eqb, ltb, eqb-false, eqb-true, ltb-false, ltb-true, and-left, and-right}
 use Rattle.rows.proofs.Prelude.{bool-cases}
 use lib.Seq.{ext-getD}
@@ -7,11 +7,7 @@ use Rattle.rows.specs.Rows.{allZero}
 use Rattle.rows.proofs.Laws.{zeros-replicate}
 use Rattle.rules.specs.Bits.{bit, bits}
 use Rattle.rules.proofs.BitLaws.{bits-byte, bits-more, bit-small}
-use Rattle.rules_office.proofs.Codes.{all}
-
--- a byte
-abbrev pub isByte : ℕ → Bool
-isByte b = ltb b 256
+use Rattle.rules_office.specs.Written.{all, isByte}
 
 byte-bound : (r : List ℕ) → all isByte r ≡ true → (i : ℕ) → getD r i 0 < 256
 byte-bound [] h i = omega arith

@@ -7,11 +7,7 @@ use Rattle.text.specs.Text.{ascii}
 use Rattle.rows.specs.Rows.{same}
 use Rattle.rows.proofs.Kept.{same-refl}
 use Rattle.rules_office.specs.Office.{comma, separated, picked}
-
--- every element passes the test, and some element does
-abbrev pub all : {A : Type 0} → (A → Bool) → List A → Bool
-all p [] = true
-all p (x ∷ xs) = p x && all p xs
+use Rattle.rules_office.specs.Written.{all}
 
 abbrev pub any : {A : Type 0} → (A → Bool) → List A → Bool
 any p [] = false

@@ -2,7 +2,8 @@
 use Rattle.rows.proofs.Prelude.{_≡_, refl, sym, ap, _∙_, Bool, true, false, _&&_, List, [], _∷_, _++_, ℕ, zero, suc, _+_, _-_, _*_, _/_, _≤_, arith, leb, ltb}
 use Rattle.rows.proofs.Prelude.{le-leb, ltb-false, ltb-true, and-both, cond-cases}
 use Rattle.text.specs.Text.{lastDigit, decimalIn, decimal}
-use Rattle.rules_office.proofs.Codes.{all, all-join, span}
+use Rattle.rules_office.specs.Written.{all}
+use Rattle.rules_office.proofs.Codes.{all-join, span}
 
 abbrev pub isDigit : ℕ → Bool
 isDigit d = leb 48 d && leb d 57

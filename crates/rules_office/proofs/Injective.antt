@@ -14,9 +14,10 @@ use Rattle.rules.proofs.SetLaws.{set-ranges}
 use Rattle.rules.proofs.Answers.{table-parts}
 use Rattle.rules_office.specs.Office.{href, choices, chosen, picked, braced, resourcesText, rowText, rowsText, listText, always, seasonal, rowsWritten}
 use Rattle.rules_office.specs.Office.{officeText}
-use Rattle.rules_office.proofs.Codes.{all, span, elements-told, all-picked, different, picked-told}
+use Rattle.rules_office.specs.Written.{all, isByte, storedRow}
+use Rattle.rules_office.proofs.Codes.{span, elements-told, all-picked, different, picked-told}
 use Rattle.rules_office.proofs.Decimals.{decimal-told}
-use Rattle.rules_office.proofs.Agree.{isByte, Agree, agree-none, agree-bit, agree-field, agree-all}
+use Rattle.rules_office.proofs.Agree.{Agree, agree-none, agree-bit, agree-field, agree-all}
 use Rattle.rules_office.proofs.Subjects.{SubjectSame, subject-told, bit-same, all-take, all-drop}
 use Rattle.rules.specs.Sizes.{aceRowSize}
 
@@ -54,10 +55,6 @@ resources-told w v s t e =
     (picked-told (chosen w) (chosen v) choices (chosen-length w) (chosen-length v) choices-different (r .0), r .1)
 
 -- ---- rows
-
--- a row of bytes that a body could store, for every second
-unfoldable pub storedRow : Row → Bool
-storedRow w = aceStorable w && all isByte w && always w
 
 record Stored (w : Row) : Type 0 where
   size : length w ≡ aceRowSize

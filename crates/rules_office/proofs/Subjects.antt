@@ -1,6 +1,6 @@
 -- The subject of a storable access row can be told from its text.
 use Rattle.rows.proofs.Prelude.{_≡_, refl, sym, ap, _∙_, Bool, true, false, cond, List, [], _∷_, _++_, append-assoc, append-cancel-left, tail-eq-of-cons-eq, ℕ}
-use Rattle.rows.proofs.Prelude.{zero, suc, _+_, _/_, _%_, _≤_, _<_, arith, length, take, drop, getD, length-drop, length-take, take-take, eqb, ltb, eqb-false}
+use Rattle.rows.proofs.Prelude.{zero, suc, _/_, _%_, _≤_, _<_, arith, length, take, drop, getD, length-drop, length-take, take-take, eqb, ltb, eqb-false}
 use Rattle.rows.proofs.Prelude.{eqb-true, ltb-false, ltb-true, and-left, and-right, and-both, cond-cases, bool-cases, contradiction}
 use mathlib.Core.List.{head-eq-of-cons-eq}
 use Rattle.text.specs.Text.{ascii}
@@ -9,9 +9,9 @@ use Rattle.rules.specs.Bits.{bits}
 use Rattle.rules.specs.Bodies.{aceKind, aceSubject, aceAuthority, aceRole, aceConnection, subjectStorable}
 use Rattle.rules.proofs.BitLaws.{bits-small}
 use Rattle.rules_office.specs.Office.{hexDigit, dash, hexByte, uuidFrom, uuidText, uuidSubject, roleSubject, connectionSubject, subjectText}
-use Rattle.rules_office.proofs.Codes.{all}
+use Rattle.rules_office.specs.Written.{all, isByte}
 use Rattle.rules_office.proofs.Decimals.{decimal-told}
-use Rattle.rules_office.proofs.Agree.{isByte, zeros-same, Agree, agree-field, agree-part}
+use Rattle.rules_office.proofs.Agree.{zeros-same, Agree, agree-field, agree-part}
 
 -- ---- a UUID
 

@@ -10,9 +10,9 @@ use Rattle.rules.specs.Tables.{rowsIn}
 use Rattle.rules_office.specs.Office.{hexDigit, dashed, dash, hexByte, uuidFrom, uuidText, comma, separated, uuidSubject, roleSubject, connectionSubject}
 use Rattle.rules_office.specs.Office.{subjectText, href, choices, chosen, picked, braced, resourcesText, rowText, rowsText, listText, seasonal}
 use Rattle.rules_office.specs.Office.{rowsWritten, officeText}
-use Rattle.rules_office.proofs.Codes.{all, all-join, all-picked}
+use Rattle.rules_office.specs.Written.{all, isByte}
+use Rattle.rules_office.proofs.Codes.{all-join, all-picked}
 use Rattle.rules_office.proofs.Decimals.{isDigit, digits}
-use Rattle.rules_office.proofs.Agree.{isByte}
 use Rattle.rules_office.proofs.Subjects.{all-take, all-drop}
 use Rattle.rules.specs.Sizes.{aceRowSize}
 

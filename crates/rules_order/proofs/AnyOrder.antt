@@ -18,7 +18,7 @@ use Rattle.rules_waiting.specs.Terminal.{Terminal, terminal, slotSound, queueSo
 use Rattle.rules_waiting.specs.Inputs.{Input, transition, next}
 use Rattle.rules_waiting.proofs.Sound.{terminal-parts, terminal-whole, every-same}
 use Rattle.rules_order.specs.Reorder.{Reordered, sorted}
-use Rattle.rules_order.specs.Order.{InStep, withAccess, SameAnswer, InPairs, none, more}
+use Rattle.rules_order.specs.Order.{InStep, withAccess, SameAnswer, InPairs, none, more, StepInRelation}
 use Rattle.rules_order.proofs.ReorderLaws.{order-length, order-every, order-distinct, order-sorted}
 use Rattle.rules_order.proofs.OneRecord.{order-is}
 use Rattle.rules_order.proofs.OneInput.{owners-next, input-step}
@@ -28,11 +28,7 @@ use Rattle.rules.specs.Sizes.{aceRowSize}
 
 module _ {State Input Output : Type 0} (reply : State → Input → Output) (next : State → Input → State)
     (R : State → State → Type 0) (S : Input → Output → Output → Type 0) where
-  -- an input is answered in relation, and leaves both states in relation
-  abbrev pub Step : Type 0
-  Step = (s b : State) (i : Input) → R s b → S i (reply s i) (reply b i) × R (next s i) (next b i)
-
-  pub two-runs : Step → (s b : State) (is : List Input) → R s b
+  pub two-runs : StepInRelation reply next R S → (s b : State) (is : List Input) → R s b
       → InPairs S is (replies reply next s is) (replies reply next b is) × R (final next s is) (final next b is)
   two-runs step s b [] e = (none, e)
   two-runs step s b (i ∷ is) e =
@@ -47,7 +43,7 @@ record Together (x y : Terminal) : Type 0 where
   step : InStep x y
   owners : length (x .tables .rowners) ≡ 64
 
-together-step : (d : Defaults) → Step (transition d) (next d) Together SameAnswer
+together-step : (d : Defaults) → StepInRelation (transition d) (next d) Together SameAnswer
 together-step d x y i s =
     let both = input-step d x y i (s .step) (s .owners) in
     (both .0, record { step = both .1; owners = owners-next d x i (s .owners) })

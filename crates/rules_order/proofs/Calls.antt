@@ -4,8 +4,8 @@ use Rattle.rows.proofs.Prelude.{_≡_, List, length}
 use Rattle.rules.specs.Defaults.{Defaults}
 use Rattle.rules_waiting.specs.Terminal.{Terminal}
 use Rattle.rules_waiting.specs.Inputs.{Input}
-use Rattle.rules_waiting.proofs.Built.{Call, Built, handedBack}
-use Rattle.rules_waiting.proofs.Shown.{allShown, built-shown}
+use Rattle.rules_waiting.specs.CallRun.{Call, Built, handedBack, allShown}
+use Rattle.rules_waiting.proofs.Shown.{built-shown}
 use Rattle.rules_order.specs.Order.{InStep, SameAnswer, InPairs}
 use Rattle.rules_order.proofs.AnyOrder.{any-order}
 

@@ -77,3 +77,9 @@ module _ {Input Output : Type 0} (S : Input → Output → Output → Type 0) wh
   pub data InPairs : List Input → List Output → List Output → Type 0 where
     none : InPairs [] [] []
     more : {i : Input} {a b : Output} {is : List Input} {xs ys : List Output} → S i a b → InPairs is xs ys → InPairs (i ∷ is) (a ∷ xs) (b ∷ ys)
+
+module _ {State Input Output : Type 0} (reply : State → Input → Output) (next : State → Input → State)
+    (R : State → State → Type 0) (S : Input → Output → Output → Type 0) where
+  -- an input is answered in relation, and leaves both states in relation
+  abbrev pub StepInRelation : Type 0
+  StepInRelation = (s b : State) (i : Input) → R s b → S i (reply s i) (reply b i) × R (next s i) (next b i)

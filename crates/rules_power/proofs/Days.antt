@@ -1,6 +1,6 @@
 -- A day of any machine is one without a store, in which each input that was cut counts or is left out.
 -- Where a restart loses nothing it is a run without power cuts.
-use Rattle.rows.proofs.Prelude.{_≡_, refl, sym, ap, subst, _∙_, Bool, true, false, List, [], _∷_, _++_, map, ℕ, length, contradiction}
+use Rattle.rows.proofs.Prelude.{_≡_, refl, sym, ap, subst, _∙_, true, List, [], _∷_, _++_, map, ℕ, length, contradiction}
 use mathlib.Core.List.{flatten}
 use mathlib.Core.Logic.{_⊎_, inl, inr, ⊎-elim}
 use Rattle.rules_store.specs.declared.Step.the-variants.{Done}
@@ -11,15 +11,7 @@ use Rattle.rules_store.proofs.Parts.{length-current}
 use Rattle.rules_store.proofs.Steps.{done-current}
 use Rattle.rules_store.proofs.Safe.{safe, safe-size}
 use Rattle.rules_power.specs.Day as day
-use Rattle.rules_power.specs.Day.{Machine, Event, found, Day, Restarts, Run, AsRun, Kept, inRounds}
-
--- a good state has an image of the length, from which what a restart leaves of it is loaded; good states are what is loaded and what inputs leave
-pub record Keeps {State Input Answer : Type 0} (m : Machine State Input Answer) (Good : State → Type 0) : Type 0 where
-  pub loads : (bytes : List ℕ) → length bytes ≡ m .size → Good (m .load bytes)
-  pub goes-on : (x y : State) (i : Input) (a : Answer) → m .Gives x i a y → Good x → Good y
-  pub sized : (x : State) → Good x → length (m .image x) ≡ m .size
-  pub back : (x : State) → Good x → m .load (m .image x) ≡ m .restart x
-  pub rests : (bytes : List ℕ) → m .restart (m .load bytes) ≡ m .load bytes
+use Rattle.rules_power.specs.Day.{Machine, Event, found, Day, Restarts, Run, AsRun, Kept, inRounds, Keeps, allAnswered, eventOf}
 
 module _ {State Input Answer : Type 0} (m : Machine State Input Answer) (Good : State → Type 0) (k : Keeps m Good) where
   -- when the power comes on
@@ -108,12 +100,6 @@ module _ {State Input Answer : Type 0} (m : Machine State Input Answer) where
 
 -- ---- a stretch in which every input is answered
 
-abbrev pub allAnswered : {Input Answer : Type 0} → List (Event Input Answer) → Bool
-allAnswered [] = true
-allAnswered (day.told i a ∷ es) = allAnswered es
-allAnswered (day.cut i ∷ es) = false
-allAnswered (day.idle ∷ es) = false
-
 module _ {State Input Answer : Type 0} (m : Machine State Input Answer) where
   pub stretch-run : (x z : State) (es : List (Event Input Answer)) → Restarts m x es z → allAnswered es ≡ true → AsRun m x es z
   stretch-run x z es day.ends h = record { inputs = []; replies = []; run = day.none; seen = day.none }
@@ -143,11 +129,6 @@ module _ {State Input Answer : Type 0} (m : Machine State Input Answer) (same : 
       record { inputs = r .inputs; replies = r .replies; run = r .run; seen = day.unseen (r .seen) }
 
 -- ---- two machines that differ in what is answered alone
-
-abbrev pub eventOf : {Input Answer Other : Type 0} → (Input → Answer → Other) → Event Input Answer → Event Input Other
-eventOf f (day.told i a) = day.told i (f i a)
-eventOf f (day.cut i) = day.cut i
-eventOf f day.idle = day.idle
 
 module _ {State Input Answer : Type 0} (m : Machine State Input Answer) {Other : Type 0} (Gives : State → Input → Other → State → Type 0)
     (f : Input → Answer → Other) (gives : (x y : State) (i : Input) (a : Answer) → m .Gives x i a y → Gives x i (f i a) y) where

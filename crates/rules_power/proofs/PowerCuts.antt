@@ -7,12 +7,10 @@ use Rattle.rules.specs.declared.Sender.{Sender}
 use Rattle.rules.specs.Run.{replies, final}
 use Rattle.rules_waiting.specs.Terminal.{Terminal, Transition, soundTerminal}
 use Rattle.rules_waiting.specs.Inputs.{Input, handIn, takeAt, direct, transition, next, takes, recordsIn}
-use Rattle.rules_waiting.proofs.Built.{Call, Meets, left, Built, handedBack}
-use Rattle.rules_waiting.proofs.Shown.{allShown}
+use Rattle.rules_waiting.specs.CallRun.{Call, Meets, left, Built, handedBack, allShown}
 use Rattle.rules_handed.specs.Events.{gathered}
-use Rattle.rules_handed.specs.Isolation.{BookPremise, Isolated}
+use Rattle.rules_handed.specs.Isolation.{BookPremise, Isolated, answersTo}
 use Rattle.rules_handed.specs.Waits.{recordTaken, QuietFor}
-use Rattle.rules_handed.proofs.Isolation.{answersTo}
 use Rattle.rules_handed.proofs.Served.{waiting-served}
 use Rattle.rules_handed.proofs.Calls.{handed-isolation, built-served}
 use Rattle.rules_store.specs.Store.{sizeFor}
@@ -20,85 +18,74 @@ use Rattle.rules_power.specs.Image.{tablesSize, terminalSize}
 use Rattle.rules_power.specs.Day as day
 use Rattle.rules_power.specs.Day.{Machine, Event, told, found, Day, Restarts, Run, SeenOf, AsRun, inRounds}
 use Rattle.rules_power.specs.Kept as acted
-use Rattle.rules_power.specs.Kept.{Act, input, clear, isInput, noClear, Answers, Calls, takeOf, takesTold, nothingWaits, whole, tablesAlone}
+use Rattle.rules_power.specs.Kept.{Act, input, clear, isInput, noClear, Answers, Calls, takeOf, takesTold, nothingWaits}
+use Rattle.rules_power.specs.Kept.{byRules, byCalls, tablesByRules, tablesByCalls, AsCalls}
 use Rattle.rules_power.proofs.Terminals as terminals
 use Rattle.rules_power.proofs.Terminals.{answers-next, calls-next}
 
 module _ (d : Defaults) where
-  abbrev pub byRules : Machine Terminal Act Transition
-  byRules = whole (Answers d)
-
-  abbrev pub byCalls : Machine Terminal Act Call
-  byCalls = whole (Calls d)
-
-  abbrev pub tablesByRules : Machine Terminal Act Transition
-  tablesByRules = tablesAlone (Answers d)
-
-  abbrev pub tablesByCalls : Machine Terminal Act Call
-  tablesByCalls = tablesAlone (Calls d)
-
   -- ---- tables and what waits as one image
 
   pub whole-run : (s end : List ℕ) (es : List (Event Act Transition)) (z : Terminal) → length s ≡ sizeFor terminalSize
-      → Day byRules (found byRules s) s es z end → AsRun byRules (found byRules s) es z × (found byRules end ≡ z)
+      → Day (byRules d) (found (byRules d) s) s es z end → AsRun (byRules d) (found (byRules d) s) es z × (found (byRules d) end ≡ z)
   whole-run s end es z f = terminals.any-whole-run (Answers d) d (answers-next d) s end f es z
 
   pub whole-calls : (s end : List ℕ) (es : List (Event Act Call)) (z : Terminal) → length s ≡ sizeFor terminalSize
-      → Day byCalls (found byCalls s) s es z end → AsRun byCalls (found byCalls s) es z × (found byCalls end ≡ z)
+      → Day (byCalls d) (found (byCalls d) s) s es z end → AsRun (byCalls d) (found (byCalls d) s) es z × (found (byCalls d) end ≡ z)
   whole-calls s end es z f = terminals.any-whole-run (Calls d) d (calls-next d) s end f es z
 
   pub whole-sound : (s end : List ℕ) (es : List (Event Act Call)) (z : Terminal) → length s ≡ sizeFor terminalSize
-      → Day byCalls (found byCalls s) s es z end → soundTerminal (found byCalls s) ≡ true → soundTerminal z ≡ true
+      → Day (byCalls d) (found (byCalls d) s) s es z end → soundTerminal (found (byCalls d) s) ≡ true → soundTerminal z ≡ true
   whole-sound s end es z f = terminals.any-whole-sound (Calls d) d (calls-next d) s end f es z
 
   -- a store of any content, and the first image
   pub whole-first : (s end : List ℕ) (c : Call) (es : List (Event Act Call)) (z : Terminal) → length s ≡ sizeFor terminalSize
-      → Day byCalls (found byCalls s) s (told clear c ∷ es) z end → soundTerminal z ≡ true
+      → Day (byCalls d) (found (byCalls d) s) s (told clear c ∷ es) z end → soundTerminal z ≡ true
   whole-first s end c es z f = terminals.any-whole-first (Calls d) d (calls-next d) s end f c es z
 
   -- several inputs, stored at once and then answered
   pub whole-rounds : (s end : List ℕ) (es : List (Event (List Act) (List Call))) (z : Terminal) → length s ≡ sizeFor terminalSize
-      → Day (inRounds byCalls) (found byCalls s) s es z end → AsRun (inRounds byCalls) (found byCalls s) es z × (found byCalls end ≡ z)
+      → Day (inRounds (byCalls d)) (found (byCalls d) s) s es z end → AsRun (inRounds (byCalls d)) (found (byCalls d) s) es z × (found (byCalls d) end ≡ z)
   whole-rounds s end es z f = terminals.any-whole-rounds (Calls d) d (calls-next d) s end f es z
 
   -- ---- the tables alone
 
   pub tables-run : (s end : List ℕ) (es : List (Event Act Transition)) (z : Terminal) → length s ≡ sizeFor tablesSize
-      → Day tablesByRules (found tablesByRules s) s es z end
-      → Restarts tablesByRules (found tablesByRules s) es z × (found tablesByRules end ≡ nothingWaits z)
+      → Day (tablesByRules d) (found (tablesByRules d) s) s es z end
+      → Restarts (tablesByRules d) (found (tablesByRules d) s) es z × (found (tablesByRules d) end ≡ nothingWaits z)
   tables-run s end es z f = terminals.any-tables-run (Answers d) d (answers-next d) s end f es z
 
   pub tables-calls : (s end : List ℕ) (es : List (Event Act Call)) (z : Terminal) → length s ≡ sizeFor tablesSize
-      → Day tablesByCalls (found tablesByCalls s) s es z end
-      → Restarts tablesByCalls (found tablesByCalls s) es z × (found tablesByCalls end ≡ nothingWaits z)
+      → Day (tablesByCalls d) (found (tablesByCalls d) s) s es z end
+      → Restarts (tablesByCalls d) (found (tablesByCalls d) s) es z × (found (tablesByCalls d) end ≡ nothingWaits z)
   tables-calls s end es z f = terminals.any-tables-run (Calls d) d (calls-next d) s end f es z
 
   pub tables-sound : (s end : List ℕ) (es : List (Event Act Call)) (z : Terminal) → length s ≡ sizeFor tablesSize
-      → Day tablesByCalls (found tablesByCalls s) s es z end → soundTerminal (found tablesByCalls s) ≡ true → soundTerminal z ≡ true
+      → Day (tablesByCalls d) (found (tablesByCalls d) s) s es z end → soundTerminal (found (tablesByCalls d) s) ≡ true → soundTerminal z ≡ true
   tables-sound s end es z f = terminals.any-tables-sound (Calls d) d (calls-next d) s end f es z
 
   pub tables-first : (s end : List ℕ) (c : Call) (es : List (Event Act Call)) (z : Terminal) → length s ≡ sizeFor tablesSize
-      → Day tablesByCalls (found tablesByCalls s) s (told clear c ∷ es) z end → soundTerminal z ≡ true
+      → Day (tablesByCalls d) (found (tablesByCalls d) s) s (told clear c ∷ es) z end → soundTerminal z ≡ true
   tables-first s end c es z f = terminals.any-tables-first (Calls d) d (calls-next d) s end f c es z
 
   -- several inputs, stored at once and then answered
   pub tables-rounds : (s end : List ℕ) (es : List (Event (List Act) (List Transition))) (z : Terminal) → length s ≡ sizeFor tablesSize
-      → Day (inRounds tablesByRules) (found tablesByRules s) s es z end
-      → Restarts (inRounds tablesByRules) (found tablesByRules s) es z × (found tablesByRules end ≡ nothingWaits z)
+      → Day (inRounds (tablesByRules d)) (found (tablesByRules d) s) s es z end
+      → Restarts (inRounds (tablesByRules d)) (found (tablesByRules d) s) es z × (found (tablesByRules d) end ≡ nothingWaits z)
   tables-rounds s end es z f = terminals.any-tables-rounds (Answers d) d (answers-next d) s end f es z
 
   pub tables-rounds-calls : (s end : List ℕ) (es : List (Event (List Act) (List Call))) (z : Terminal) → length s ≡ sizeFor tablesSize
-      → Day (inRounds tablesByCalls) (found tablesByCalls s) s es z end
-      → Restarts (inRounds tablesByCalls) (found tablesByCalls s) es z × (found tablesByCalls end ≡ nothingWaits z)
+      → Day (inRounds (tablesByCalls d)) (found (tablesByCalls d) s) s es z end
+      → Restarts (inRounds (tablesByCalls d)) (found (tablesByCalls d) s) es z × (found (tablesByCalls d) end ≡ nothingWaits z)
   tables-rounds-calls s end es z f = terminals.any-tables-rounds (Calls d) d (calls-next d) s end f es z
 
   pub tables-rounds-sound : (s end : List ℕ) (es : List (Event (List Act) (List Call))) (z : Terminal) → length s ≡ sizeFor tablesSize
-      → Day (inRounds tablesByCalls) (found tablesByCalls s) s es z end → soundTerminal (found tablesByCalls s) ≡ true → soundTerminal z ≡ true
+      → Day (inRounds (tablesByCalls d)) (found (tablesByCalls d) s) s es z end → soundTerminal (found (tablesByCalls d) s) ≡ true → soundTerminal z ≡ true
   tables-rounds-sound s end es z f = terminals.any-tables-rounds-sound (Calls d) d (calls-next d) s end f es z
 
   -- ---- runs are those of the other theorems, where the clear button is not pressed
 
-  pub rules-run : (x z : Terminal) (is : List Input) (rs : List Transition) → Run byRules x (map input is) rs z
+  pub rules-run : (x z : Terminal) (is : List Input) (rs : List Transition) → Run (byRules d) x (map input is) rs z
       → (rs ≡ replies (transition d) (next d) x is) × (z ≡ final (next d) x is)
   rules-run x z [] rs day.none = (refl, refl)
   rules-run x z (i ∷ is) rs (day.more {bs = bs} _ _ (acted.gives _ _) rest) =
@@ -115,14 +102,6 @@ module _ (d : Defaults) where
         let here = calls-meet x y i c (gives x y (input i) c g) in
         let r = run-built (left c) z is bs (subst (λ (v : Terminal). Run m v (map input is) bs z) (here .1) rest) in
         ((here .0, r .0), r .1)
-
-  -- a day on which it is not pressed, as calls that the other theorems take: each on what was handed back last
-  pub record AsCalls (x : Terminal) (es : List (Event Act Call)) (z : Terminal) : Type 0 where
-    pub inputs : List Input
-    pub calls : List Call
-    pub built : Built d x inputs calls
-    pub ends : z ≡ handedBack x calls
-    pub seen : SeenOf (map input inputs) calls es
 
   abbrev inputsOf : List Act → List Input
   inputsOf [] = []
@@ -145,7 +124,7 @@ module _ (d : Defaults) where
 
   -- whatever is stored: so of a day with what waits stored, and with the tables alone of each stretch without a cut
   pub as-calls : (m : Machine Terminal Act Call) → ((x y : Terminal) (act : Act) (c : Call) → m .Gives x act c y → Calls d x act c y)
-      → (x z : Terminal) (es : List (Event Act Call)) → AsRun m x es z → noClear es ≡ true → AsCalls x es z
+      → (x z : Terminal) (es : List (Event Act Call)) → AsRun m x es z → noClear es ≡ true → AsCalls d x es z
   as-calls m gives x z es r h =
       let e = all-inputs (r .inputs) (r .replies) es (r .seen) h in
       let b = run-built m gives x z (inputsOf (r .inputs)) (r .replies) (rw e (r .run)) in
@@ -153,11 +132,11 @@ module _ (d : Defaults) where
 
   -- a day with what waits stored, from any store of the right length
   pub whole-as-calls : (s end : List ℕ) (es : List (Event Act Call)) (z : Terminal) → length s ≡ sizeFor terminalSize
-      → Day byCalls (found byCalls s) s es z end → noClear es ≡ true → AsCalls (found byCalls s) es z
-  whole-as-calls s end es z f days h = as-calls byCalls (λ x y act c g. g) (found byCalls s) z es (whole-calls s end es z f days .0) h
+      → Day (byCalls d) (found (byCalls d) s) s es z end → noClear es ≡ true → AsCalls d (found (byCalls d) s) es z
+  whole-as-calls s end es z f days h = as-calls (byCalls d) (λ x y act c g. g) (found (byCalls d) s) z es (whole-calls s end es z f days .0) h
 
   -- so demand 3 holds across power cuts: the book is fed the records as they were handed in or waited at the start
-  pub day-isolation : (chosen : Sender → Bool) (x z : Terminal) (es : List (Event Act Call)) → (c : AsCalls x es z)
+  pub day-isolation : (chosen : Sender → Bool) (x z : Terminal) (es : List (Event Act Call)) → (c : AsCalls d x es z)
       → BookPremise d chosen x (c .inputs) (allShown (c .inputs) (c .calls)) → Isolated d chosen x (c .inputs) (allShown (c .inputs) (c .calls)) z
   day-isolation chosen x z es c p = rw (c .ends) (handed-isolation d x (c .inputs) (c .calls) (c .built) chosen p)
 
@@ -181,7 +160,7 @@ module _ (d : Defaults) where
   takes-inputs (direct q ∷ is) = omega (arith, takes-inputs is)
 
   -- nothing is asked of the take that hands it out, nor of what comes later; that take may be one that was cut
-  pub day-served : (x z : Terminal) (es : List (Event Act Call)) → (c : AsCalls x es z) → (r : List ℕ)
+  pub day-served : (x z : Terminal) (es : List (Event Act Call)) → (c : AsCalls d x es z) → (r : List ℕ)
       → soundTerminal x ≡ true → some (same r) (recordsIn x) ≡ true → QuietFor r x (c .inputs) (allShown (c .inputs) (c .calls)) → 25 ≤ takesTold es
       → some (same r) (gathered recordTaken (c .inputs) (allShown (c .inputs) (c .calls))) ≡ true
   day-served x z es c r h w q n =

@@ -5,16 +5,17 @@ use Rattle.rules.specs.declared.Tables.{Tables}
 use Rattle.rules.specs.Defaults.{Defaults}
 use Rattle.rules_waiting.specs.Slots.{emptyQueue}
 use Rattle.rules_waiting.specs.Terminal.{Terminal, terminal, Transition, soundTerminal, clearedTerminal}
+use Rattle.rules_waiting.specs.CallRun.{Call}
 use Rattle.rules_waiting.proofs.Sound.{terminal-parts, sound-next, fresh-terminal}
 use Rattle.rules_waiting.proofs.Direct.{fresh-whole}
-use Rattle.rules_waiting.proofs.Built.{Call, call-left}
+use Rattle.rules_waiting.proofs.Built.{call-left}
 use Rattle.rules_store.specs.Store.{sizeFor}
 use Rattle.rules_power.specs.Image.{tablesSize, terminalSize, SizedTables, SizedTerminal}
 use Rattle.rules_power.specs.Day as day
-use Rattle.rules_power.specs.Day.{Machine, Event, told, found, Day, Restarts, AsRun, Kept, inRounds}
+use Rattle.rules_power.specs.Day.{Machine, Event, told, found, Day, Restarts, AsRun, Kept, inRounds, Keeps}
 use Rattle.rules_power.specs.Kept as kept
 use Rattle.rules_power.specs.Kept.{Act, input, clear, actNext, Answers, Calls, nothingWaits, whole, tablesAlone}
-use Rattle.rules_power.proofs.Days.{Keeps, power-on, day-restarts, restarts-run, run-keeps, rounds-keep}
+use Rattle.rules_power.proofs.Days.{power-on, day-restarts, restarts-run, run-keeps, rounds-keep}
 use Rattle.rules_power.proofs.Images.{length-tables, length-terminal, sized-tables, sized-terminal, tables-back, terminal-back}
 use Rattle.rules_power.proofs.Lengths.{tables-sized, next-sized, fresh-sized}
 

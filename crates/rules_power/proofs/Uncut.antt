@@ -1,5 +1,5 @@
 -- Such days there are: each run without power cuts is seen whole on a day whose inputs are all stored to the end.
-use Rattle.rows.proofs.Prelude.{_≡_, List, [], _∷_, ℕ, suc, length}
+use Rattle.rows.proofs.Prelude.{_≡_, List, ℕ, suc, length}
 use Rattle.rules_store.specs.declared.Step.the-variants.{Done}
 use Rattle.rules_store.specs.Store as store
 use Rattle.rules_store.specs.Store.{sizeFor}
@@ -8,24 +8,15 @@ use Rattle.rules_store.specs.Run.{position, stored, plan}
 use Rattle.rules_store.proofs.Safe.{run-attempt}
 use Rattle.rules_store.proofs.Ends.{ends}
 use Rattle.rules_power.specs.Day as day
-use Rattle.rules_power.specs.Day.{Machine, Event, told, Day, Run, Kept}
-use Rattle.rules_power.proofs.Days.{Keeps, after-done}
-
-abbrev pub allTold : {Input Answer : Type 0} → List Input → List Answer → List (Event Input Answer)
-allTold [] bs = []
-allTold (i ∷ is) [] = []
-allTold (i ∷ is) (a ∷ bs) = told i a ∷ allTold is bs
+use Rattle.rules_power.specs.Day.{Machine, Run, Kept, Keeps, Uncut}
+use Rattle.rules_power.proofs.Days.{after-done}
 
 stored-attempt : (new s : List ℕ) → Attempt new s (stored new s)
 unfolding stored
 stored-attempt new s = run-attempt (suc (length new)) new s 0
 
 module _ {State Input Answer : Type 0} (m : Machine State Input Answer) (Good : State → Type 0) (k : Keeps m Good) where
-  pub record Uncut (x : State) (s : List ℕ) (is : List Input) (bs : List Answer) (z : State) : Type 0 where
-    pub end : List ℕ
-    pub seen : Day m x s (allTold is bs) z end
-
-  pub uncut : (x z : State) (s : List ℕ) (is : List Input) (bs : List Answer) → Kept m Good x s → Run m x is bs z → Uncut x s is bs z
+  pub uncut : (x z : State) (s : List ℕ) (is : List Input) (bs : List Answer) → Kept m Good x s → Run m x is bs z → Uncut m x s is bs z
   uncut x z s is bs h day.none = record { end = s; seen = day.ends }
   uncut x z s is bs h (day.more {y = y} {is = is′} {bs = bs′} i a g rest) =
       let new = m .image y in

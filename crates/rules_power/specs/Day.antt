@@ -8,6 +8,7 @@ use Rattle.rules_store.specs.declared.Step.the-variants.{Done}
 use Rattle.rules_store.specs.Store as store
 use Rattle.rules_store.specs.Store.{sizeFor, current}
 use Rattle.rules_store.specs.Cuts.{Attempt}
+use mathlib.Core.Bool.{Bool, false, true}
 
 -- what an input is answered and which state it leaves; how long an image is, the image of a state, the state in an image;
 -- and what a restart leaves of a state
@@ -82,3 +83,40 @@ pub record Kept {State Input Answer : Type 0} (m : Machine State Input Answer) (
 
 abbrev pub inRounds : {State Input Answer : Type 0} → Machine State Input Answer → Machine State (List Input) (List Answer)
 inRounds m = record { Gives = Run m; size = m .size; image = m .image; load = m .load; restart = m .restart }
+
+-- ---- machines whose states have images
+
+-- a good state has an image of the length, from which what a restart leaves of it is loaded; good states are what is loaded and what inputs leave
+pub record Keeps {State Input Answer : Type 0} (m : Machine State Input Answer) (Good : State → Type 0) : Type 0 where
+  pub loads : (bytes : List ℕ) → length bytes ≡ m .size → Good (m .load bytes)
+  pub goes-on : (x y : State) (i : Input) (a : Answer) → m .Gives x i a y → Good x → Good y
+  pub sized : (x : State) → Good x → length (m .image x) ≡ m .size
+  pub back : (x : State) → Good x → m .load (m .image x) ≡ m .restart x
+  pub rests : (bytes : List ℕ) → m .restart (m .load bytes) ≡ m .load bytes
+
+-- ---- what is seen of a day
+
+-- every input is answered
+abbrev pub allAnswered : {Input Answer : Type 0} → List (Event Input Answer) → Bool
+allAnswered [] = true
+allAnswered (told i a ∷ es) = allAnswered es
+allAnswered (cut i ∷ es) = false
+allAnswered (idle ∷ es) = false
+
+-- the same event with another answer
+abbrev pub eventOf : {Input Answer Other : Type 0} → (Input → Answer → Other) → Event Input Answer → Event Input Other
+eventOf f (told i a) = told i (f i a)
+eventOf f (cut i) = cut i
+eventOf f idle = idle
+
+-- each input with its answer
+abbrev pub allTold : {Input Answer : Type 0} → List Input → List Answer → List (Event Input Answer)
+allTold [] bs = []
+allTold (i ∷ is) [] = []
+allTold (i ∷ is) (a ∷ bs) = told i a ∷ allTold is bs
+
+-- a day on which each input is stored to the end
+pub record Uncut {State Input Answer : Type 0} (m : Machine State Input Answer) (x : State) (s : List ℕ) (is : List Input) (bs : List Answer) (z : State)
+    : Type 0 where
+  pub end : List ℕ
+  pub seen : Day m x s (allTold is bs) z end

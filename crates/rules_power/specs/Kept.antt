@@ -2,14 +2,14 @@
 use Prim.Native.Nat.{ℕ, _+_}
 use mathlib.Core.Path.{_≡_}
 use mathlib.Core.Bool.{Bool, true, false, _&&_}
-use mathlib.Core.List.{List, [], _∷_}
+use mathlib.Core.List.{List, [], _∷_, map}
 use Rattle.rules.specs.Defaults.{Defaults}
 use Rattle.rules_waiting.specs.Slots.{emptyQueue}
 use Rattle.rules_waiting.specs.Terminal.{Terminal, terminal, Transition, numberTransition, clearedTerminal}
 use Rattle.rules_waiting.specs.Inputs.{Input, transition, next, takes}
-use Rattle.rules_waiting.proofs.Built.{Call, Meets, left}
+use Rattle.rules_waiting.specs.CallRun.{Call, Meets, left, Built, handedBack}
 use Rattle.rules_power.specs.Image.{tablesImage, terminalImage, tablesSize, terminalSize, tablesIn, terminalIn}
-use Rattle.rules_power.specs.Day.{Machine, Event, told, cut, idle}
+use Rattle.rules_power.specs.Day.{Machine, Event, told, cut, idle, SeenOf}
 
 -- an input, or the clear button; the first image of a new terminal is stored as the button's is
 pub data Act : Type 0 where
@@ -68,3 +68,26 @@ module _ {Answer : Type 0} (Gives : Terminal → Act → Answer → Terminal →
     load = λ bytes. terminal (tablesIn bytes) emptyQueue;
     restart = nothingWaits;
   }
+
+module _ (d : Defaults) where
+  -- a terminal that is stored whole, by the rules and by calls
+  abbrev pub byRules : Machine Terminal Act Transition
+  byRules = whole (Answers d)
+
+  abbrev pub byCalls : Machine Terminal Act Call
+  byCalls = whole (Calls d)
+
+  -- one whose tables are stored alone
+  abbrev pub tablesByRules : Machine Terminal Act Transition
+  tablesByRules = tablesAlone (Answers d)
+
+  abbrev pub tablesByCalls : Machine Terminal Act Call
+  tablesByCalls = tablesAlone (Calls d)
+
+  -- a day on which the clear button is not pressed, as calls that the other theorems take: each on what was handed back last
+  pub record AsCalls (x : Terminal) (es : List (Event Act Call)) (z : Terminal) : Type 0 where
+    pub inputs : List Input
+    pub calls : List Call
+    pub built : Built d x inputs calls
+    pub ends : z ≡ handedBack x calls
+    pub seen : SeenOf (map input inputs) calls es

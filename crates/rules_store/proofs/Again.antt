@@ -6,14 +6,10 @@ use Rattle.rows.proofs.Kept.{same-refl}
 use Rattle.rules_store.specs.declared.Step.the-variants.{Done}
 use Rattle.rules_store.specs.Store.{sizeFor, current, next}
 use Rattle.rules_store.specs.Run.{stored}
-use Rattle.rules_store.specs.Cuts.{Attempt, stops, tries, History, begins, done, cut}
+use Rattle.rules_store.specs.Cuts.{Attempt, stops, tries, History, begins, done, cut, Found}
 use Rattle.rules_store.proofs.Safe.{safe, safe-size}
 use Rattle.rules_store.proofs.Steps.{write-fit, done-fit, done-current}
 use Rattle.rules_store.proofs.Ends.{stored-current}
-
-pub record Found (n : ℕ) (store : List ℕ) (images : List (List ℕ)) : Type 0 where
-  pub size : length store ≡ sizeFor n
-  pub among : some (same (current n store)) images ≡ true
 
 first-of : (image new : List ℕ) (images : List (List ℕ)) → image ≡ new → some (same image) (new ∷ images) ≡ true
 unfolding some

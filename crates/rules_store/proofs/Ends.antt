@@ -1,5 +1,5 @@
 -- A run from the start: it writes its plan, byte after byte in rising order, and then the new image is the current one.
-use Rattle.rows.proofs.Prelude.{_≡_, refl, ap, true, false, List, [], _∷_, _++_, ℕ, suc, _+_, _-_, _%_, _≤_, _<_, arith}
+use Rattle.rows.proofs.Prelude.{_≡_, refl, ap, true, false, List, [], _∷_, _++_, ℕ, suc, _+_, _%_, _≤_, _<_, arith}
 use Rattle.rows.proofs.Prelude.{length, getD, length-append, eqb, le-leb, bool-cases, cond-cases}
 use Rattle.rows.proofs.Kept.{same-true, same-refl}
 use Rattle.rows.specs.Rows.{same}
@@ -53,7 +53,7 @@ module _ (store new : List ℕ) (f : length store ≡ sizeFor (length new)) wher
   abbrev old : List ℕ
   old = current n store
 
-  pub nothing : old ≡ new → next store new 0 ≡ Done
+  pub nothing : current (length new) store ≡ new → next store new 0 ≡ Done
   unfolding settled
   nothing e = is-done store new 0 f (rw e (same-refl new))
 
@@ -72,7 +72,7 @@ module _ (store new : List ℕ) (f : length store ≡ sizeFor (length new)) wher
   -- ---- so
 
   -- the program writes its plan, however often it asks
-  pub exact : (k : ℕ) → n < k → writes k store new 0 ≡ plan store new
+  pub exact : (k : ℕ) → length new < k → writes k store new 0 ≡ plan store new
   unfolding plan
   exact k h = bool-cases (same old new)
       (λ q. rw q (no-more k store new 0 (nothing (same-true old new q))))
@@ -90,7 +90,7 @@ module _ (store new : List ℕ) (f : length store ≡ sizeFor (length new)) wher
       (λ q. rw (q, position-last 0 (markAt n store) (raised (getD store (markAt n store) 0)) (spareAt n store) (spare n store) new)
       (ends-so (suc n) (omega arith) q .finished)))
 
-  pub stored-current : current n (stored new store) ≡ new
+  pub stored-current : current (length new) (stored new store) ≡ new
   unfolding plan written
   stored-current = rw stored-is (bool-cases (same old new)
       (λ q. rw q (same-true old new q)) (λ q. rw q (ends-so (suc n) (omega arith) q .current-new)))
@@ -102,20 +102,20 @@ module _ (store new : List ℕ) (f : length store ≡ sizeFor (length new)) wher
       (λ q. rw q (rising-last 0 (markAt n store) (raised (getD store (markAt n store) 0)) (spareAt n store) (spare n store) new (omega arith)
       (omega (arith, spare-at-most n store, mark-after n store))))
 
-  module _ (d : old ≡ new → ⊥) where
+  module _ (d : current (length new) store ≡ new → ⊥) where
     unequal : same old new ≡ false
     unequal = bool-cases (same old new) (λ q. absurd (d (same-true old new q))) (λ q. q)
 
     -- a write for each byte in which the spare image differs, and one
-    pub number : length (plan store new) ≡ suc (differing (spare n store) new)
+    pub number : length (plan store new) ≡ suc (differing (spare (length new) store) new)
     unfolding plan
     number = rw (unequal, length-append, length-differences (spareAt n store) (spare n store) new) (omega arith)
 
     -- one mark is raised, and the next time the next one
-    pub counted : counter n (stored new store) ≡ (counter n store + 1) % 256
+    pub counted : counter (length new) (stored new store) ≡ (counter (length new) store + 1) % 256
     unfolding plan
     counted = rw (stored-is, unequal) (ends-so (suc n) (omega arith) unequal .counted)
 
-    pub turns : markAt n (stored new store) ≡ n + n + (counter n store + 1) % markCount
+    pub turns : markAt (length new) (stored new store) ≡ length new + length new + (counter (length new) store + 1) % markCount
     unfolding markAt
     turns = rw counted (omega arith)

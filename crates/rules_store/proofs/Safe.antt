@@ -1,17 +1,13 @@
 -- Whatever an attempt leaves: the current image is the one from before, or the new one.
 use Rattle.rows.proofs.Prelude.{_≡_, refl, _∙_, List, [], _∷_, ℕ, zero, suc, _+_, _<_, arith, length, set}
-use mathlib.Core.Logic.{_⊎_, inl, inr, ⊎-elim}
+use mathlib.Core.Logic.{inl, inr, ⊎-elim}
 use Rattle.rules_store.specs.declared.Step.{Step}
 use Rattle.rules_store.specs.declared.Step.the-variants.{Write, Done, Unfit}
 use Rattle.rules_store.specs.Store.{current, spareAt, markAt, raise, next}
 use Rattle.rules_store.specs.Run.{Justified, copies, raises, rests, ifWrite, writes, written}
-use Rattle.rules_store.specs.Cuts.{Torn, Attempt, stops, tries}
+use Rattle.rules_store.specs.Cuts.{Torn, Attempt, stops, tries, OldOrNew}
 use Rattle.rules_store.proofs.Parts.{torn-byte, mark-after, torn-spare, torn-mark}
 use Rattle.rules_store.proofs.Steps.{justified, write-fit}
-
--- the current image of `after` is that of `store`, or it is `new`
-abbrev pub OldOrNew : List ℕ → List ℕ → List ℕ → Type 0
-OldOrNew new store after = (current (length new) after ≡ current (length new) store) ⊎ (current (length new) after ≡ new)
 
 -- ---- one write
 

@@ -1,11 +1,11 @@
 -- Each step is justified, whatever position is asked for; a write changes its byte.
-use Rattle.rows.proofs.Prelude.{_≡_, _∙_, true, false, cond, _||_, List, ℕ, _+_, _-_, _<_, arith}
+use Rattle.rows.proofs.Prelude.{_≡_, _∙_, true, false, cond, _||_, List, ℕ, _+_, _-_, arith}
 use Rattle.rows.proofs.Prelude.{length, getD, eqb, ltb, eq-eqb, ne-eqb, eqb-true, eqb-false, ltb-true, ltb-false, bool-cases, and-right}
 use Rattle.rows.proofs.Kept.{same-true}
 use Rattle.rules_store.specs.declared.Step.{Step}
 use Rattle.rules_store.specs.declared.Step.the-variants.{Write, Done, Unfit}
 use Rattle.rules_store.specs.Store.{sizeFor, current, spare, spareAt, markAt, raised, raise, toCopy, writeAt, write, fits, settled, next}
-use Rattle.rules_store.specs.Run.{Justified, copies, raises, rests}
+use Rattle.rules_store.specs.Run.{Justified, copies, raises, rests, Changes}
 use Rattle.rules_store.proofs.Parts.{length-spare, spare-at-most, spare-byte, mark-before-end, mark-changes}
 use Rattle.rules_store.proofs.Mismatch.{copy-differs, copy-none}
 
@@ -70,10 +70,6 @@ pub done-current : (store new : List ℕ) (from : ℕ) → next store new from �
 done-current store new from e = resting store new (rw e at (justified store new from (done-fit store new from e)))
 
 -- ---- a write changes its byte
-
-pub record Changes (store : List ℕ) (at byte : ℕ) : Type 0 where
-  pub inside : at < length store
-  pub other : getD store at 0 ≡ byte → ⊥
 
 justified-changes : (store new : List ℕ) → length store ≡ sizeFor (length new)
     → (at byte : ℕ) (s : Step) → Justified store new s → s ≡ Write at byte → Changes store at byte

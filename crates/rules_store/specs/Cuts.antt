@@ -6,6 +6,8 @@ use mathlib.Core.List.{List, [], _∷_}
 use lib.ListN.{length}
 use Rattle.rules_store.specs.declared.Step.the-variants.{Write, Done}
 use Rattle.rules_store.specs.Store.{sizeFor, imageAt, marks, current, next}
+use mathlib.Core.Bool.{true}
+use Rattle.rows.specs.Rows.{same, some}
 
 -- What a write at place `at` may leave of a store: anything in the part that it writes to, which is the first image, the second image
 -- or the marks. The other two parts stay. A byte with any value is a case of it; so is a page written whole, and a cell that is worn out.
@@ -29,3 +31,12 @@ pub data History (n : ℕ) : List ℕ → List (List ℕ) → Type 0 where
       → (from : ℕ) → next after new from ≡ Done → History n after (new ∷ [])
   cut : {store after : List ℕ} {images : List (List ℕ)} → History n store images → (new : List ℕ) → Attempt new store after
       → History n after (new ∷ images)
+
+-- a reader finds one of these images
+pub record Found (n : ℕ) (store : List ℕ) (images : List (List ℕ)) : Type 0 where
+  pub size : length store ≡ sizeFor n
+  pub among : some (same (current n store)) images ≡ true
+
+-- the current image of `after` is that of `store`, or it is `new`
+abbrev pub OldOrNew : List ℕ → List ℕ → List ℕ → Type 0
+OldOrNew new store after = (current (length new) after ≡ current (length new) store) ⊎ (current (length new) after ≡ new)

@@ -69,3 +69,8 @@ differing (x ∷ old) (y ∷ new) = cond (eqb x y) (differing old new) (suc (dif
 unfoldable pub rising : ℕ → List Step → Bool
 rising from [] = true
 rising from (step ∷ steps) = ifWrite (λ at byte. leb from at && rising (suc at) steps) (rising from steps) step
+
+-- a write lies in the store, and changes its byte
+pub record Changes (store : List ℕ) (at byte : ℕ) : Type 0 where
+  pub inside : at < length store
+  pub other : getD store at 0 ≡ byte → ⊥

@@ -130,9 +130,10 @@ module _ (d : Defaults) (e : DefaultBytes d) (chosen : Sender → Bool) where
   run-struct t i (q ∷ qs) h = run-struct (tablesAfter d t q) (struct-kept d e t i q (h .0)) qs (h .1)
 
   pub isolation-typed : (t : ByteTables) → IsStruct t → (qs : List ByteRequest) → AllBytes qs
-      → Along (next first) (Premise chosen) (readTables t) (kept (isOthers chosen) (map readRecord qs))
+      → Along (next (tablesOf (fresh d))) (Premise chosen) (readTables t) (kept (isOthers chosen) (map readRecord qs))
       → keptOf (isOthersBytes chosen) qs (replies (responseTo d) (tablesAfter d) t qs)
-      ≡ map written (replies (respond first) (next first) (readTables t) (kept (isOthers chosen) (map readRecord qs)))
+      ≡ map written
+      (replies (respond (tablesOf (fresh d))) (next (tablesOf (fresh d))) (readTables t) (kept (isOthers chosen) (map readRecord qs)))
   isolation-typed t i qs h a =
       let bytes = kept-bytes qs h in
       let premise = premise-along t i (others qs) bytes (rw (others-read qs) a) in

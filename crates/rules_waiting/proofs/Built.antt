@@ -2,7 +2,7 @@
 -- The built code is any calls that meet the contracts of `hand_in`, `take` and `judge` (HandsIn,
 -- Takes and Judges, which these contracts cite), and of `payload` beside the last two,
 -- each on the tables and the memory handed back last.
-use Rattle.rows.proofs.Prelude.{_≡_, refl, sym, ap, ap₂, _∙_, Bool, true, false, _||_, cond, List, [], _∷_, _++_, map, ℕ, _-_, length, take, drop, replicate}
+use Rattle.rows.proofs.Prelude.{_≡_, refl, sym, ap, ap₂, _∙_, Bool, true, false, _||_, List, [], _∷_, map, ℕ, _-_, length, take, drop, replicate}
 use Rattle.rows.proofs.Prelude.{take-at, eqb, eqb-true, not-false, or-false, bool-cases, contradiction, or-left, or-not-left}
 use Rattle.rules.specs.declared.Check.the-variants.{Refuse}
 use Rattle.rules.specs.declared.Sender.{Sender}
@@ -18,82 +18,16 @@ use Rattle.rules.proofs.Refusals.{payload-is}
 use Rattle.rules.proofs.Isolated.{isolation}
 use Rattle.rules_waiting.specs.Slots.{padded}
 use Rattle.rules_waiting.specs.Terminal.{Terminal, terminal, Transition, soundTerminal, takeChecks, due, taken, directChecks, judged, said, HandedOut}
-use Rattle.rules_waiting.specs.Calls.{Leaves, HandsIn, Takes, Judges}
-use Rattle.rules_waiting.specs.Inputs.{Input, handIn, takeAt, direct, next, Turn, judgedAt, allJudged, othersTurn}
+use Rattle.rules_waiting.specs.Calls.{Leaves}
+use Rattle.rules_waiting.specs.Inputs.{Input, handIn, takeAt, direct, next, judgedAt, allJudged, othersTurn}
 use Rattle.rules.proofs.CheckLaws.{check-cases}
+use Rattle.rules_waiting.specs.CallRun.{Built, Call, Lends, Meets, callTurns, handedBack, left, recordGiven, told, turnOf}
+use Rattle.rules_waiting.specs.Isolation.{Premises, AsTheBook}
+use Rattle.rules_waiting.specs.Direct.{Whole}
 use Rattle.rules_waiting.proofs.Sound.{terminal-parts, take-passed}
 use Rattle.rules_waiting.proofs.Refused.{refused-among, no-such}
-use Rattle.rules_waiting.proofs.Isolated.{Premises, AsTheBook, isolated}
-use Rattle.rules_waiting.proofs.Direct.{Whole, directReplies, directEnd, directs-same}
-
--- ---- what the calls of a run gave
-
--- a call's judgement and the memory that it left; of a take and of a record judged at once also the buffer as it was lent and as it was left,
--- and the payload; of a take also the record
-pub record Call : Type 0 where
-  pub judgement : Said
-  pub queue : List ℕ
-  pub lent : List ℕ
-  pub buffer : List ℕ
-  pub payload : List ℕ
-  pub size : ℕ
-  pub bytes : List ℕ
-
-abbrev pub told : Call → Response
-told c = record {
-  answer = c .judgement .answer;
-  permission = c .judgement .permission;
-  payload = c .payload;
-  contents = take (c .judgement .reply) (c .buffer);
-  places = c .judgement .places;
-  links = c .judgement .links;
-}
-
--- the record that a take handed out
-abbrev pub recordGiven : Call → List ℕ
-recordGiven c = take (c .size) (c .bytes)
-
--- a buffer of the length that was lent, and the payload as the part of the record r that the call's judgement names
-pub record Lends (capacity : ℕ) (r : List ℕ) (c : Call) : Type 0 where
-  pub sized : length (c .lent) ≡ capacity
-  pub passes : c .payload ≡ payloadPart (c .judgement .payload) r
-
--- what a call meets, on the terminal x, for the input
-abbrev pub Meets : Defaults → Terminal → Input → Call → Type 0
-Meets d x (handIn r) c = HandsIn x r (c .judgement) (c .queue)
-Meets d x (takeAt clock capacity) c =
-    Takes d x clock capacity (record { judgement = c .judgement; size = c .size; bytes = c .bytes }) (c .lent) (c .queue) (c .buffer)
-    × Lends capacity (recordGiven c) c
-Meets d x (direct q) c = Judges d x q (c .judgement) (c .lent) (c .queue) (c .buffer) × Lends (q .capacity) (q .bytes) c
-
--- the terminal that a call hands back
-abbrev pub left : Call → Terminal
-left c = terminal (c .judgement .tables) (c .queue)
-
--- the first call on the terminal x, and each later one on what was handed back last
-abbrev pub Built : Defaults → Terminal → List Input → List Call → Type 0
-Built d x [] [] = Unit {0}
-Built d x [] (c ∷ cs) = ⊥
-Built d x (i ∷ is) [] = ⊥
-Built d x (i ∷ is) (c ∷ cs) = Meets d x i c × Built d (left c) is cs
-
--- what was handed back last
-abbrev pub handedBack : Terminal → List Call → Terminal
-handedBack x [] = x
-handedBack x (c ∷ cs) = handedBack (left c) cs
-
--- ---- the records judged, as the calls show them: a take answered with 1 or 27 has none, nor has a record judged at once that gets 1
-
-abbrev pub turnOf : Input → Call → List Turn
-turnOf (handIn r) c = []
-turnOf (takeAt clock capacity) c =
-    cond (eqb (c .judgement .answer) 1 || eqb (c .judgement .answer) 27) [] (record { request = received clock (recordGiven c) capacity; response = told c } ∷ [])
-turnOf (direct q) c = cond (eqb (c .judgement .answer) 1) [] (record { request = q; response = told c } ∷ [])
-
-abbrev pub callTurns : List Input → List Call → List Turn
-callTurns [] cs = []
-callTurns (i ∷ is) [] = []
-callTurns (i ∷ is) (c ∷ cs) = turnOf i c ++ callTurns is cs
+use Rattle.rules_waiting.proofs.Isolated.{isolated}
+use Rattle.rules_waiting.proofs.Direct.{directReplies, directEnd, directs-same}
 
 -- ---- each call
 

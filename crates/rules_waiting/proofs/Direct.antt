@@ -1,6 +1,6 @@
 -- Lists of records that are judged at once, beside memory that is sound wherever the tables are.
 -- Such a record gets the outcome of the rules over the tables, 1 included; so fresh memory changes nothing for a run without hand-ins.
-use Rattle.rows.proofs.Prelude.{_≡_, refl, true, false, List, [], _∷_, bool-cases, contradiction}
+use Rattle.rows.proofs.Prelude.{_≡_, refl, false, List, [], _∷_, bool-cases, contradiction}
 use Rattle.rules.specs.declared.Tables.{Tables}
 use Rattle.rules.specs.Record.{Request}
 use Rattle.rules.specs.Tables.{sound}
@@ -12,12 +12,9 @@ use Rattle.rules.proofs.Refusals.{unsound-refused}
 use Rattle.rules_waiting.specs.Slots.{emptyQueue}
 use Rattle.rules_waiting.specs.Terminal.{Terminal, terminal, numberTransition, soundTerminal, judged}
 use Rattle.rules_waiting.specs.Inputs.{direct}
+use Rattle.rules_waiting.specs.Direct.{AsOutcome, Whole}
 use Rattle.rules_waiting.proofs.Sound.{terminal-whole, fresh-queue, sound-next}
 use Rattle.rules_waiting.proofs.Stays.{judged-is}
-
--- the memory is sound where the tables are
-abbrev pub Whole : Terminal → Type 0
-Whole x = sound (x .tables) ≡ true → soundTerminal x ≡ true
 
 -- fresh memory is, beside any tables
 pub fresh-whole : (t : Tables) → Whole (terminal t emptyQueue)
@@ -26,11 +23,6 @@ fresh-whole t h = terminal-whole (terminal t emptyQueue) h (fresh-queue t h)
 judged-unsound : (d : Defaults) (x : Terminal) (q : Request) → soundTerminal x ≡ false → judged d x q ≡ numberTransition 1 x
 unfolding judged verdict
 judged-unsound d x q e = rw e
-
-pub record AsOutcome (d : Defaults) (x : Terminal) (q : Request) : Type 0 where
-  pub response : judged d x q .response ≡ responseTo d (x .tables) q
-  pub tables : judged d x q .terminal .tables ≡ tablesAfter d (x .tables) q
-  pub whole : Whole (judged d x q .terminal)
 
 pub as-outcome : (d : Defaults) (x : Terminal) (q : Request) → Whole x → AsOutcome d x q
 as-outcome d x q w =

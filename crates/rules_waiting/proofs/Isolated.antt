@@ -11,12 +11,13 @@ use Rattle.rules.specs.Defaults.{Defaults}
 use Rattle.rules.specs.Checks.{verdict}
 use Rattle.rules.specs.Outcome.{Response, responseTo, tablesAfter}
 use Rattle.rules.specs.Run.{replies, final, Along, kept}
-use Rattle.rules.specs.Isolation.{Premise, isOthers, compared}
+use Rattle.rules.specs.Isolation.{Premise, isOthers}
 use Rattle.rules.proofs.Isolated.{Related, silent, congruent}
 use Rattle.rules_waiting.specs.Terminal.{Terminal, soundTerminal, handInChecks, handedIn, takeChecks, due, taken, directChecks, judged}
 use Rattle.rules_waiting.specs.Inputs.{Input, handIn, takeAt, direct, next, Turn, turnIf, turns, judgedAt, allJudged, othersTurn, requestOf, turnTold}
 use Rattle.rules_waiting.specs.Inputs.{noneDirect}
 use Rattle.rules.proofs.CheckLaws.{check-cases}
+use Rattle.rules_waiting.specs.Isolation.{AsTheBook, Premises, others}
 use Rattle.rules_waiting.proofs.Refused.{unsound-run}
 use Rattle.rules_waiting.proofs.Lockstep.{along-first, collected-through, mapped-append, lockstep}
 
@@ -58,23 +59,8 @@ module _ (d : Defaults) (chosen : Sender → Bool) where
 
   -- ---- the whole list
 
-  -- the others' records that are judged
-  abbrev pub others : Terminal → List Input → List Turn
-  others x is = kept (othersTurn chosen) (allJudged d x is)
-
-  -- the premise, read in the book's tables before its first record and after each, where it is fed these
-  abbrev pub Premises : Terminal → List Turn → Type 0
-  Premises x us = soundTerminal x ≡ true → Along (tablesAfter d) (Premise chosen) (x .tables) (map requestOf us)
-
-  -- these turns were told what the book answers: numbers, permissions, payloads, replies, places and
-  -- links; and the tables at the end are the book's but for the chosen partners' asserted roles
-  abbrev pub AsTheBook : Terminal → List Turn → Tables → Type 0
-  AsTheBook x us end =
-      (map turnTold us ≡ replies (responseTo d) (tablesAfter d) (x .tables) (map requestOf us))
-      × (compared chosen end ≡ compared chosen (final (tablesAfter d) (x .tables) (map requestOf us)))
-
-  isolated-from : (x : Terminal) (is : List Input) → Along (tablesAfter d) (Premise chosen) (x .tables) (map requestOf (others x is))
-      → AsTheBook x (others x is) (final (next d) x is .tables)
+  isolated-from : (x : Terminal) (is : List Input) → Along (tablesAfter d) (Premise chosen) (x .tables) (map requestOf (others d chosen x is))
+      → AsTheBook d chosen x (others d chosen x is) (final (next d) x is .tables)
   isolated-from x is premise =
       let a = collected-through (next d) (judgedAt d) (λ us. map requestOf (kept (othersTurn chosen) us))
       refl (mapped-append (othersTurn chosen) requestOf) x is in
@@ -85,7 +71,8 @@ module _ (d : Defaults) (chosen : Sender → Bool) where
       (rw (← a, ← b) (both .0), rw (← a) (both .1 .same))
 
   -- demand 3; a terminal that is not sound, be it only in what waits, needs no premise
-  pub isolated : (x : Terminal) (is : List Input) → Premises x (others x is) → AsTheBook x (others x is) (final (next d) x is .tables)
+  pub isolated : (x : Terminal) (is : List Input) → Premises d chosen x (others d chosen x is)
+      → AsTheBook d chosen x (others d chosen x is) (final (next d) x is .tables)
   isolated x is premise =
       bool-cases (soundTerminal x)
       (λ h. isolated-from x is (premise h))
@@ -100,6 +87,6 @@ module _ (d : Defaults) (chosen : Sender → Bool) where
   judged-taken x (direct q ∷ is) n = absurd (false≢true n)
 
   -- the others' records taken
-  pub turns-isolated : (x : Terminal) (is : List Input) → noneDirect is ≡ true → Premises x (kept (othersTurn chosen) (turns d x is))
-      → AsTheBook x (kept (othersTurn chosen) (turns d x is)) (final (next d) x is .tables)
+  pub turns-isolated : (x : Terminal) (is : List Input) → noneDirect is ≡ true → Premises d chosen x (kept (othersTurn chosen) (turns d x is))
+      → AsTheBook d chosen x (kept (othersTurn chosen) (turns d x is)) (final (next d) x is .tables)
   turns-isolated x is n = rw (← judged-taken x is n) (isolated x is)

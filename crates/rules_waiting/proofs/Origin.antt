@@ -23,7 +23,7 @@ use Rattle.rules_waiting.specs.Round.{seats, occupied, sameSeats, orphan
 use Rattle.rules_waiting.specs.Terminal.{Terminal, slotSound, soundTerminal, handInChecks, handedIn, clears, queueAfter, takeChecks, turn, due}
 use Rattle.rules_waiting.specs.Terminal.{takeOf, taken, directChecks, directOf, judged}
 use Rattle.rules_waiting.specs.Inputs.{Input, handIn, takeAt, direct, next, bytesOf, turns, Undisturbed, recordsIn, recordIf, allKept, droppedBy}
-use Rattle.rules_waiting.specs.Inputs.{allDropped, countOf}
+use Rattle.rules_waiting.specs.Inputs.{allDropped, countOf, Balance}
 use Rattle.rules.proofs.CheckLaws.{check-cases}
 use Rattle.rules_waiting.proofs.SlotLaws.{TwoLong, waiting-back, record-back, short-record}
 use Rattle.rules_waiting.proofs.Held.{slot-held}
@@ -115,13 +115,7 @@ module _ (p : List ℕ → Bool) where
 
   -- ---- a run
 
-  -- taken, dropped and waiting at the end; waiting at the start and kept
-  abbrev Balance : Defaults → Terminal → List Input → Type 0
-  Balance d x is =
-      countOf p (map bytesOf (turns d x is)) + (countOf p (allDropped d x is) + countOf p (recordsIn (final (next d) x is)))
-      ≡ countOf p (recordsIn x) + countOf p (allKept d x is)
-
-  counted : (d : Defaults) (x : Terminal) (is : List Input) → soundTerminal x ≡ true → Balance d x is
+  counted : (d : Defaults) (x : Terminal) (is : List Input) → soundTerminal x ≡ true → Balance p d x is
   unfolding countOf handedIn taken judged due occupied
   counted d x [] h = omega arith
   counted d x (handIn r ∷ is) h =
@@ -161,7 +155,7 @@ module _ (p : List ℕ → Bool) where
       ))
 
   -- from a terminal of any content
-  pub all-come : (d : Defaults) (x : Terminal) (is : List Input) → Balance d x is
+  pub all-come : (d : Defaults) (x : Terminal) (is : List Input) → Balance p d x is
   unfolding countOf
   all-come d x is =
       bool-cases (soundTerminal x) (counted d x is)

@@ -1,6 +1,6 @@
 -- Theorem: a record leaves the same seats exactly where it leaves as many credential rows as there were, unless it clears the tables.
 -- One record never both adds and removes rows, so their number tells whether the queue is to be looked through.
-use Rattle.rows.proofs.Prelude.{_≡_, refl, sym, ap, ap₂, _∙_, Bool, true, false, List, [], _∷_, map, _+_, arith, length, take, length-map, eqb, eq-eqb}
+use Rattle.rows.proofs.Prelude.{_≡_, refl, sym, ap, ap₂, _∙_, Bool, true, false, List, [], _∷_, map, _+_, arith, length, take, length-map, eq-eqb}
 use Rattle.rows.proofs.Prelude.{eqb-true, bool-cases, contradiction, and-left, and-right, and-both}
 use Rattle.rows.specs.Rows.{Row, same, numberedAs, some, without, stored}
 use Rattle.rows.proofs.Gap.{fewer-stay, none-goes}
@@ -10,7 +10,7 @@ use Rattle.rules.specs.declared.Table.the-variants.{Creds, Aces}
 use Rattle.rules.specs.declared.Action.{Action}
 use Rattle.rules.specs.declared.Action.the-variants.{Serve, Read, SetRowOwner, SetOwner, SetState, Store, Remove, Assert, Malformed}
 use Rattle.rules.specs.Record.{Request, body}
-use Rattle.rules.specs.Tables.{headOf, rowOf, rows, count, withRows, sound}
+use Rattle.rules.specs.Tables.{rowOf, rows, withRows, sound}
 use Rattle.rules.specs.Defaults.{Defaults}
 use Rattle.rules.specs.Action.{action}
 use Rattle.rules.specs.Permission.{permission}
@@ -20,13 +20,9 @@ use Rattle.rules.proofs.Answers.{rows-count}
 use Rattle.rules.proofs.TableLaws.{rows-with}
 use Rattle.rules.proofs.SoundKept.{SoundRows, Passed, passed-all, stored-sound, removed-sound, asserted-sound, sound-kept}
 use Rattle.rules_waiting.specs.Slots.{Seat}
-use Rattle.rules_waiting.specs.Round.{nobody, seats, sameSeats}
+use Rattle.rules_waiting.specs.Round.{nobody, seats, sameSeats, sameCount}
 use Rattle.rules_waiting.specs.Terminal.{isReset, clears}
 use Rattle.rules.proofs.CheckLaws.{check-cases}
-
--- as many credential rows as before
-unfoldable pub sameCount : Tables → Tables → Bool
-sameCount t t′ = eqb (count Creds (headOf t)) (count Creds (headOf t′))
 
 -- ---- the test of seats
 

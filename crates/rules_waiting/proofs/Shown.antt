@@ -5,26 +5,10 @@ use Rattle.rules.specs.Defaults.{Defaults}
 use Rattle.rules.specs.Checks.{verdict}
 use Rattle.rules.specs.Run.{replies, final}
 use Rattle.rules.proofs.CheckLaws.{check-cases}
-use Rattle.rules_waiting.specs.Terminal.{Terminal, Transition, handInChecks, handedIn, directChecks, judged}
+use Rattle.rules_waiting.specs.Terminal.{Terminal, handInChecks, handedIn, directChecks, judged}
 use Rattle.rules_waiting.specs.Inputs.{Input, handIn, takeAt, direct, transition, next}
-use Rattle.rules_waiting.proofs.Built.{Call, told, recordGiven, Meets, left, Built, handedBack, take-told, direct-told, call-left}
-
--- what a call shows; of a hand-in that is the judgement, since it lends no buffer and judges no record
-abbrev pub shown : Input → Call → Transition
-shown (handIn r) c =
-    let j = c .judgement in
-    record {
-      bytes = [];
-      response = record { answer = j .answer; permission = j .permission; payload = []; contents = []; places = j .places; links = j .links };
-      terminal = left c;
-    }
-shown (takeAt clock capacity) c = record { bytes = recordGiven c; response = told c; terminal = left c }
-shown (direct q) c = record { bytes = []; response = told c; terminal = left c }
-
-abbrev pub allShown : List Input → List Call → List Transition
-allShown [] cs = []
-allShown (i ∷ is) [] = []
-allShown (i ∷ is) (c ∷ cs) = shown i c ∷ allShown is cs
+use Rattle.rules_waiting.specs.CallRun.{Call, Meets, left, Built, handedBack, allShown, shown}
+use Rattle.rules_waiting.proofs.Built.{take-told, direct-told, call-left}
 
 -- a call shows what is answered
 pub shown-is : (d : Defaults) (x : Terminal) (i : Input) (c : Call) → Meets d x i c → shown i c ≡ transition d x i

@@ -15,7 +15,7 @@ use Rattle.rules.proofs.CheckLaws.{check-cases}
 use Rattle.rules.proofs.Refusals.{permitted-outcome}
 use Rattle.rules_waiting.specs.Slots.{Round, waiting}
 use Rattle.rules_waiting.specs.Terminal.{Terminal, terminal, freshTerminal, soundTerminal, isReset, clears, queueAfter, terminalAfter}
-use Rattle.rules_waiting.specs.Terminal.{takeChecks, due, takeOf, taken}
+use Rattle.rules_waiting.specs.Terminal.{takeChecks, due, takeOf, taken, OutcomeOfDue}
 use Rattle.rules_waiting.proofs.Refused.{take-ready}
 use Rattle.rules_waiting.proofs.Built.{refused-number}
 
@@ -26,21 +26,16 @@ module _ (d : Defaults) (x : Terminal) (clock capacity : ℕ) where
   unfolding taken
   taken-is h w = ap (takeOf d x (received clock (due x) capacity)) (take-ready x h w)
 
-  -- the record due is handed out; its sender is told its outcome, and the tables are its outcome's
-  pub record OutcomeOfDue : Type 0 where
-    pub handed : taken d x clock capacity .bytes ≡ due x
-    pub response : taken d x clock capacity .response ≡ responseTo d (x .tables) (received clock (due x) capacity)
-    pub tables : taken d x clock capacity .terminal .tables ≡ tablesAfter d (x .tables) (received clock (due x) capacity)
-
   -- with any answer but 1 and 27, so with 0
-  pub judged-take : (eqb (taken d x clock capacity .response .answer) 1 || eqb (taken d x clock capacity .response .answer) 27) ≡ false → OutcomeOfDue
+  pub judged-take : (eqb (taken d x clock capacity .response .answer) 1 || eqb (taken d x clock capacity .response .answer) 27) ≡ false
+      → OutcomeOfDue d x clock capacity
   unfolding taken
   judged-take a =
       check-cases (verdict (takeChecks x))
       (λ e. record { handed = rw e; response = rw e; tables = rw e })
       (λ n e. contradiction (refused-number x n e) (rw e at a))
 
-  pub permitted-take : taken d x clock capacity .response .answer ≡ 0 → OutcomeOfDue
+  pub permitted-take : taken d x clock capacity .response .answer ≡ 0 → OutcomeOfDue d x clock capacity
   permitted-take a = judged-take (rw a)
 
 -- ---- RESET

@@ -12,7 +12,7 @@ use Rattle.rules.specs.Record.{Request, received, sender}
 use Rattle.rules.specs.Defaults.{Defaults}
 use Rattle.rules.specs.Checks.{verdict, isPass}
 use Rattle.rules.specs.Outcome.{Response, responseTo, tablesAfter}
-use Rattle.rules.specs.Run.{kept}
+use Rattle.rules.specs.Run.{final, kept}
 use Rattle.rules_waiting.specs.Slots.{recordOf, waiting}
 use Rattle.rules_waiting.specs.Round.{seats, orphaned}
 use Rattle.rules_waiting.specs.Terminal.{Terminal, Transition, handInChecks, handedIn, clears, takeChecks, turn, due, taken, directChecks, judged}
@@ -144,3 +144,9 @@ allDropped d = collected (next d) (droppedAt d)
 unfoldable pub countOf : (List ℕ → Bool) → List (List ℕ) → ℕ
 countOf p [] = 0
 countOf p (r ∷ rs) = cond (p r) 1 0 + countOf p rs
+
+-- of the records that pass a test, those taken, dropped and waiting at the end are as many as waited at the start and were kept
+abbrev pub Balance : (List ℕ → Bool) → Defaults → Terminal → List Input → Type 0
+Balance p d x is =
+    countOf p (map bytesOf (turns d x is)) + (countOf p (allDropped d x is) + countOf p (recordsIn (final (next d) x is)))
+    ≡ countOf p (recordsIn x) + countOf p (allKept d x is)

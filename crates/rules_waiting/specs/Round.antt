@@ -7,8 +7,9 @@ use Rattle.rows.specs.Rows.{Row, same, hasKey, some, firstRow, rowsBefore}
 use Rattle.rules.specs.declared.Tables.{Tables}
 use Rattle.rules.specs.declared.Table.the-variants.{Creds}
 use Rattle.rules.specs.Bits.{be16}
-use Rattle.rules.specs.Tables.{rowsIn}
+use Rattle.rules.specs.Tables.{rowsIn, count, headOf}
 use Rattle.rules_waiting.specs.Slots.{Seat, Round, anew, after}
+use lib.Dec.{eqb}
 
 -- unauthenticated senders share one
 abbrev pub nobody : Seat
@@ -59,3 +60,7 @@ orphaned ps w = not (held ps (take 2 w))
 abbrev pub heldRound : List Seat → Round → Round
 heldRound ps anew = anew
 heldRound ps (after p) = cond (held ps p) (after p) anew
+
+-- as many credential rows as before
+unfoldable pub sameCount : Tables → Tables → Bool
+sameCount t t′ = eqb (count Creds (headOf t)) (count Creds (headOf t′))

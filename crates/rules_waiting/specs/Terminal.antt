@@ -1,5 +1,6 @@
 -- The terminal: the tables, and the memory of waiting records beside them. One soundness of both, for hand-ins, takes and records that are judged at once.
 use Prim.Native.Nat.{ℕ, _*_}
+use mathlib.Core.Path.{_≡_}
 use mathlib.Core.Bool.{Bool, false, not, _&&_, cond}
 use mathlib.Core.List.{List, [], _∷_, _++_}
 use lib.Dec.{eqb, leb}
@@ -134,6 +135,12 @@ takeOf d x q (Refuse n) = numberTransition n x
 -- at the take's clock, with a reply buffer of this length
 unfoldable pub taken : Defaults → Terminal → ℕ → ℕ → Transition
 taken d x clock capacity = takeOf d x (received clock (due x) capacity) (verdict (takeChecks x))
+
+-- a take that judges hands out the record due; its sender is told its outcome, and the tables are its outcome's
+pub record OutcomeOfDue (d : Defaults) (x : Terminal) (clock capacity : ℕ) : Type 0 where
+  pub handed : taken d x clock capacity .bytes ≡ due x
+  pub response : taken d x clock capacity .response ≡ responseTo d (x .tables) (received clock (due x) capacity)
+  pub tables : taken d x clock capacity .terminal .tables ≡ tablesAfter d (x .tables) (received clock (due x) capacity)
 
 -- ---- a record that is judged at once
 
