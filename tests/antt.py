@@ -113,6 +113,11 @@ class File:
     def declared(self, name):
         return [declaration for declaration in self.declarations if declaration.name == name]
 
+    def owner(self, name):
+        """The declaration that brings a name: its own, or the type whose constructor it is."""
+        own = self.declared(name)
+        return own or [data for data in self.declarations if re.search(rf"^ +{re.escape(name)} :", data.statement, re.M)]
+
 
 class Project:
     """The files that were asked for, each read once."""

@@ -15,7 +15,9 @@ import re
 import sys
 
 sys.dont_write_bytecode = True
+from antt import Project, Uses, variables, without_comments, words_of  # noqa: E402
 from sources import Changed, fault, faults, functions_of, read  # noqa: E402
+from statements import is_examples  # noqa: E402
 
 SOURCE, PAGE = "docs/trace.txt", "docs/TRACE.md"
 # the parts of a row behind its sentence and what it asks
@@ -166,46 +168,65 @@ def test_file(name, files):
 
 
 class Reach:
-    """The words that a contract or a theorem's statement leads to, through definitions."""
+    """The definitions that a contract or a theorem's statement leads to, through definitions. A name is found by the `use` and `ghost use`
+    lines of its file, so that two definitions of one name are two."""
 
-    def __init__(self, specs, proofs):
-        self.uses, self.statements, self.sources = {}, {}, {}
-        for path, block in ((path, block) for path in specs.paths() for block in self.blocks(path)):
-            for name in re.findall(EXPORTED, block, re.M):
-                self.uses.setdefault(name, set()).update(re.findall(r"[\w′]+", block))
-        for path, block in ((path, block) for path in proofs.paths() for block in self.blocks(path)):
-            words = re.findall(r"[\w′]+", block)
-            for name in re.findall(EXPORTED, block, re.M):
-                self.statements.setdefault((path, name), set()).update(words)
-            # what a statement says, in a record beside it
-            for name in re.findall(r"^ *pub record (\S+)", block, re.M):
-                self.uses.setdefault(name, set()).update(words)
-        for path in glob.glob("crates/*/src/**/*.rt", recursive=True):
-            crate = path.split("/")[1]
-            self.sources[crate] = self.sources.get(crate, "") + read(path)
+    def __init__(self):
+        self.project, self.found, self.read_as = Project(), {}, {}
+        # a theorem that says of a definition over bytes how `RULES` puts it leads from the one to the other
+        for path in sorted(glob.glob(f"crates/{RULES}/proofs/*.antt")):
+            for part in self.project.file(path).declarations:
+                named = self.statement((path, part.name))
+                typed = {place for place in named if place[0].startswith(f"crates/{RULES}/specs/")}
+                for place in named - typed:
+                    self.read_as.setdefault(place, set()).update(typed)
 
-    @staticmethod
-    def blocks(path):
-        return re.split(r"\n\s*\n", re.sub(r"^ *--.*\n", "", read(path), flags=re.M))
+    def named(self, path, uses, text):
+        """The definitions that a text of the file names, each as its file and its name."""
+        bound = variables(text)
+        meant = {self.project.meaning(path, uses, word.strip("«»"), bound) for word in words_of(text)} - {None}
+        return {(home, owner.name) for home, name in meant for owner in self.project.file(home).owner(name)}
+
+    def texts(self, place, whole):
+        path, name = place
+        parts = self.project.file(path).declared(name)
+        return ["\n".join(part.around + [part.statement] + ([part.body] if whole or part.short else [])) for part in parts]
+
+    def statement(self, place):
+        """What a theorem's statement names."""
+        return {there for text in self.texts(place, False) for there in self.named(place[0], self.project.file(place[0]).uses, text)}
+
+    def following(self, place):
+        """What a definition names, or the rows, tables and runs that an example is of."""
+        if place not in self.found:
+            texts = self.texts(place, "/specs/" in place[0] or is_examples(place[0]))
+            self.found[place] = {there for text in texts for there in self.named(place[0], self.project.file(place[0]).uses, text)}
+        return self.found[place]
 
     def contract(self, name):
+        """What the contract of a function names."""
         crate, word = name.split("::")
-        return set(re.findall(r"[\w′]+", " ".join(re.findall(rf"\bfn {word}\b(.*?)^ *\{{$", self.sources.get(crate, ""), re.M | re.S))))
+        places = set()
+        for path in sorted(glob.glob(f"crates/{crate}/src/**/*.rt", recursive=True)):
+            text = without_comments(read(path))
+            for head in re.findall(rf"\bfn {word}\b(.*?)^ *\{{$", text, re.M | re.S):
+                places |= self.named(path, Uses(text, "ghost use"), head)
+        return places
 
-    def check(self, row, theorems):
+    def check(self, row, definitions, theorems):
         """Each definition of the row is reached from the contract of its code, or from the statement of its theorems."""
         if not row.parts["code"] and not row.parts["theorem"]:
             return
-        ahead = [word for name in row.parts["code"] for word in self.contract(name)]
-        ahead += [word for place in theorems for word in self.statements.get(place, ())]
+        ahead = {place for name in row.parts["code"] for place in self.contract(name)}
+        ahead |= {place for theorem in theorems if theorem[0] for place in self.statement(theorem)}
         reached = set()
         while ahead:
-            word = ahead.pop()
-            if word not in reached:
-                reached.add(word)
-                ahead += self.uses.get(word, ())
-        for name in row.parts["definition"]:
-            if name.split("/")[-1].split(".")[-1] not in reached:
+            place = ahead.pop()
+            if place not in reached:
+                reached.add(place)
+                ahead |= self.following(place) | self.read_as.get(place, set())
+        for name, place in zip(row.parts["definition"], definitions):
+            if place[0] and place not in reached:
                 fault(f"{SOURCE}: {row.label()}: neither a contract nor a theorem of the row speaks of {name}")
 
 
@@ -224,8 +245,9 @@ def grouped(places):
 
 def cells_of(row, specs, proofs, files, reach):
     parts = row.parts
+    definitions = [specs.file_of(name) for name in parts["definition"]]
     theorems = [proofs.file_of(name) for name in parts["theorem"]]
-    reach.check(row, theorems)
+    reach.check(row, definitions, theorems)
     for name in parts["code"]:
         check_code(name)
     for name in parts["edit"]:
@@ -239,7 +261,7 @@ def cells_of(row, specs, proofs, files, reach):
             tests.setdefault(path, []).extend([f"`{name.split(':')[1]}`"] if ":" in name else [])
     shown = [f"{os.path.basename(path)}: {', '.join(words)}" if words else path for path, words in tests.items()]
     return [
-        grouped([specs.file_of(name) for name in parts["definition"]]),
+        grouped(definitions),
         ", ".join(f"`{name}`" for name in parts["code"]),
         grouped(theorems),
         ", ".join(f"`{name}`" for name in parts["edit"]),
@@ -273,7 +295,7 @@ How to read a row:
 
 def page(papers, rows):
     specs, proofs, files = Names("specs"), Names("proofs"), test_files()
-    reach = Reach(specs, proofs)
+    reach = Reach()
     text = [INTRO % "\n".join(f"| {number} | `{total}` |" for number, total, _ in papers)]
     rules = [row for row in rows if row.is_rule()]
     without = {part: [row for row in rules if not row.parts[part]] for part in PARTS}
