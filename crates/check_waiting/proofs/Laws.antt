@@ -1,29 +1,36 @@
 -- Laws of the memory's bytes, as the code reads them.
 use Rattle.rows.proofs.Prelude.{_≡_, refl, sym, ap, _∙_, Bool, true, false, not, _&&_, _||_, and-false, and-true, or-false, drop-cons, bool-cases, List, []}
 use Rattle.rows.proofs.Prelude.{ℕ, zero, suc, _+_, _-_, _*_, _/_, _%_, _≤_, _<_, min, min-eq-left, arith, length, take, drop, getD, replicate, eqb, eq-eqb}
-use Rattle.rows.proofs.Prelude.{_∷_, _++_, eqb-true, and-left, and-right, contradiction, ltb, ltb-false, le-leb, lt-leb, ne-eqb, or-right, or-true-right}
-use Rattle.rows.proofs.Prelude.{take-append-drop}
+use Rattle.rows.proofs.Prelude.{_∷_, _++_, eqb-true, and-left, and-right, contradiction, le-leb, lt-leb, or-true-right}
+use Rattle.rows.proofs.Prelude.{take-append-drop, cond, eqb-false}
 use mathlib.Core.Bool.{and-assoc}
-use lib.Dec.{eqb·suc-zero}
-use native.Mathlib.Nat.{zero-add}
 use native.Mathlib.Numerals.{add-four}
 use Rattle.rows.specs.Rows.{Row, same, hasKey, allZero, every, some, distinctNumbers, rowsOf}
 use Rattle.rows.proofs.Zeros.{zeros-part}
 use Rattle.rows.proofs.Laws.{take-rest, some-append, from-row, isAt, some-place}
 use Rattle.rows.specs.declared.Found.{Found}
+use Rattle.rows.specs.declared.Found.the-variants.{At, Nothing}
 use Rattle.rows.specs.Contracts.{placeFrom}
 use Rattle.rules.specs.declared.Table.the-variants.{Creds}
 use Rattle.rules.specs.Tables.{rowsIn}
 use Rattle.rules.specs.Bits.{bits, be16}
+use Rattle.rules.specs.declared.Check.{Check}
+use Rattle.rules.specs.declared.Check.the-variants.{Pass, Refuse}
+use Rattle.rules.specs.declared.Resource.{Resource}
+use Rattle.rules.specs.declared.Sender.the-variants.{Unauthenticated, Partner}
 use Rattle.rules.specs.Record.{headerOf, sender, credential}
-use Rattle.rules.specs.Directory.{known}
-use Rattle.rules.specs.Checks.{verdict, isPass, badLength, noVerb, zeroBitSet, mismatch, unknownResource, noCredential}
-use Rattle.rules.specs.Groups.{headerChecks, senderChecks}
+use Rattle.rules.specs.Directory.{known, resourceOf}
+use Rattle.rules.specs.Permission.{connectionOf}
+use Rattle.rules.specs.Checks.{verdict, noRow, noCredential}
+use Rattle.rules.specs.Callers.{lacksRow}
+use Rattle.rules.specs.Groups.{senderChecks}
+use Rattle.rules.proofs.RecordLaws.{key-is}
+use Rattle.check_header.specs.Fields.{Has}
 use Rattle.rules.proofs.BitLaws.{bits-part, bits-small, bits-word, word-is}
 use Rattle.rules.proofs.Answers.{passed, long-enough}
 use Rattle.rules_waiting.specs.Slots.{seatOf, padded, slotOf, recordOf, roundBytes, roundOf, waiting, queueSize, slotSize}
 use Rattle.rules_waiting.specs.Terminal.{slotSound, queueSound}
-use Rattle.rules_waiting.proofs.SlotLaws.{is-pass}
+use Rattle.rules_waiting.proofs.SlotLaws.{short-record}
 use Rattle.rules.specs.Sizes.{credRowSize}
 
 -- the round's bytes: zeros, or 1 and a seat
@@ -92,35 +99,7 @@ take-again zero s = refl
 take-again (suc k) [] = refl
 take-again (suc k) (x ∷ s) = ap (λ (l : List ℕ). x ∷ l) (take-again k s)
 
--- ---- the checks of a record, each as whether it passes
-
-pass-more : (n : ℕ) (b : Bool) (es : List (ℕ × Bool)) → isPass (verdict ((n, b) ∷ es)) ≡ (not b && isPass (verdict es))
-unfolding verdict
-pass-more n true es = refl
-pass-more n false es = refl
-
-pass-last : (n : ℕ) (b : Bool) → isPass (verdict ((n, b) ∷ [])) ≡ not b
-unfolding verdict
-pass-last n true = refl
-pass-last n false = refl
-
-pass-append : (xs ys : List (ℕ × Bool)) → isPass (verdict (xs ++ ys)) ≡ (isPass (verdict xs) && isPass (verdict ys))
-unfolding verdict
-pass-append [] ys = refl
-pass-append ((n, true) ∷ xs) ys = refl
-pass-append ((n, false) ∷ xs) ys = pass-append xs ys
-
-zero-word : (x y : ℕ) → eqb (x * 256 + y) 0 ≡ (eqb x 0 && eqb y 0)
-zero-word zero y = ap (λ (n : ℕ). eqb n 0) (zero-add y)
-zero-word (suc x) y = ne-eqb (suc x * 256 + y) 0 (λ e. omega arith) ∙ rw (eqb·suc-zero x)
-
-pub bad-length : (r : List ℕ) → (ltb (length r) 4 || ltb 256 (length r)) ≡ true → false ≡ isPass (verdict (headerChecks (length r) (headerOf r)))
-unfolding badLength
-bad-length r e = sym (pass-more 2 _ _ ∙ rw e)
-
-pub read-fits : (r : List ℕ) → (ltb (length r) 4 || ltb 256 (length r)) ≡ false → 4 ≤ length r
-unfolding badLength
-read-fits r e = long-enough r e
+-- ---- the checks of a record
 
 -- the header's fields, as parts of its first 16 bits
 module _ (r : List ℕ) where
@@ -139,29 +118,39 @@ module _ (r : List ℕ) where
   zeros-is : bits r 10 6 ≡ word % 64
   zeros-is = bits-part r 0 10 6 16 (omega arith) ∙ omega arith
 
-  pub header-tested : (k : Bool) → (ltb (length r) 4 || ltb 256 (length r)) ≡ false → getD r 2 0 < 256 → getD r 3 0 < 256
-      → k ≡ known (word / 64 % 64)
-      → (let clear = eqb (word / 4096 % 2) 0 in
-      let unnamed = eqb (getD r 2 0) 0 && eqb (getD r 3 0) 0 in
-      not (ltb 4 (word / 8192)) && (not (not (eqb (word % 64) 0)) && (not ((clear && not unnamed) || (not clear && unnamed)) && not (not k))))
-      ≡ isPass (verdict (headerChecks (length r) (headerOf r)))
-  unfolding badLength noVerb zeroBitSet mismatch unknownResource
-  header-tested k l x y e =
-      sym (pass-more 2 _ _
-      ∙ rw (
-        l,
-        pass-more 3,
-        pass-more 4,
-        pass-more 5,
-        pass-last 6,
-        verb-is,
-        zeros-is,
-        connection-is,
-        resource-is,
-        bits-word r 2 x y,
-        zero-word (getD r 2 0) (getD r 3 0),
-        e,
-      ))
+  -- so the header has the fields that are looked at, where v is the word
+  module _ (v : ℕ) (is-word : v ≡ word) (l : 4 ≤ length r) (x : getD r 2 0 < 256) (y : getD r 3 0 < 256) where
+    pub has-fields : (k : ℕ) → k ≡ bits (take 2 (drop 2 r)) 0 16 → (e : Resource) → e ≡ resourceOf (v / 64 % 64)
+        → Has (headerOf r) (v / 8192) (v / 4096 % 2) (v % 64) k (e .known)
+    has-fields k number e is =
+        record {
+          verb-is = verb-is ∙ ap (λ (n : ℕ). n / 8192) (sym is-word);
+          connection-is = connection-is ∙ ap (λ (n : ℕ). n / 4096 % 2) (sym is-word);
+          zeros-are = zeros-is ∙ ap (λ (n : ℕ). n % 64) (sym is-word);
+          credential-is =
+              bits-word r 2 x y
+              ∙ sym (number ∙ rw (drop-cons r 2 0 (omega arith), drop-cons r 3 0 (omega arith)) (bits-word (getD r 2 0 ∷ getD r 3 0 ∷ []) 0 x y));
+          known-is = ap known (resource-is ∙ ap (λ (n : ℕ). n / 64 % 64) (sym is-word)) ∙ sym (ap (λ (z : Resource). z .known) is);
+        }
+
+    -- and the sender is the one of that connection
+    by-connection : sender r ≡ cond (eqb (v / 4096 % 2) 1) (Partner (bits r 16 16)) Unauthenticated
+    unfolding sender
+    by-connection = rw (le-leb 4 (length r) l, connection-is, is-word)
+
+    pub over : connectionOf (sender r) ≡ v / 4096 % 2
+    over = rw by-connection (bool-cases (eqb (v / 4096 % 2) 1)
+        (λ e. rw e (sym (eqb-true (v / 4096 % 2) 1 e)))
+        (λ e. rw e (omega (arith, eqb-false (v / 4096 % 2) 1 e))))
+
+    -- by a place that shows it of a partner
+    pub row-shown : (ws : List Row) (p : Found)
+        → (v / 4096 % 2 ≡ 1 → (n : ℕ) → take 2 (drop 2 r) ≡ be16 n → lacksRow (Partner n) p ≡ noRow ws (Partner n))
+        → lacksRow (sender r) p ≡ noCredential ws (headerOf r)
+    unfolding noCredential
+    row-shown ws p shows = rw by-connection (bool-cases (eqb (v / 4096 % 2) 1)
+        (λ e. rw e (shows (eqb-true (v / 4096 % 2) 1 e) (bits r 16 16) (sym (key-is r 2 l x y))))
+        (λ e. rw e))
 
 -- ---- the sender's row
 
@@ -184,53 +173,28 @@ module _ (n count : ℕ) (b key : List ℕ) (few : count ≡ min n 24) where
   searched p e =
       ap isAt e ∙ sym (some-place 0 (hasKey 0 key) (rowsOf credRowSize count b)) ∙ ap (λ (k : ℕ). some (hasKey 0 key) (rowsOf credRowSize k b)) few
 
-not-not : (b : Bool) → not (not b) ≡ b
-not-not true = refl
-not-not false = refl
-
--- nobody is looked for over connection 0
-pub clear-passes : (ws : List Row) (r : List ℕ) → bits r 0 16 / 4096 % 2 ≡ 0 → true ≡ not (noCredential ws (headerOf r))
-unfolding noCredential sender
-clear-passes ws r e = sym (rw (connection-is r, e, and-false))
-
--- over connection 1 the number that the record carries
-pub named-passes : (ws : List Row) (r : List ℕ) → (bits r 0 16 / 4096 % 2 ≡ 0 → ⊥) → 4 ≤ length r → getD r 2 0 < 256 → getD r 3 0 < 256
-    → some (hasKey 0 (take 2 (drop 2 r))) ws ≡ not (noCredential ws (headerOf r))
-unfolding noCredential sender
-named-passes ws r n l x y =
-    let one : bits r 0 16 / 4096 % 2 ≡ 1 = omega arith in
-    let key : take 2 (drop 2 r) ≡ be16 (bits r 16 16) = rw (drop-cons r 2 0 (omega arith), drop-cons r 3 0 (omega arith)) (sym (word-is r 2 x y)) in
-    rw (connection-is r, one, le-leb 4 (length r) l, not-not, key)
+-- what a place says of a partner's row
+pub lacks : (n : ℕ) (p : Found) → lacksRow (Partner n) p ≡ not (isAt p)
+lacks n (At i) = refl
+lacks n Nothing = refl
 
 -- what the checks of a slot's record say of it
-module _ (w r : List ℕ) (is : r ≡ recordOf w) where
-  abbrev header : Bool
-  header = isPass (verdict (headerChecks (length r) (headerOf r)))
+module _ (ws : List Row) (w r : List ℕ) (is : r ≡ recordOf w) (c : Check) (told : c ≡ verdict (senderChecks ws r)) where
+  pub fits : c ≡ Pass → (r ≡ take (length r) (drop 4 w)) × (4 ≤ length r) × (length r ≤ 256)
+  unfolding recordOf
+  fits e = (
+    is ∙ take-again (bits (drop 2 w) 0 16) (drop 4 w) ∙ ap (λ (l : List ℕ). take (length l) (drop 4 w)) (sym is),
+    long-enough r (passed (senderChecks ws r) (sym told ∙ e) 2),
+    short-record ws r (sym told ∙ e),
+  )
 
-  pub fits : header ≡ true → (r ≡ take (length r) (drop 4 w)) × (4 ≤ length r) × (length r ≤ 256)
-  unfolding recordOf badLength
-  fits h =
-      let few = passed (headerChecks (length r) (headerOf r)) (is-pass _ h) 2 in (
-        is ∙ take-again (bits (drop 2 w) 0 16) (drop 4 w) ∙ ap (λ (l : List ℕ). take (length l) (drop 4 w)) (sym is),
-        long-enough r few,
-        ltb-false 256 (length r) (or-right (ltb (length r) 4) (ltb 256 (length r)) few),
-      )
+  pub bad-record : (n : ℕ) → c ≡ Refuse n → false ≡ slotSound ws w
+  unfolding slotSound
+  bad-record n e = sym (rw (← is, ← told, e, and-false))
 
-  module _ (ws : List Row) where
-    both : isPass (verdict (senderChecks ws r)) ≡ (header && not (noCredential ws (headerOf r)))
-    both = pass-append (headerChecks (length r) (headerOf r)) ((7, noCredential ws (headerOf r)) ∷ []) ∙ rw (pass-last 7)
-
-    pub bad-header : header ≡ false → false ≡ slotSound ws w
-    unfolding slotSound
-    bad-header e = sym (rw (← is, both, e, and-false))
-
-    pub bad-sender : not (noCredential ws (headerOf r)) ≡ false → false ≡ slotSound ws w
-    unfolding slotSound
-    bad-sender e = sym (rw (← is, both, e, and-false, and-false))
-
-    pub kept-is : header ≡ true → not (noCredential ws (headerOf r)) ≡ true → (b : Bool) → b ≡ same w (slotOf r) → b ≡ slotSound ws w
-    unfolding slotSound
-    kept-is h f b s = s ∙ rw (← is, both, h, f, and-true)
+  pub kept-is : c ≡ Pass → (b : Bool) → b ≡ same w (slotOf r) → b ≡ slotSound ws w
+  unfolding slotSound
+  kept-is e b s = s ∙ rw (← is, ← told, e, and-true)
 
 -- ---- the memory
 
