@@ -42,9 +42,9 @@ ALLOWED = {
     "stateAllows state (SetRowOwner n)": "writeAllowed state rowOwnerWrite",
     "stateAllows state (SetOwner owned)": "writeAllowed state doxmWrite && (not (eqb state sreset) || eqb owned 1)",
     "stateAllows state (SetState target)": "writeAllowed state targetWrite",
-    "stateAllows state (Store k)": "writeAllowed state rowWrite",
-    "stateAllows state (Remove k key)": "writeAllowed state rowWrite",
-    "stateAllows state (Assert c)": "eqb state rfnop && eqb c 1",
+    "stateAllows state (Store table)": "writeAllowed state rowWrite",
+    "stateAllows state (Remove table key)": "writeAllowed state rowWrite",
+    "stateAllows state (Assert connection)": "eqb state rfnop && eqb connection 1",
 }
 
 
@@ -174,7 +174,7 @@ def calls_table():
     )
 
 
-OFFERED = "lookup v ((retrieve, true) ∷ (update, true) ∷ (delete, eqb n cred || eqb n acl2) ∷ (observe, true) ∷ []) false"
+OFFERED = "lookup verb ((retrieve, true) ∷ (update, true) ∷ (delete, eqb n cred || eqb n acl2) ∷ (observe, true) ∷ []) false"
 
 
 def directory_table():

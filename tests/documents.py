@@ -276,10 +276,10 @@ def tables_table():
 
 def waiting_offsets():
     """Of the memory: round, slots; of a slot: length, record."""
-    rounds = found("Slots", "roundOf", r"getD m (\d+) 0")
-    slots = found("Slots", "waiting", r"drop (\d+) m")
-    length = found("Slots", "recordOf", r"bits \(drop (\d+) w\) 0 16")
-    record = found("Slots", "recordOf", r"\(drop (\d+) w\)$")
+    rounds = found("Slots", "roundOf", r"getD queue (\d+) 0")
+    slots = found("Slots", "waiting", r"drop (\d+) queue")
+    length = found("Slots", "recordOf", r"bits \(drop (\d+) slot\) 0 16")
+    record = found("Slots", "recordOf", r"\(drop (\d+) slot\)$")
     return rounds, slots, length, record
 
 

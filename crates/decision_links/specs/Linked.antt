@@ -1,6 +1,5 @@
 -- The links by a caller that passed 1 to 7: each link goes through the checks after them, with no body and no buffer.
 -- Of a record's caller they are the record's: proofs/OwnForm.antt.
-use Prim.Native.Nat.{ℕ}
 use mathlib.Core.Bool.{Bool, cond}
 use mathlib.Core.List.{[], _++_}
 use lib.Count.{ones}
@@ -15,32 +14,33 @@ use Rattle.rules.specs.Checks.{verdict, isPass}
 use Rattle.rules.specs.Groups.{requestChecks, stateChecks}
 use Rattle.rules.specs.Decision.{granted}
 use Rattle.rules.specs.Links.{setOf, asksLinks}
+use Rattle.rules.specs.Types.{Clock, Permission, ResourceNumber, ResourceSet}
 
 -- the header with the resource n
-abbrev pub linkHeader : Header → ℕ → Header
-linkHeader h n = record {
-  verb = h .verb;
-  connection = h .connection;
+abbrev pub linkHeader : Header → ResourceNumber → Header
+linkHeader header n = record {
+  verb = header .verb;
+  connection = header .connection;
   resource = resourceOf n;
-  zeros = h .zeros;
-  credential = h .credential;
-  sender = h .sender;
+  zeros = header .zeros;
+  credential = header .credential;
+  sender = header .sender;
 }
 
 -- the same caller, for the resource n
-abbrev pub linked : Caller → ℕ → Caller
-linked k n = record { header = linkHeader (k .header) n; row = k .row }
+abbrev pub linked : Caller → ResourceNumber → Caller
+linked caller n = record { header = linkHeader (caller .header) n; row = caller .row }
 
 -- the link n passes with this permission: it asks to be served
-unfoldable pub linkPasses : Head → Header → ℕ → ℕ → Bool
-linkPasses h header p n = isPass (verdict (requestChecks p (linkHeader header n) Serve ++ stateChecks h Serve))
+unfoldable pub linkPasses : Head → Header → Permission → ResourceNumber → Bool
+linkPasses head header p n = isPass (verdict (requestChecks p (linkHeader header n) Serve ++ stateChecks head Serve))
 
 -- the link n is permitted
-unfoldable pub linkGranted : ℕ → Tables → Caller → ℕ → Bool
-linkGranted clock t k n = isPass (granted clock t (linked k n) [] 0 .check)
+unfoldable pub linkGranted : Clock → Tables → Caller → ResourceNumber → Bool
+linkGranted clock t caller n = isPass (granted clock t (linked caller n) [] 0 .check)
 
-unfoldable pub grantedSet : ℕ → Tables → Caller → ℕ
-grantedSet clock t k = cond (asksLinks (k .header)) (setOf (linkGranted clock t k) links) 0
+unfoldable pub grantedSet : Clock → Tables → Caller → ResourceSet
+grantedSet clock t caller = cond (asksLinks (caller .header)) (setOf (linkGranted clock t caller) links) 0
 
-abbrev pub grantedLinks : ℕ → Tables → Caller → Links
-grantedLinks clock t k = record { set = grantedSet clock t k; size = ones (grantedSet clock t k) }
+abbrev pub grantedLinks : Clock → Tables → Caller → Links
+grantedLinks clock t caller = record { set = grantedSet clock t caller; size = ones (grantedSet clock t caller) }

@@ -1,8 +1,7 @@
 -- What executing a record gives: its payload, and what is left of tables and buffer.
 -- A record is executed when it is decided and passed every check.
 use mathlib.Core.Path.{_≡_}
-use mathlib.Core.List.{List, []}
-use Prim.Native.Nat.{ℕ}
+use mathlib.Core.List.{[]}
 use Rattle.rules.specs.declared.Tables.{Tables}
 use Rattle.rules.specs.declared.Judgement.{Judgement}
 use Rattle.rules.specs.declared.Check.{Check}
@@ -20,6 +19,6 @@ payloadBy Pass header r = passedOn header (body r)
 payloadBy (Refuse n) header r = []
 
 -- of a request q beside tables t: what is said with the tables afterwards, and the lent buffer
-pub record Executes (d : Defaults) (t : Tables) (q : Request) (lent : List ℕ) (j : Judgement) (creds aces buffer : List ℕ) : Type 0 where
+pub record Executes (d : Defaults) (t : Tables) (q : Request) (lent : Bytes) (j : Judgement) (creds aces buffer : Bytes) : Type 0 where
   pub says : saidOf j creds aces ≡ judgementOf (outcome d t q)
   pub fills : buffer ≡ filled lent (responseTo d t q .contents)

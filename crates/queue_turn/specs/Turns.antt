@@ -1,5 +1,5 @@
 -- The coming take, as code finds it: the slot of the first seat in turn, and the record there by value.
-use Prim.Native.Nat.{ℕ, suc}
+use Prim.Native.Nat.{suc}
 use mathlib.Core.Bool.{cond}
 use mathlib.Core.List.{List, [], _∷_}
 use lib.ListN.{length}
@@ -11,20 +11,21 @@ use Rattle.rules_waiting.specs.Slots.{Seat, Round, anew, after, padded}
 use Rattle.rules_waiting.specs.Round.{nobody, held}
 use Rattle.rules_waiting.specs.Terminal.{Terminal, turn, due}
 use Rattle.queue_turn.specs.declared.Due.{Due}
+use Rattle.rules.specs.Types.{Index}
 
 abbrev pub orElse : Found → Found → Found
-orElse (At i) y = At i
-orElse Nothing y = y
+orElse (At i) other = At i
+orElse Nothing other = other
 
 -- the slot of the first of these seats in which a record waits
 unfoldable pub slotIn : List Row → List Seat → Found
-slotIn ws [] = Nothing
-slotIn ws (p ∷ ps) = orElse (placeOf (hasKey 0 p) ws) (slotIn ws ps)
+slotIn slots [] = Nothing
+slotIn slots (seat ∷ seats) = orElse (placeOf (hasKey 0 seat) slots) (slotIn slots seats)
 
 -- how many of the credential rows' seats stand before the one that is first in turn, where the unauthenticated seat comes after all of them
-unfoldable pub before : Round → List Seat → ℕ
-before anew ps = length ps
-before (after p) ps = cond (same p nobody) 0 (cond (held ps p) (suc (rowsBefore (same p) ps)) (length ps))
+unfoldable pub before : Round → List Seat → Index
+before anew seats = length seats
+before (after seat) seats = cond (same seat nobody) 0 (cond (held seats seat) (suc (rowsBefore (same seat) seats)) (length seats))
 
 -- the record whose turn it is
 abbrev pub dueOf : Terminal → Due

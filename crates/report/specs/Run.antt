@@ -1,65 +1,66 @@
 -- The text of a run: "A run, whole" of document 01, with the clocks of U8.
 -- The records are taken from the front of the input, one after the other, and each is judged on the tables that the one before left.
 use mathlib.Core.Bool.{Bool, cond}
-use mathlib.Core.List.{List, [], _++_}
+use mathlib.Core.List.{[], _++_}
 use Prim.Native.Nat.{ℕ, zero, suc, _+_}
 use lib.Dec.{eqb, ltb}
 use lib.ListN.{length, take, drop}
-use Rattle.text.specs.Text.{ascii, decimal}
+use Rattle.text.specs.Text.{Text, ascii, decimal}
 use Rattle.rules.specs.declared.Tables.{Tables}
 use Rattle.rules.specs.Bits.{bits}
 use Rattle.rules.specs.Record.{Request, received}
 use Rattle.rules.specs.Defaults.{noDefaults, fresh}
 use Rattle.rules.specs.Outcome.{responseTo, tablesAfter}
 use Rattle.rules.specs.Reading.{longestReply}
+use Rattle.rules.specs.Types.{Answer, Bytes, Clock, Number, Permission, Size, State}
 
-unfoldable pub header : List ℕ
+unfoldable pub header : Text
 header = ascii "n answer perm state\n"
 
 -- place of the record in the run, answer, permission and the state it leaves: decimals, a space between each two
-unfoldable pub line : ℕ → ℕ → ℕ → ℕ → List ℕ
+unfoldable pub line : Number → Answer → Permission → State → Text
 line place answer permission state =
     decimal place ++ ascii " " ++ decimal answer ++ ascii " " ++ decimal permission ++ ascii " " ++ decimal state ++ ascii "\n"
 
 -- each record is lent a buffer that fits any reply
-abbrev pub lent : ℕ → List ℕ → Request
+abbrev pub lent : Clock → Bytes → Request
 lent clock r = received clock r longestReply
 
 -- of a record that is judged on the tables t
-abbrev pub lineFor : Tables → ℕ → Request → List ℕ
+abbrev pub lineFor : Tables → Number → Request → Text
 lineFor t place q = line place (responseTo noDefaults t q .answer) (responseTo noDefaults t q .permission) (tablesAfter noDefaults t q .state)
 
-unfoldable pub cut : List ℕ
+unfoldable pub cut : Text
 cut = ascii "cut\n"
 
 -- the 32-bit clock that the input starts with (U8), the 16-bit length and the record after it, and the input after that
-abbrev pub clockOf : List ℕ → ℕ
-clockOf s = bits s 0 32
+abbrev pub clockOf : Bytes → Clock
+clockOf input = bits input 0 32
 
-abbrev pub lengthOf : List ℕ → ℕ
-lengthOf s = bits (drop 4 s) 0 16
+abbrev pub lengthOf : Bytes → Size
+lengthOf input = bits (drop 4 input) 0 16
 
-abbrev pub firstOf : List ℕ → Request
-firstOf s = lent (clockOf s) (take (lengthOf s) (drop 6 s))
+abbrev pub firstOf : Bytes → Request
+firstOf input = lent (clockOf input) (take (lengthOf input) (drop 6 input))
 
-abbrev pub restOf : List ℕ → List ℕ
-restOf s = drop (6 + lengthOf s) s
+abbrev pub restOf : Bytes → Bytes
+restOf input = drop (6 + lengthOf input) input
 
 -- a clock cut short or with no length after it, or a length whose record isn't all there
-abbrev pub isCut : List ℕ → Bool
-isCut s = ltb (length s) (6 + lengthOf s)
+abbrev pub isCut : Bytes → Bool
+isCut input = ltb (length input) (6 + lengthOf input)
 
--- the lines for the input s, in at most so many steps
-unfoldable pub linesFrom : ℕ → Tables → ℕ → List ℕ → List ℕ
-linesFrom zero t place s = []
-linesFrom (suc k) t place s =
-    cond (eqb (length s) 0) []
-    (cond (isCut s) cut
-    (lineFor t place (firstOf s) ++ linesFrom k (tablesAfter noDefaults t (firstOf s)) (place + 1) (restOf s)))
+-- the lines for this input, in at most this many steps
+unfoldable pub linesFrom : ℕ → Tables → Number → Bytes → Text
+linesFrom zero t place input = []
+linesFrom (suc steps) t place input =
+    cond (eqb (length input) 0) []
+    (cond (isCut input) cut
+    (lineFor t place (firstOf input) ++ linesFrom steps (tablesAfter noDefaults t (firstOf input)) (place + 1) (restOf input)))
 
 -- from fresh tables; a record takes at least six bytes, so as many steps as there are bytes are enough
-unfoldable pub lines : List ℕ → List ℕ
-lines s = linesFrom (length s) (fresh noDefaults) 1 s
+unfoldable pub lines : Bytes → Text
+lines input = linesFrom (length input) (fresh noDefaults) 1 input
 
-unfoldable pub runText : List ℕ → List ℕ
-runText s = header ++ lines s
+unfoldable pub runText : Bytes → Text
+runText input = header ++ lines input

@@ -1,6 +1,5 @@
 -- For contracts: who calls, as code finds it once for a record, and the checks 2 to 7 by what was found.
 -- Of a record they are its own: rules/proofs/CallerLaws.antt.
-use Prim.Native.Nat.{ℕ}
 use mathlib.Core.Bool.{Bool, true, false}
 use mathlib.Core.List.{List, [], _∷_, _++_}
 use Rattle.rows.specs.declared.Found.{Found}
@@ -16,18 +15,19 @@ use Rattle.rules.specs.Record.{headerOf, sender}
 use Rattle.rules.specs.Tables.{rows}
 use Rattle.rules.specs.Permission.{numbered}
 use Rattle.rules.specs.Groups.{headerChecks}
+use Rattle.rules.specs.Types.{Bytes, Checklist, Size}
 
--- the place of a sender's row among the credential rows ws; an unauthenticated sender has none
+-- the index of a sender's row among the credential rows; an unauthenticated sender has none
 abbrev pub placeFor : List Row → Sender → Found
-placeFor ws Unauthenticated = Nothing
-placeFor ws (Partner n) = placeOf (numbered n) ws
+placeFor creds Unauthenticated = Nothing
+placeFor creds (Partner n) = placeOf (numbered n) creds
 
-abbrev pub callerOf : List Row → List ℕ → Caller
-callerOf ws r = record { header = headerOf r; row = placeFor ws (sender r) }
+abbrev pub callerOf : List Row → Bytes → Caller
+callerOf creds r = record { header = headerOf r; row = placeFor creds (sender r) }
 
 -- the row at that place, or no bytes
 abbrev pub callerRow : Tables → Caller → Row
-callerRow t k = rowAt (k .row) (rows Creds t)
+callerRow t caller = rowAt (caller .row) (rows Creds t)
 
 -- check 7 by the place: a partner that has none
 abbrev pub lacksRow : Sender → Found → Bool
@@ -36,5 +36,5 @@ lacksRow (Partner n) (At i) = false
 lacksRow (Partner n) Nothing = true
 
 -- 2 to 7, of a record of this length
-abbrev pub callerChecks : ℕ → Caller → List (ℕ × Bool)
-callerChecks n k = headerChecks n (k .header) ++ (7, lacksRow (k .header .sender) (k .row)) ∷ []
+abbrev pub callerChecks : Size → Caller → Checklist
+callerChecks size caller = headerChecks size (caller .header) ++ (7, lacksRow (caller .header .sender) (caller .row)) ∷ []

@@ -1,6 +1,5 @@
 -- 'The others alone': the premise on the chosen senders, whose records the others' are, and what is compared of the tables.
 -- The chosen are any set of senders: of partners, and of the unauthenticated.
-use Prim.Native.Nat.{ℕ}
 use mathlib.Core.Path.{_≡_}
 use mathlib.Core.Bool.{Bool, true, false, not, _&&_, _||_, cond}
 use mathlib.Core.List.{map}
@@ -16,26 +15,27 @@ use Rattle.rules.specs.Bodies.{rowNumber, acePermission}
 use Rattle.rules.specs.Roles.{withoutRoles}
 use Rattle.rules.specs.Tables.{headOf, rows, withRows, sound}
 use Rattle.rules.specs.Permission.{C, U, D, has, senderRow, connectionOf, subjectIs, resourceFits, isOwner}
+use Rattle.rules.specs.Types.{Connection, Permission}
 
 -- create, update or delete
-abbrev pub alters : ℕ → Bool
+abbrev pub alters : Permission → Bool
 alters p = has p C || has p U || has p D
 
 -- the sender's credential row names the device owner or a row owner
 unfoldable pub namesOwner : Tables → Sender → Bool
-namesOwner t s = someSecurity (isOwner (headOf t) (senderRow t s))
+namesOwner t sender = someSecurity (isOwner (headOf t) (senderRow t sender))
 
 -- the access row gives create, update or delete on a security resource
 unfoldable pub rowAlters : Row → Bool
-rowAlters a = someSecurity (λ n. resourceFits (resourceOf n) a) && alters (acePermission a)
+rowAlters ace = someSecurity (λ n. resourceFits (resourceOf n) ace) && alters (acePermission ace)
 
 -- the access row may fit the sender: every role counts as a partner's (U11)
-unfoldable pub mayFit : Row → ℕ → Row → Bool
-mayFit w connection a = subjectIs (eqb connection 1) w connection a
+unfoldable pub mayFit : Row → Connection → Row → Bool
+mayFit cred connection ace = subjectIs (eqb connection 1) cred connection ace
 
 -- an access row that may fit the sender does
 unfoldable pub mayAlter : Tables → Sender → Bool
-mayAlter t s = some (λ a. mayFit (senderRow t s) (connectionOf s) a && rowAlters a) (rows Aces t)
+mayAlter t sender = some (λ ace. mayFit (senderRow t sender) (connectionOf sender) ace && rowAlters ace) (rows Aces t)
 
 -- where anybody is chosen: there is an owner, no chosen sender's credential row names one, and no
 -- access row that may fit a chosen sender gives create, update or delete on a security resource
@@ -56,7 +56,7 @@ isOthers chosen q = not (chosen (sender (q .bytes)))
 
 -- a credential row, without what its partner asserted where it is chosen
 unfoldable pub redacted : (Sender → Bool) → Row → Row
-redacted chosen w = cond (chosen (Partner (rowNumber w))) (withoutRoles w) w
+redacted chosen cred = cond (chosen (Partner (rowNumber cred))) (withoutRoles cred) cred
 
 -- the tables with such rows
 abbrev pub redactedIn : (Sender → Bool) → Tables → Tables

@@ -8,4 +8,4 @@ module _ {A : Type 0} where
   -- beside the first entry with this number, else `none`
   abbrev pub lookup : ℕ → List (ℕ × A) → A → A
   lookup n [] none = none
-  lookup n (e ∷ es) none = cond (eqb n (e .0)) (e .1) (lookup n es none)
+  lookup n (entry ∷ entries) none = cond (eqb n (entry .0)) (entry .1) (lookup n entries none)

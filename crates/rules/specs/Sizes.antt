@@ -1,26 +1,27 @@
 -- Sizes in bytes, a name for each: definitions, contracts and proofs cite them.
 -- The code's constants of the same names have the same values (CRED_BODY, CRED_PLACE, CRED_ROW, ACE_ROW).
-use Prim.Native.Nat.{ℕ, _+_, _*_}
+use Prim.Native.Nat.{_+_, _*_}
+use Rattle.rules.specs.Types.{Size}
 
 -- the longest body that stores a credential
-abbrev pub credBodySize : ℕ
+abbrev pub credBodySize : Size
 credBodySize = 23
 
 -- a place for an asserted role (U11); a credential row has two
-abbrev pub rolePlaceSize : ℕ
+abbrev pub rolePlaceSize : Size
 rolePlaceSize = 8
 
-abbrev pub rolePlaces : ℕ
+abbrev pub rolePlaces : Size
 rolePlaces = 2
 
 -- the places together
-abbrev pub rolesSize : ℕ
+abbrev pub rolesSize : Size
 rolesSize = rolePlaces * rolePlaceSize
 
 -- a credential row: the body, and the places
-abbrev pub credRowSize : ℕ
+abbrev pub credRowSize : Size
 credRowSize = credBodySize + rolesSize
 
 -- an access row, which is its longest body
-abbrev pub aceRowSize : ℕ
+abbrev pub aceRowSize : Size
 aceRowSize = 36

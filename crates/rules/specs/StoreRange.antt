@@ -1,6 +1,6 @@
 -- The places that a permitted DELETE leaves to store (U4): rows in front of the first one deleted stay where they are.
 -- They end with the last place that held a row. No other record has any, nor a DELETE of no row.
-use Prim.Native.Nat.{ℕ, _+_, _*_, _-_}
+use Prim.Native.Nat.{_+_, _*_, _-_}
 use mathlib.Core.Bool.{Bool, _&&_, cond}
 use mathlib.Core.List.{List, _++_}
 use lib.Dec.{eqb}
@@ -16,27 +16,28 @@ use Rattle.rules.specs.Kinds.{onRemove}
 use Rattle.rules.specs.Directory.{cred, acl2}
 use Rattle.rules.specs.Record.{delete, verb, resource}
 use Rattle.rules.specs.Tables.{rows}
+use Rattle.rules.specs.Types.{Bytes, Size}
 
 abbrev pub noRange : StoreRange
 noRange = record { first = 0; count = 0 }
 
 -- from the first row that goes to the last one held
 unfoldable pub gapOf : (Row → Bool) → List Row → StoreRange
-gapOf goes ws = cond (some goes ws) (record { first = rowsBefore goes ws; count = length ws - rowsBefore goes ws }) noRange
+gapOf goes rows = cond (some goes rows) (record { first = rowsBefore goes rows; count = length rows - rowsBefore goes rows }) noRange
 
 -- by the action, with the body b
-abbrev pub storeRangeOf : Tables → List ℕ → Action → StoreRange
-storeRangeOf t b = onRemove (λ k key. gapOf (goes key b) (rows k t)) noRange
+abbrev pub storeRangeOf : Tables → Bytes → Action → StoreRange
+storeRangeOf t b = onRemove (λ table key. gapOf (goes key b) (rows table t)) noRange
 
 -- ---- for theorems: whose places they are, and what storing them does
 
 -- DELETE of the resource that holds the table's rows
-unfoldable pub deletes : Table → List ℕ → Bool
+unfoldable pub deletes : Table → Bytes → Bool
 deletes Creds r = eqb (verb r) delete && eqb (resource r) cred
 deletes Aces r = eqb (verb r) delete && eqb (resource r) acl2
 
 -- the memory that wears, of rows of `stride` bytes: the old bytes, overwritten with the new ones at these places and nowhere else
-unfoldable pub overwritten : ℕ → StoreRange → List ℕ → List ℕ → List ℕ
-overwritten stride p old new =
-    take (p .first * stride) old
-    ++ (take (p .count * stride) (drop (p .first * stride) new) ++ drop ((p .first + p .count) * stride) old)
+unfoldable pub overwritten : Size → StoreRange → Bytes → Bytes → Bytes
+overwritten stride range old new =
+    take (range .first * stride) old
+    ++ (take (range .count * stride) (drop (range .first * stride) new) ++ drop ((range .first + range .count) * stride) old)

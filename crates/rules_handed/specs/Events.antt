@@ -1,6 +1,5 @@
 -- The records judged in a run: their order comes from the takes, their bytes from the hand-ins and from the queue at the start (U13).
 -- Of a take three numbers are used: the credential number of the sender whose turn it was, the clock, and the length of the reply buffer.
-use Prim.Native.Nat.{ℕ}
 use mathlib.Core.Bool.{Bool, false, not, _||_, cond}
 use mathlib.Core.List.{List, [], _∷_, _++_}
 use lib.Dec.{eqb}
@@ -9,6 +8,7 @@ use Rattle.rules.specs.Record.{Request, received, credential}
 use Rattle.rules.specs.Outcome.{Response}
 use Rattle.rules_waiting.specs.Terminal.{Transition, Terminal, directChecks, due, handInChecks, takeChecks}
 use Rattle.rules_waiting.specs.Inputs.{Input, handIn, takeAt, direct, collected, next}
+use Rattle.rules.specs.Types.{Bytes, Clock, Number, Size}
 use Rattle.rules.specs.Checks.{verdict}
 use Rattle.rules.specs.Defaults.{Defaults}
 use Rattle.rules.specs.declared.Check.{Check}
@@ -16,35 +16,35 @@ use Rattle.rules.specs.declared.Check.the-variants.{Pass, Refuse}
 
 pub data Event : Type 0 where
   -- this record was handed in, and answered with 0
-  enqueued : List ℕ → Event
+  enqueued : Bytes → Event
   -- a take that was not answered with 1 or 27: the credential number of the sender whose turn it was (0: unauthenticated
   -- senders), the clock, and the length of the reply buffer
-  dequeued : ℕ → ℕ → ℕ → Event
+  dequeued : Number → Clock → Size → Event
   -- this record was judged at once, and not answered with 1
   immediate : Request → Event
 
 -- the record carries this credential number
-unfoldable pub sentBy : ℕ → List ℕ → Bool
-sentBy n r = eqb (credential r) n
+unfoldable pub sentBy : Number → Bytes → Bool
+sentBy number r = eqb (credential r) number
 
 -- the first of the records that carries the number; no bytes where none does
-unfoldable pub newestOf : ℕ → List (List ℕ) → List ℕ
-newestOf n rs = firstRow (sentBy n) rs
+unfoldable pub newestOf : Number → List Bytes → Bytes
+newestOf number rs = firstRow (sentBy number) rs
 
 -- the requests judged, in order. The list holds the records of the queue at the start and those enqueued since, the newest first.
 -- A take judges the newest record of its sender, and then the list has none of that sender.
 -- A record that was dropped may stay in the list: its sender has no turn before it hands in again, and then the newer record is found.
-abbrev pub requests : List (List ℕ) → List Event → List Request
+abbrev pub requests : List Bytes → List Event → List Request
 requests rs [] = []
 requests rs (enqueued r ∷ es) = requests (r ∷ rs) es
-requests rs (dequeued n clock capacity ∷ es) = received clock (newestOf n rs) capacity ∷ requests (without (sentBy n) rs) es
+requests rs (dequeued number clock capacity ∷ es) = received clock (newestOf number rs) capacity ∷ requests (without (sentBy number) rs) es
 requests rs (immediate q ∷ es) = q ∷ requests rs es
 
 -- that list after these events
-abbrev pub recordsAfter : List (List ℕ) → List Event → List (List ℕ)
+abbrev pub recordsAfter : List Bytes → List Event → List Bytes
 recordsAfter rs [] = rs
 recordsAfter rs (enqueued r ∷ es) = recordsAfter (r ∷ rs) es
-recordsAfter rs (dequeued n clock capacity ∷ es) = recordsAfter (without (sentBy n) rs) es
+recordsAfter rs (dequeued number clock capacity ∷ es) = recordsAfter (without (sentBy number) rs) es
 recordsAfter rs (immediate q ∷ es) = recordsAfter rs es
 
 -- ---- what the answers of a run show
@@ -56,7 +56,7 @@ judges (takeAt clock capacity) a = not (eqb (a .response .answer) 1 || eqb (a .r
 judges (direct q) a = not (eqb (a .response .answer) 1)
 
 abbrev pub listIf : {A : Type 0} → Bool → A → List A
-listIf b y = cond b (y ∷ []) []
+listIf applies value = cond applies (value ∷ []) []
 
 -- of a record that a take handed out only its credential number
 abbrev pub eventOf : Input → Transition → List Event

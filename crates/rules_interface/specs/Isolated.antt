@@ -1,11 +1,12 @@
 -- What is said of isolation as three words, and the number that identifies the library.
 -- The tables are lent as five arrays (Memory).
 use Prim.Native.Nat.{ℕ, _+_, _*_}
-use mathlib.Core.List.{List, [], _∷_}
+use mathlib.Core.List.{[], _∷_}
 use Rattle.rules_isolation.specs.declared.IsolationReport.{IsolationReport}
+use Rattle.rules_interface.specs.Memory.{Words}
 
-abbrev pub reportWords : IsolationReport → List ℕ
-reportWords r = r .reason ∷ r .entry ∷ r .row ∷ []
+abbrev pub reportWords : IsolationReport → Words
+reportWords report = report .reason ∷ report .entry ∷ report .row ∷ []
 
 -- of the bytes of tables and waiting records; and of the C functions, 1,000 for each major version
 abbrev pub formatVersion : ℕ

@@ -9,19 +9,25 @@ use Rattle.rules.specs.declared.Head.{Head}
 use Rattle.rules.specs.Tables.{tablesOf, headOf}
 use Rattle.rules.specs.Words.{Lent, was, became}
 use Rattle.rules_waiting.specs.Terminal.{Terminal, terminal}
+use Rattle.rules.specs.Types.{Bytes}
+use Rattle.rules_waiting.specs.Slots.{Queue}
+
+-- numbers of 64 bits, as C gets them
+abbrev pub Words : Type 0
+Words = List ℕ
 
 -- `counts` are the four bytes before the owners: the state, whether there is an owner, and the rows held
 pub record Memory : Type 0 where
-  pub counts : List ℕ
-  pub devowner : List ℕ
-  pub rowners : List ℕ
-  pub creds : List ℕ
-  pub aces : List ℕ
-  pub queue : List ℕ
+  pub counts : Bytes
+  pub devowner : Bytes
+  pub rowners : Bytes
+  pub creds : Bytes
+  pub aces : Bytes
+  pub queue : Queue
 
 -- ---- read
 
-abbrev pub headAt : List ℕ → List ℕ → List ℕ → Head
+abbrev pub headAt : Bytes → Bytes → Bytes → Head
 headAt counts devowner rowners = record {
   state = getD counts 0 0;
   owned = getD counts 1 0;
@@ -31,16 +37,16 @@ headAt counts devowner rowners = record {
   rowners = rowners;
 }
 
-abbrev pub tablesAt : List ℕ → List ℕ → List ℕ → List ℕ → List ℕ → Tables
+abbrev pub tablesAt : Bytes → Bytes → Bytes → Bytes → Bytes → Tables
 tablesAt counts devowner rowners creds aces = tablesOf (headAt counts devowner rowners) creds aces
 
 abbrev pub terminalAt : Memory → Terminal
-terminalAt m = terminal (tablesAt (m .counts) (m .devowner) (m .rowners) (m .creds) (m .aces)) (m .queue)
+terminalAt memory = terminal (tablesAt (memory .counts) (memory .devowner) (memory .rowners) (memory .creds) (memory .aces)) (memory .queue)
 
 -- ---- written
 
-abbrev pub countsOf : Head → List ℕ
-countsOf h = h .state ∷ h .owned ∷ h .ncreds ∷ h .naces ∷ []
+abbrev pub countsOf : Head → Bytes
+countsOf head = head .state ∷ head .owned ∷ head .ncreds ∷ head .naces ∷ []
 
 abbrev pub memoryOf : Terminal → Memory
 memoryOf x = record {
@@ -53,13 +59,13 @@ memoryOf x = record {
 }
 
 -- the same tables, beside what waits now
-abbrev pub withQueue : Memory → List ℕ → Memory
-withQueue m queue = record {
-  counts = m .counts;
-  devowner = m .devowner;
-  rowners = m .rowners;
-  creds = m .creds;
-  aces = m .aces;
+abbrev pub withQueue : Memory → Queue → Memory
+withQueue memory queue = record {
+  counts = memory .counts;
+  devowner = memory .devowner;
+  rowners = memory .rowners;
+  creds = memory .creds;
+  aces = memory .aces;
   queue = queue;
 }
 

@@ -1,6 +1,6 @@
 -- The question: are the senders of a list isolated from all others? The answer is 'isolated', or the first reason why not.
 -- It is 'isolated' exactly where the tables are sound and the premise of 'The others alone' holds (proofs/Exact.antt).
-use Prim.Native.Nat.{ℕ, suc, _/_, _%_}
+use Prim.Native.Nat.{suc, _/_, _%_}
 use mathlib.Core.Bool.{Bool, true, false, not, _&&_, cond}
 use mathlib.Core.List.{List, [], _∷_}
 use lib.Dec.{eqb}
@@ -17,18 +17,19 @@ use Rattle.rules.specs.Isolation.{namesOwner, rowAlters, mayFit, mayAlter}
 use Rattle.rules_isolation.specs.declared.Isolation.{Isolation}
 use Rattle.rules_isolation.specs.declared.Isolation.the-variants.{Isolated, OddLength, Unsound, NoOwner, NamesOwner, MayAlter}
 use Rattle.rules_isolation.specs.declared.IsolationReport.{IsolationReport}
+use Rattle.rules.specs.Types.{Bytes, Connection, Number}
 
 -- ---- the list: two bytes for each sender, a credential number; 0 is the unauthenticated
 
-abbrev pub entries : List ℕ → List Row
+abbrev pub entries : Bytes → List Row
 entries list = rowsOf 2 (length list / 2) list
 
 unfoldable pub anonymous : Row → Bool
-anonymous e = eqb (rowNumber e) 0
+anonymous entry = eqb (rowNumber entry) 0
 
 -- the sender that an entry names
 unfoldable pub senderOf : Row → Sender
-senderOf e = cond (anonymous e) Unauthenticated (Partner (rowNumber e))
+senderOf entry = cond (anonymous entry) Unauthenticated (Partner (rowNumber entry))
 
 abbrev pub sameSender : Sender → Sender → Bool
 sameSender Unauthenticated Unauthenticated = true
@@ -37,37 +38,37 @@ sameSender (Partner m) Unauthenticated = false
 sameSender (Partner m) (Partner n) = eqb m n
 
 -- the list names the sender
-unfoldable pub chosenBy : List ℕ → Sender → Bool
-chosenBy list s = some (λ e. sameSender (senderOf e) s) (entries list)
+unfoldable pub chosenBy : Bytes → Sender → Bool
+chosenBy list sender = some (λ entry. sameSender (senderOf entry) sender) (entries list)
 
 -- ---- the reasons, in their order
 
-unfoldable pub oddLength : List ℕ → Bool
+unfoldable pub oddLength : Bytes → Bool
 oddLength list = eqb (length list % 2) 1
 
 -- somebody is named, and there is no owner; an empty list needs none
-unfoldable pub lacksOwner : Tables → List ℕ → Bool
+unfoldable pub lacksOwner : Tables → Bytes → Bool
 lacksOwner t list = not (eqb (length list) 0) && eqb (t .owned) 0
 
--- the access row may fit the sender with the credential row w, and gives create, update or delete on a security resource
-abbrev pub letsAlter : Row → ℕ → Row → Bool
-letsAlter w connection a = mayFit w connection a && rowAlters a
+-- the access row may fit the sender with this credential row, and gives create, update or delete on a security resource
+abbrev pub letsAlter : Row → Connection → Row → Bool
+letsAlter cred connection ace = mayFit cred connection ace && rowAlters ace
 
 -- the place of the sender's first such access row, from 1
-unfoldable pub alteringPlace : Tables → Sender → ℕ
-alteringPlace t s = suc (rowsBefore (letsAlter (senderRow t s) (connectionOf s)) (rows Aces t))
+unfoldable pub alteringPlace : Tables → Sender → Number
+alteringPlace t sender = suc (rowsBefore (letsAlter (senderRow t sender) (connectionOf sender)) (rows Aces t))
 
--- of the sender at entry i, where `rest` is the answer for the entries after it
-unfoldable pub entryAnswer : Tables → ℕ → Sender → Isolation → Isolation
-entryAnswer t i s rest = cond (namesOwner t s) (NamesOwner i) (cond (mayAlter t s) (MayAlter i (alteringPlace t s)) rest)
+-- of the sender at the entry with this number, if `rest` is the answer for the entries after it
+unfoldable pub entryAnswer : Tables → Number → Sender → Isolation → Isolation
+entryAnswer t number sender rest = cond (namesOwner t sender) (NamesOwner number) (cond (mayAlter t sender) (MayAlter number (alteringPlace t sender)) rest)
 
--- of the entries from i on
-unfoldable pub entriesAnswer : Tables → ℕ → List Row → Isolation
-entriesAnswer t i [] = Isolated
-entriesAnswer t i (e ∷ es) = entryAnswer t i (senderOf e) (entriesAnswer t (suc i) es)
+-- of the entries from this number on
+unfoldable pub entriesAnswer : Tables → Number → List Row → Isolation
+entriesAnswer t number [] = Isolated
+entriesAnswer t number (entry ∷ rest) = entryAnswer t number (senderOf entry) (entriesAnswer t (suc number) rest)
 
 -- of the list
-unfoldable pub isolationOf : Tables → List ℕ → Isolation
+unfoldable pub isolationOf : Tables → Bytes → Isolation
 isolationOf t list =
     cond (oddLength list) OddLength
     (cond (not (sound t)) Unsound

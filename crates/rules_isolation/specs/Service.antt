@@ -24,10 +24,11 @@ use Rattle.rules_waiting.specs.Terminal.{Terminal, Transition}
 use Rattle.rules_waiting.specs.Inputs.{Input, Turn, bytesOf, turnTold, othersTurn}
 use Rattle.rules_handed.specs.Events.{requests, recordsAfter, eventOf, toldOf}
 use Rattle.rules_handed.specs.Isolation.{requestsOf, allTold}
+use Rattle.rules.specs.Types.{Bytes}
 
 -- by the action, with the body b: an owner is set, the terminal is cleared, a credential row with a chosen partner's
 -- number is stored, or an access row that gives create, update or delete on a security resource
-abbrev pub endangers : (Sender → Bool) → List ℕ → Action → Bool
+abbrev pub endangers : (Sender → Bool) → Bytes → Action → Bool
 endangers chosen b Serve = false
 endangers chosen b Read = false
 endangers chosen b (SetRowOwner n) = true
@@ -35,30 +36,30 @@ endangers chosen b (SetOwner owned) = true
 endangers chosen b (SetState target) = eqb target reset
 endangers chosen b (Store Creds) = chosen (Partner (rowNumber (rowOf Creds b)))
 endangers chosen b (Store Aces) = rowAlters (rowOf Aces b)
-endangers chosen b (Remove k key) = false
-endangers chosen b (Assert c) = false
+endangers chosen b (Remove table key) = false
+endangers chosen b (Assert connection) = false
 endangers chosen b Malformed = false
 
 -- ---- a record that was judged, and several
 
 abbrev pub wasPermitted : Turn → Bool
-wasPermitted u = eqb (turnTold u .answer) 0
+wasPermitted turn = eqb (turnTold turn .answer) 0
 
 unfoldable pub endangering : (Sender → Bool) → Turn → Bool
-endangering chosen u = wasPermitted u && endangers chosen (body (bytesOf u)) (action (bytesOf u))
+endangering chosen turn = wasPermitted turn && endangers chosen (body (bytesOf turn)) (action (bytesOf turn))
 
 -- so much of it stands in the header: a permitted UPDATE of doxm, pstat, cred or acl2
 unfoldable pub updating : Turn → Bool
-updating u = wasPermitted u && eqb (verb (bytesOf u)) update && leb (resource (bytesOf u)) acl2
+updating turn = wasPermitted turn && eqb (verb (bytesOf turn)) update && leb (resource (bytesOf turn)) acl2
 
 -- some of these passes the test
 abbrev pub someTurn : (Turn → Bool) → List Turn → Bool
 someTurn passes [] = false
-someTurn passes (u ∷ us) = passes u || someTurn passes us
+someTurn passes (turn ∷ turns) = passes turn || someTurn passes turns
 
 -- somebody else endangers the chosen
 abbrev pub othersEndanger : (Sender → Bool) → List Turn → Bool
-othersEndanger chosen us = someTurn (endangering chosen) (kept (othersTurn chosen) us)
+othersEndanger chosen turns = someTurn (endangering chosen) (kept (othersTurn chosen) turns)
 
 -- ---- a run, of inputs and their answers. The bytes of the records are those of the hand-ins and of the queue at the start
 
@@ -73,8 +74,8 @@ abbrev pub turnsHanded : Terminal → List Input → List Transition → List Tu
 turnsHanded x is answers = paired (requestsOf x is answers) (allTold is answers)
 
 -- after each answer by which somebody else endangers the chosen, the tables are such (as: the question is answered 'isolated' again);
--- rs are the records that wait at the start
-abbrev pub Again : (Sender → Bool) → (Tables → Type 0) → List (List ℕ) → List Input → List Transition → Type 0
+-- `rs` are the records that wait at the start
+abbrev pub Again : (Sender → Bool) → (Tables → Type 0) → List Bytes → List Input → List Transition → Type 0
 Again chosen Such rs [] answers = Unit {0}
 Again chosen Such rs (i ∷ is) [] = Unit {0}
 Again chosen Such rs (i ∷ is) (a ∷ answers) =

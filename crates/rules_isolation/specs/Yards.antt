@@ -15,24 +15,25 @@ use Rattle.rules_waiting.specs.Inputs.{Input, Turn, bytesOf, requestOf, othersT
 use Rattle.rules_isolation.specs.declared.Isolation.the-variants.{Isolated}
 use Rattle.rules_isolation.specs.Question.{chosenBy, isolationOf}
 use Rattle.rules_isolation.specs.Service.{turnsHanded}
+use Rattle.rules.specs.Types.{Bytes}
 
 -- ---- the yards' senders
 
 -- the sender is of some yard
-abbrev pub ofYards : List (List ℕ) → Sender → Bool
-ofYards [] s = false
-ofYards (yard ∷ yards) s = chosenBy yard s || ofYards yards s
+abbrev pub ofYards : List Bytes → Sender → Bool
+ofYards [] sender = false
+ofYards (yard ∷ yards) sender = chosenBy yard sender || ofYards yards sender
 
 -- of some yard, and not of this one
-abbrev pub ofOtherYards : List (List ℕ) → List ℕ → Sender → Bool
-ofOtherYards yards yard s = ofYards yards s && not (chosenBy yard s)
+abbrev pub ofOtherYards : List Bytes → Bytes → Sender → Bool
+ofOtherYards yards yard sender = ofYards yards sender && not (chosenBy yard sender)
 
 -- nobody is of both
-abbrev pub Disjoint : List ℕ → List ℕ → Type 0
-Disjoint a b = (s : Sender) → chosenBy a s ≡ true → chosenBy b s ≡ false
+abbrev pub Disjoint : Bytes → Bytes → Type 0
+Disjoint a b = (sender : Sender) → chosenBy a sender ≡ true → chosenBy b sender ≡ false
 
 -- the question is answered 'isolated' for each yard
-abbrev pub AllIsolated : List (List ℕ) → Tables → Type 0
+abbrev pub AllIsolated : List Bytes → Tables → Type 0
 AllIsolated [] t = Unit {0}
 AllIsolated (yard ∷ yards) t = (isolationOf t yard ≡ Isolated) × AllIsolated yards t
 
@@ -45,11 +46,11 @@ bookTurns d t (q ∷ qs) = record { request = q; response = responseTo d t q } �
 
 -- the turns of these senders
 abbrev pub turnsOf : (Sender → Bool) → List Turn → List Turn
-turnsOf ours us = kept (λ u. ours (sender (bytesOf u))) us
+turnsOf ours turns = kept (λ turn. ours (sender (bytesOf turn))) turns
 
 -- the requests of all but these senders
 abbrev pub requestsWithout : (Sender → Bool) → List Turn → List Request
-requestsWithout theirs us = map requestOf (kept (othersTurn theirs) us)
+requestsWithout theirs turns = map requestOf (kept (othersTurn theirs) turns)
 
 -- of all that was judged from the tables t on, which ends with the tables `end`: what our senders sent and were told is what the book has
 -- that never saw a record of theirs, and so are the tables but for the roles that their partners asserted
@@ -64,7 +65,7 @@ module _ (d : Defaults) where
   AloneIn ours theirs x is answers end = Alone d ours theirs (x .tables) (turnsHanded x is answers) (end .tables)
 
   -- this yard, without those who are of the other yards alone
-  abbrev pub YardAlone : List (List ℕ) → List ℕ → Terminal → List Input → List Transition → Terminal → Type 0
+  abbrev pub YardAlone : List Bytes → List ℕ → Terminal → List Input → List Transition → Terminal → Type 0
   YardAlone yards yard = AloneIn (chosenBy yard) (ofOtherYards yards yard)
 
   -- each of two yards, without the other

@@ -14,65 +14,66 @@ use Rattle.rules.specs.Bodies.{everySecond}
 use Rattle.rules.specs.Tables.{capacity}
 use Rattle.rules.specs.Checks.{verdict}
 use Rattle.rules_legacy.specs.OldList.{oldSubject, oldPermission, oldSet, isAnybody, oldRows, badFile}
+use Rattle.rules.specs.Types.{Bytes, Checklist, Connection, Number, Size}
 
 -- ---- an access row without its number
 
 -- the subject's kind, the old permission, no wildcards, the old set, the subject, every second
-unfoldable pub entry : ℕ → List ℕ → Row → List ℕ
-entry kind subject o = (kind * 64 + oldPermission o * 2) ∷ 0 ∷ (oldSet o ++ (subject ++ everySecond))
+unfoldable pub entry : ℕ → Bytes → Row → Bytes
+entry kind subject old = (kind * 64 + oldPermission old * 2) ∷ 0 ∷ (oldSet old ++ (subject ++ everySecond))
 
-unfoldable pub uuidEntry : Row → List ℕ
-uuidEntry o = entry 0 (oldSubject o) o
+unfoldable pub uuidEntry : Row → Bytes
+uuidEntry old = entry 0 (oldSubject old) old
 
 -- a connection as a subject: in the last bit, with zeros before
-abbrev pub connectionSubject : ℕ → List ℕ
+abbrev pub connectionSubject : Connection → Bytes
 connectionSubject connection = replicate 15 0 ++ (connection ∷ [])
 
-unfoldable pub connectionEntry : ℕ → Row → List ℕ
-connectionEntry connection o = entry 2 (connectionSubject connection) o
+unfoldable pub connectionEntry : Connection → Row → Bytes
+connectionEntry connection old = entry 2 (connectionSubject connection) old
 
 -- ---- the rows made
 
 -- of an old row: "*" becomes two, auth-crypt first
-unfoldable pub entriesOf : Row → List (List ℕ)
-entriesOf o = cond (isAnybody o) (connectionEntry 1 o ∷ connectionEntry 0 o ∷ []) (uuidEntry o ∷ [])
+unfoldable pub entriesOf : Row → List Bytes
+entriesOf old = cond (isAnybody old) (connectionEntry 1 old ∷ connectionEntry 0 old ∷ []) (uuidEntry old ∷ [])
 
 -- of all, in their order
-unfoldable pub allEntries : List Row → List (List ℕ)
+unfoldable pub allEntries : List Row → List Bytes
 allEntries [] = []
-allEntries (o ∷ os) = entriesOf o ++ allEntries os
+allEntries (old ∷ olds) = entriesOf old ++ allEntries olds
 
--- numbered from i on
-unfoldable pub numberedFrom : ℕ → List (List ℕ) → List Row
-numberedFrom i [] = []
-numberedFrom i (e ∷ es) = (be16 i ++ e) ∷ numberedFrom (i + 1) es
+-- numbered from this number on
+unfoldable pub numberedFrom : Number → List Bytes → List Row
+numberedFrom number [] = []
+numberedFrom number (entry ∷ entries) = (be16 number ++ entry) ∷ numberedFrom (number + 1) entries
 
 -- of a file: numbered from 1
-unfoldable pub rowsMade : List ℕ → List Row
-rowsMade f = numberedFrom 1 (allEntries (oldRows f))
+unfoldable pub rowsMade : Bytes → List Row
+rowsMade file = numberedFrom 1 (allEntries (oldRows file))
 
 -- ---- the answer, and the bytes that are handed out
 
 -- more rows than an access list holds
-unfoldable pub tooManyRows : List ℕ → Bool
-tooManyRows f = ltb (capacity Aces) (length (rowsMade f))
+unfoldable pub tooManyRows : Bytes → Bool
+tooManyRows file = ltb (capacity Aces) (length (rowsMade file))
 
-unfoldable pub bufferTooShort : List ℕ → ℕ → Bool
-bufferTooShort f capacity = ltb capacity (length (joined (rowsMade f)))
+unfoldable pub bufferTooShort : Bytes → Size → Bool
+bufferTooShort file capacity = ltb capacity (length (joined (rowsMade file)))
 
-abbrev pub conversionChecks : List ℕ → ℕ → List (ℕ × Bool)
-conversionChecks f capacity = (23, badFile f) ∷ (24, tooManyRows f) ∷ (25, bufferTooShort f capacity) ∷ []
+abbrev pub conversionChecks : Bytes → Size → Checklist
+conversionChecks file capacity = (23, badFile file) ∷ (24, tooManyRows file) ∷ (25, bufferTooShort file capacity) ∷ []
 
-unfoldable pub conversionVerdict : List ℕ → ℕ → Check
-conversionVerdict f capacity = verdict (conversionChecks f capacity)
+unfoldable pub conversionVerdict : Bytes → Size → Check
+conversionVerdict file capacity = verdict (conversionChecks file capacity)
 
 -- the rows, or none after a refusal
-abbrev pub handedOut : List ℕ → Check → List ℕ
-handedOut f Pass = joined (rowsMade f)
-handedOut f (Refuse n) = []
+abbrev pub handedOut : Bytes → Check → Bytes
+handedOut file Pass = joined (rowsMade file)
+handedOut file (Refuse n) = []
 
-unfoldable pub conversionReply : List ℕ → ℕ → List ℕ
-conversionReply f capacity = handedOut f (conversionVerdict f capacity)
+unfoldable pub conversionReply : Bytes → Size → Bytes
+conversionReply file capacity = handedOut file (conversionVerdict file capacity)
 
 -- no check applies, and the rows are handed out
 pub record Converted (f : List ℕ) (capacity : ℕ) : Type 0 where

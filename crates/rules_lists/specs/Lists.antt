@@ -1,6 +1,6 @@
 -- The test of a list that the provisioning program writes (U10): a file of access rows of 36 bytes, one after the other.
 -- The size comes first; then row by row whether the row could be stored, and after it what the row gives.
-use Prim.Native.Nat.{ℕ, suc, _/_, _%_}
+use Prim.Native.Nat.{suc, _/_, _%_}
 use mathlib.Core.Bool.{Bool, not, _&&_, _||_}
 use mathlib.Core.List.{List, [], _∷_, _++_}
 use lib.Dec.{eqb, ltb}
@@ -14,44 +14,45 @@ use Rattle.rules.specs.Tables.{stride, capacity, storable}
 use Rattle.rules.specs.Checks.{refuseIf, verdict}
 use Rattle.rules.specs.Isolation.{rowAlters}
 use Rattle.rules_lists.specs.declared.Tested.{Tested}
+use Rattle.rules.specs.Types.{Answer, Bytes, Checklist, Number}
 
 -- the whole rows of a list
-abbrev pub listed : List ℕ → List Row
-listed b = rowsOf (stride Aces) (length b / stride Aces) b
+abbrev pub listed : Bytes → List Row
+listed list = rowsOf (stride Aces) (length list / stride Aces) list
 
 -- 19: no whole number of rows, or more than there is room for
-unfoldable pub badSize : List ℕ → Bool
-badSize b = not (eqb (length b % stride Aces) 0) || ltb (capacity Aces) (length b / stride Aces)
+unfoldable pub badSize : Bytes → Bool
+badSize list = not (eqb (length list % stride Aces) 0) || ltb (capacity Aces) (length list / stride Aces)
 
 -- 20: the row could not be stored, or repeats an earlier number
 unfoldable pub unfit : List Row → Row → Bool
-unfit earlier w = not (storable Aces w) || some (numberedAs w) earlier
+unfit earlier ace = not (storable Aces ace) || some (numberedAs ace) earlier
 
 -- 21: create, update or delete on a security resource, given to a role or a connection, for whatever period
 unfoldable pub excessive : Row → Bool
-excessive w = (eqb (aceKind w) 1 || eqb (aceKind w) 2) && rowAlters w
+excessive ace = (eqb (aceKind ace) 1 || eqb (aceKind ace) 2) && rowAlters ace
 
 -- the checks of a row, in their order
-abbrev pub rowChecks : List Row → Row → List (ℕ × Bool)
-rowChecks earlier w = (20, unfit earlier w) ∷ (21, excessive w) ∷ []
+abbrev pub rowChecks : List Row → Row → Checklist
+rowChecks earlier ace = (20, unfit earlier ace) ∷ (21, excessive ace) ∷ []
 
 -- ---- what is said
 
-abbrev pub said : ℕ → ℕ → Tested
+abbrev pub said : Answer → Number → Tested
 said answer row = record { answer = answer; row = row }
 
 abbrev pub accepted : Tested
 accepted = said 0 0
 
 -- a refusal names this row; where the row passes, the rest is said
-abbrev pub namedOr : Check → ℕ → Tested → Tested
+abbrev pub namedOr : Check → Number → Tested → Tested
 namedOr Pass row rest = rest
 namedOr (Refuse n) row rest = said n row
 
 -- of rows that stand behind the earlier ones; rows are counted from 1
 unfoldable pub rowsTested : List Row → List Row → Tested
 rowsTested earlier [] = accepted
-rowsTested earlier (w ∷ ws) = namedOr (verdict (rowChecks earlier w)) (suc (length earlier)) (rowsTested (earlier ++ (w ∷ [])) ws)
+rowsTested earlier (ace ∷ aces) = namedOr (verdict (rowChecks earlier ace)) (suc (length earlier)) (rowsTested (earlier ++ (ace ∷ [])) aces)
 
-unfoldable pub listTested : List ℕ → Tested
-listTested b = namedOr (refuseIf 19 (badSize b)) 0 (rowsTested [] (listed b))
+unfoldable pub listTested : Bytes → Tested
+listTested list = namedOr (refuseIf 19 (badSize list)) 0 (rowsTested [] (listed list))

@@ -6,7 +6,7 @@ use mathlib.Core.Bool.{Bool, true, false, cond, not, _&&_}
 use mathlib.Core.List.{List, [], _∷_, _++_, map}
 use lib.Dec.{eqb, ltb}
 use lib.ListN.{length}
-use Rattle.text.specs.Text.{ascii, decimal}
+use Rattle.text.specs.Text.{Text, ascii, decimal}
 use Rattle.rows.specs.Rows.{Row, joined, without}
 use Rattle.rules.specs.declared.Tables.{Tables}
 use Rattle.rules.specs.declared.Table.the-variants.{Aces}
@@ -19,74 +19,75 @@ use Rattle.rules.specs.Directory.{doxm, pstat, cred, acl2, roles, yard}
 use Rattle.rules.specs.Tables.{rows}
 use Rattle.rules.specs.Checks.{verdict}
 use Rattle.rules_waiting.specs.Terminal.{Terminal, soundTerminal}
+use Rattle.rules.specs.Types.{Bytes, Checklist, Index, ResourceNumber, Size, Uuid}
 
 -- ---- a UUID: lower case, 8-4-4-4-12
 
 -- 48 is 0 and 97 is a
 unfoldable pub hexDigit : ℕ → ℕ
-hexDigit d = cond (ltb d 10) (48 + d) (87 + d)
+hexDigit digit = cond (ltb digit 10) (48 + digit) (87 + digit)
 
--- a dash stands before byte i
-unfoldable pub dashed : ℕ → Bool
-dashed i = lookup i ((4, true) ∷ (6, true) ∷ (8, true) ∷ (10, true) ∷ []) false
+-- there is a dash before the byte at this index
+unfoldable pub dashed : Index → Bool
+dashed index = lookup index ((4, true) ∷ (6, true) ∷ (8, true) ∷ (10, true) ∷ []) false
 
-unfoldable pub dash : ℕ → List ℕ
-dash i = cond (dashed i) (ascii "-") []
+unfoldable pub dash : Index → Text
+dash index = cond (dashed index) (ascii "-") []
 
--- byte i of a UUID
-unfoldable pub hexByte : ℕ → ℕ → List ℕ
-hexByte i b = dash i ++ (hexDigit (b / 16) ∷ hexDigit (b % 16) ∷ [])
+-- the byte of a UUID at this index
+unfoldable pub hexByte : Index → ℕ → Text
+hexByte index byte = dash index ++ (hexDigit (byte / 16) ∷ hexDigit (byte % 16) ∷ [])
 
--- from byte i on
-abbrev pub uuidFrom : ℕ → List ℕ → List ℕ
-uuidFrom i [] = []
-uuidFrom i (b ∷ bs) = hexByte i b ++ uuidFrom (suc i) bs
+-- from this index on
+abbrev pub uuidFrom : Index → Bytes → Text
+uuidFrom index [] = []
+uuidFrom index (byte ∷ bytes) = hexByte index byte ++ uuidFrom (suc index) bytes
 
-unfoldable pub uuidText : List ℕ → List ℕ
-uuidText u = uuidFrom 0 u
+unfoldable pub uuidText : Uuid → Text
+uuidText uuid = uuidFrom 0 uuid
 
 -- ---- an array: a comma before each element but the first
 
-unfoldable pub comma : Bool → List ℕ
+unfoldable pub comma : Bool → Text
 comma first = cond first [] (ascii ",")
 
-abbrev pub separated : Bool → List (List ℕ) → List ℕ
+abbrev pub separated : Bool → List Text → Text
 separated first [] = []
-separated first (x ∷ xs) = (comma first ++ x) ++ separated false xs
+separated first (text ∷ texts) = (comma first ++ text) ++ separated false texts
 
 -- ---- a subject
 
-unfoldable pub uuidSubject : Row → List ℕ
-uuidSubject w = joined (ascii "{\"uuid\":\"" ∷ uuidText (aceSubject w) ∷ ascii "\"}" ∷ [])
+unfoldable pub uuidSubject : Row → Text
+uuidSubject ace = joined (ascii "{\"uuid\":\"" ∷ uuidText (aceSubject ace) ∷ ascii "\"}" ∷ [])
 
-unfoldable pub roleSubject : Row → List ℕ
-roleSubject w = joined (ascii "{\"authority\":\"" ∷ decimal (aceAuthority w) ∷ ascii "\",\"role\":\"" ∷ decimal (aceRole w) ∷ ascii "\"}" ∷ [])
+unfoldable pub roleSubject : Row → Text
+roleSubject ace = joined (ascii "{\"authority\":\"" ∷ decimal (aceAuthority ace) ∷ ascii "\",\"role\":\"" ∷ decimal (aceRole ace) ∷ ascii "\"}" ∷ [])
 
-unfoldable pub connectionSubject : Row → List ℕ
-connectionSubject w = cond (eqb (aceConnection w) 1) (ascii "{\"conntype\":\"auth-crypt\"}") (ascii "{\"conntype\":\"anon-clear\"}")
+unfoldable pub connectionSubject : Row → Text
+connectionSubject ace = cond (eqb (aceConnection ace) 1) (ascii "{\"conntype\":\"auth-crypt\"}") (ascii "{\"conntype\":\"anon-clear\"}")
 
-unfoldable pub subjectText : Row → List ℕ
-subjectText w = lookup (aceKind w) ((0, uuidSubject w) ∷ (1, roleSubject w) ∷ (2, connectionSubject w) ∷ []) []
+unfoldable pub subjectText : Row → Text
+subjectText ace = lookup (aceKind ace) ((0, uuidSubject ace) ∷ (1, roleSubject ace) ∷ (2, connectionSubject ace) ∷ []) []
 
 -- ---- resources: each known one by rising number, then the wildcards
 
-abbrev pub names : List (ℕ × String)
+abbrev pub names : List (ResourceNumber × String)
 names =
     (doxm, "/oic/sec/doxm") ∷ (pstat, "/oic/sec/pstat") ∷ (cred, "/oic/sec/cred") ∷ (acl2, "/oic/sec/acl2") ∷ (roles, "/oic/sec/roles")
     ∷ (8, "/weight") ∷ (9, "/tare") ∷ (10, "/zero") ∷ (11, "/ticket")
     ∷ (12, "/lamp") ∷ (13, "/calib") ∷ (14, "/display") ∷ (yard, "/yard")
     ∷ []
 
-unfoldable pub href : String → List ℕ
+unfoldable pub href : String → Text
 href name = joined (ascii "\"href\":\"" ∷ ascii name ∷ ascii "\"" ∷ [])
 
 -- what a row's resources may name
-unfoldable pub choices : List (List ℕ)
+unfoldable pub choices : List Text
 choices = map (λ e. href (e .1)) names ++ (ascii "\"wc\":\"+\"" ∷ ascii "\"wc\":\"-\"" ∷ ascii "\"wc\":\"*\"" ∷ [])
 
 -- which of them the row does name
 unfoldable pub chosen : Row → List Bool
-chosen w = map (λ e. inSet w (e .0)) names ++ (acePlus w ∷ aceMinus w ∷ aceStar w ∷ [])
+chosen ace = map (λ e. inSet ace (e .0)) names ++ (acePlus ace ∷ aceMinus ace ∷ aceStar ace ∷ [])
 
 -- the elements whose flag is set
 abbrev pub picked : {A : Type 0} → List Bool → List A → List A
@@ -94,59 +95,59 @@ picked [] xs = []
 picked (b ∷ bs) [] = []
 picked (b ∷ bs) (x ∷ xs) = cond b (x ∷ picked bs xs) (picked bs xs)
 
-unfoldable pub braced : List ℕ → List ℕ
-braced x = joined (ascii "{" ∷ x ∷ ascii "}" ∷ [])
+unfoldable pub braced : Text → Text
+braced text = joined (ascii "{" ∷ text ∷ ascii "}" ∷ [])
 
-unfoldable pub resourcesText : Row → List ℕ
-resourcesText w = separated true (map braced (picked (chosen w) choices))
+unfoldable pub resourcesText : Row → Text
+resourcesText ace = separated true (map braced (picked (chosen ace) choices))
 
 -- ---- a row, and the list
 
-unfoldable pub rowText : Row → List ℕ
-rowText w =
-    joined (ascii "{\"aceid\":" ∷ decimal (rowNumber w)
+unfoldable pub rowText : Row → Text
+rowText ace =
+    joined (ascii "{\"aceid\":" ∷ decimal (rowNumber ace)
     ∷ ascii ",\"subject\":"
-    ∷ subjectText w
+    ∷ subjectText ace
     ∷ ascii ",\"resources\":["
-    ∷ resourcesText w
+    ∷ resourcesText ace
     ∷ ascii "],\"permission\":"
-    ∷ decimal (acePermission w)
+    ∷ decimal (acePermission ace)
     ∷ ascii "}"
     ∷ [])
 
-unfoldable pub rowsText : List Row → List ℕ
-rowsText ws = separated true (map rowText ws)
+unfoldable pub rowsText : List Row → Text
+rowsText aces = separated true (map rowText aces)
 
-unfoldable pub listText : List Row → List ℕ
-listText ws = joined (ascii "{\"aclist2\":[" ∷ rowsText ws ∷ ascii "]}" ∷ [])
+unfoldable pub listText : List Row → Text
+listText aces = joined (ascii "{\"aclist2\":[" ∷ rowsText aces ∷ ascii "]}" ∷ [])
 
 -- the row holds for every second (U8)
 unfoldable pub always : Row → Bool
-always w = eqb (aceFirst w) 0 && eqb (aceLast w) 4294967295
+always ace = eqb (aceFirst ace) 0 && eqb (aceLast ace) 4294967295
 
 unfoldable pub seasonal : Row → Bool
-seasonal w = not (always w)
+seasonal ace = not (always ace)
 
 -- rows of a shorter period are left out
 abbrev pub rowsWritten : List Row → List Row
-rowsWritten ws = without seasonal ws
+rowsWritten aces = without seasonal aces
 
-abbrev pub officeText : Tables → List ℕ
+abbrev pub officeText : Tables → Text
 officeText t = listText (rowsWritten (rows Aces t))
 
 -- ---- the answer, the length and the lent buffer afterwards
 
 -- 17 covers what waits too, as check 1 does (U13)
-abbrev pub officeChecks : Terminal → ℕ → List (ℕ × Bool)
+abbrev pub officeChecks : Terminal → Size → Checklist
 officeChecks x capacity = (17, not (soundTerminal x)) ∷ (18, ltb capacity (length (officeText (x .tables)))) ∷ []
 
 -- the text that is given after a verdict
-abbrev pub given : Terminal → Check → List ℕ
+abbrev pub given : Terminal → Check → Text
 given x Pass = officeText (x .tables)
 given x (Refuse n) = []
 
-unfoldable pub officeVerdict : Terminal → ℕ → Check
+unfoldable pub officeVerdict : Terminal → Size → Check
 officeVerdict x capacity = verdict (officeChecks x capacity)
 
-unfoldable pub officeReply : Terminal → ℕ → List ℕ
+unfoldable pub officeReply : Terminal → Size → Text
 officeReply x capacity = given x (officeVerdict x capacity)

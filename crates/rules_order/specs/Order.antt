@@ -1,6 +1,5 @@
 -- Tables that differ only in the order of their access rows, and answers that are the same but for it (U14).
 -- A reply that lists the access rows is that to a RETRIEVE of acl2.
-use Prim.Native.Nat.{ℕ}
 use mathlib.Core.Path.{_≡_}
 use mathlib.Core.Bool.{Bool, true, false, _&&_}
 use mathlib.Core.List.{List, [], _∷_}
@@ -17,6 +16,7 @@ use Rattle.rules.specs.Outcome.{Response}
 use Rattle.rules_waiting.specs.Terminal.{Terminal, terminal, Transition, soundTerminal}
 use Rattle.rules_waiting.specs.Inputs.{Input, handIn, takeAt, direct}
 use Rattle.rules_order.specs.Reorder.{Reordered}
+use Rattle.rules.specs.Types.{Bytes}
 
 -- ---- tables
 
@@ -35,22 +35,22 @@ pub record InStep (x y : Terminal) : Type 0 where
 
 -- the terminal with these access rows
 abbrev pub withAccess : Terminal → List Row → Terminal
-withAccess x ws = terminal (withRows Aces (x .tables) ws) (x .queue)
+withAccess x aces = terminal (withRows Aces (x .tables) aces) (x .queue)
 
 -- ---- replies
 
 -- RETRIEVE of acl2
-unfoldable pub listsAccess : List ℕ → Bool
+unfoldable pub listsAccess : Bytes → Bool
 listsAccess r = eqb (verb r) retrieve && eqb (resource r) acl2
 
 -- equal in length, with the same row owner, and the same rows in another order
-pub record SameListed (x y : List ℕ) : Type 0 where
+pub record SameListed (x y : Bytes) : Type 0 where
   pub long : length x ≡ length y
   pub owner : ownerOfReply x ≡ ownerOfReply y
   pub listed : Reordered (rowsOfReply Aces x) (rowsOfReply Aces y)
 
 -- what is said of the record r: the same, but for the order of access rows that are listed, and for the places of acl2
-pub record SameBut (r : List ℕ) (x y : Response) : Type 0 where
+pub record SameBut (r : Bytes) (x y : Response) : Type 0 where
   pub answer : x .answer ≡ y .answer
   pub permission : x .permission ≡ y .permission
   pub payload : x .payload ≡ y .payload
@@ -62,7 +62,7 @@ pub record SameBut (r : List ℕ) (x y : Response) : Type 0 where
 -- ---- runs of hand-ins, takes and records that are judged at once
 
 -- the record that the answer to an input is about; a hand-in judges none
-abbrev pub judgedIn : Input → Transition → List ℕ
+abbrev pub judgedIn : Input → Transition → Bytes
 judgedIn (handIn r) a = []
 judgedIn (takeAt clock capacity) a = a .bytes
 judgedIn (direct q) a = q .bytes

@@ -1,22 +1,23 @@
 -- A machine that keeps its state in a store while the power is cut again and again, and runs of it without power cuts.
 -- Over any state, input and answer.
-use Prim.Native.Nat.{ℕ}
 use mathlib.Core.Path.{_≡_}
 use mathlib.Core.List.{List, [], _∷_}
 use lib.ListN.{length}
 use Rattle.rules_store.specs.declared.Step.the-variants.{Done}
 use Rattle.rules_store.specs.Store as store
-use Rattle.rules_store.specs.Store.{sizeFor, current}
+use Rattle.rules_store.specs.Store.{Address, Image, Store, sizeFor, current}
 use Rattle.rules_store.specs.Cuts.{Attempt}
+use Rattle.rules.specs.Types.{Size}
 use mathlib.Core.Bool.{Bool, false, true}
+use Prim.Native.Nat.{ℕ}
 
 -- what an input is answered and which state it leaves; how long an image is, the image of a state, the state in an image;
 -- and what a restart leaves of a state
 pub record Machine (State Input Answer : Type 0) : Type 1 where
   pub Gives : State → Input → Answer → State → Type 0
-  pub size : ℕ
-  pub image : State → List ℕ
-  pub load : List ℕ → State
+  pub size : Size
+  pub image : State → Image
+  pub load : Image → State
   pub restart : State → State
 
 -- what is seen of a day: an input and its answer; an input without one, since the power was cut; a power cut between two inputs
@@ -27,19 +28,19 @@ pub data Event (Input Answer : Type 0) : Type 0 where
 
 module _ {State Input Answer : Type 0} (m : Machine State Input Answer) where
   -- the state that a program finds in the store when the power comes on
-  unfoldable pub found : List ℕ → State
+  unfoldable pub found : Store → State
   found s = m .load (current (m .size) s)
 
   -- A day, from a state and a store to a state and a store. The image of the state that an input leaves is stored. Once that is done,
   -- the input is answered. Or the power is cut, with anything left in the part that is being written, and the program goes on with what it finds
-  pub data Day : State → List ℕ → List (Event Input Answer) → State → List ℕ → Type 0 where
-    ends : {x : State} {s : List ℕ} → Day x s [] x s
-    answers : {x y z : State} {s t end : List ℕ} {es : List (Event Input Answer)} (i : Input) (a : Answer) → m .Gives x i a y
-        → Attempt (m .image y) s t → (from : ℕ) → store.next t (m .image y) from ≡ Done
+  pub data Day : State → Store → List (Event Input Answer) → State → Store → Type 0 where
+    ends : {x : State} {s : Store} → Day x s [] x s
+    answers : {x y z : State} {s t end : Store} {es : List (Event Input Answer)} (i : Input) (a : Answer) → m .Gives x i a y
+        → Attempt (m .image y) s t → (from : Address) → store.next t (m .image y) from ≡ Done
         → Day y t es z end → Day x s (told i a ∷ es) z end
-    cuts : {x y z : State} {s t end : List ℕ} {es : List (Event Input Answer)} (i : Input) (a : Answer) → m .Gives x i a y
+    cuts : {x y z : State} {s t end : Store} {es : List (Event Input Answer)} (i : Input) (a : Answer) → m .Gives x i a y
         → Attempt (m .image y) s t → Day (found t) t es z end → Day x s (cut i ∷ es) z end
-    idles : {x z : State} {s end : List ℕ} {es : List (Event Input Answer)} → Day (found s) s es z end → Day x s (idle ∷ es) z end
+    idles : {x z : State} {s end : Store} {es : List (Event Input Answer)} → Day (found s) s es z end → Day x s (idle ∷ es) z end
 
   -- The same without a store. An input that was cut counts, or it is left out; and a restart leaves of the state what it does
   pub data Restarts : State → List (Event Input Answer) → State → Type 0 where
@@ -74,7 +75,7 @@ pub record AsRun {State Input Answer : Type 0} (m : Machine State Input Answer) 
   pub seen : SeenOf inputs replies es
 
 -- the state at hand, and a store that keeps it
-pub record Kept {State Input Answer : Type 0} (m : Machine State Input Answer) (Good : State → Type 0) (x : State) (s : List ℕ) : Type 0 where
+pub record Kept {State Input Answer : Type 0} (m : Machine State Input Answer) (Good : State → Type 0) (x : State) (s : Store) : Type 0 where
   pub fits : length s ≡ sizeFor (m .size)
   pub good : Good x
   pub finds : found m s ≡ m .restart x

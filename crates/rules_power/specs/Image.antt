@@ -1,42 +1,44 @@
 -- The image of a terminal: the bytes of the tables in the order of the struct, and with them the memory of waiting records.
 -- Every field is a byte or an array of bytes, so no image depends on padding or on the order of bytes.
-use Prim.Native.Nat.{ℕ, _+_}
+use Prim.Native.Nat.{_+_}
 use mathlib.Core.Path.{_≡_}
-use mathlib.Core.List.{List, _∷_, _++_}
+use mathlib.Core.List.{_∷_, _++_}
 use lib.ListN.{length, take, drop, getD}
 use Rattle.rules.specs.declared.Tables.{Tables}
 use Rattle.rules.specs.declared.Table.the-variants.{Creds, Aces}
 use Rattle.rules.specs.Tables.{tableSize}
 use Rattle.rules_waiting.specs.Slots.{queueSize}
 use Rattle.rules_waiting.specs.Terminal.{Terminal, terminal}
+use Rattle.rules.specs.Types.{Bytes, Offset, Size}
+use Rattle.rules_store.specs.Store.{Image}
 
 -- ---- written
 
-unfoldable pub tablesImage : Tables → List ℕ
+unfoldable pub tablesImage : Tables → Image
 tablesImage t = t .state ∷ t .owned ∷ t .ncreds ∷ t .naces ∷ (t .devowner ++ (t .rowners ++ (t .creds ++ t .aces)))
 
-unfoldable pub terminalImage : Terminal → List ℕ
+unfoldable pub terminalImage : Terminal → Image
 terminalImage x = tablesImage (x .tables) ++ x .queue
 
 -- where the rows of each table begin: behind four bytes, the device owner and four row owners
-abbrev pub credsAt : ℕ
+abbrev pub credsAt : Offset
 credsAt = 4 + 16 + 64
 
-abbrev pub acesAt : ℕ
+abbrev pub acesAt : Offset
 acesAt = credsAt + tableSize Creds
 
-abbrev pub tablesSize : ℕ
+abbrev pub tablesSize : Size
 tablesSize = acesAt + tableSize Aces
 
-abbrev pub terminalSize : ℕ
+abbrev pub terminalSize : Size
 terminalSize = tablesSize + queueSize
 
 -- ---- read
 
-unfoldable pub field : ℕ → ℕ → List ℕ → List ℕ
+unfoldable pub field : Size → Offset → Image → Bytes
 field size at bytes = take size (drop at bytes)
 
-unfoldable pub tablesIn : List ℕ → Tables
+unfoldable pub tablesIn : Image → Tables
 tablesIn bytes = record {
   state = getD bytes 0 0;
   owned = getD bytes 1 0;
@@ -48,7 +50,7 @@ tablesIn bytes = record {
   aces = field (tableSize Aces) acesAt bytes;
 }
 
-unfoldable pub terminalIn : List ℕ → Terminal
+unfoldable pub terminalIn : Image → Terminal
 terminalIn bytes = terminal (tablesIn bytes) (field queueSize tablesSize bytes)
 
 -- ---- the lengths of the struct's arrays

@@ -6,6 +6,7 @@ use mathlib.Core.List.{List, [], _∷_}
 use lib.ListN.{length}
 use Rattle.rules_store.specs.declared.Step.the-variants.{Write, Done}
 use Rattle.rules_store.specs.Store.{sizeFor, imageAt, marks, current, next}
+use Rattle.rows.specs.Types.{Bytes}
 use mathlib.Core.Bool.{true}
 use Rattle.rows.specs.Rows.{same, some}
 
@@ -25,11 +26,11 @@ pub data Attempt (new : List ℕ) : List ℕ → List ℕ → Type 0 where
 
 -- The history of a store from any content on: attempts, each of them done or cut. With it the images that a reader may find:
 -- the one that was done last, and those whose attempts were cut since
-pub data History (n : ℕ) : List ℕ → List (List ℕ) → Type 0 where
+pub data History (n : ℕ) : List ℕ → List Bytes → Type 0 where
   begins : (store : List ℕ) → length store ≡ sizeFor n → History n store (current n store ∷ [])
-  done : {store after : List ℕ} {images : List (List ℕ)} → History n store images → (new : List ℕ) → Attempt new store after
+  done : {store after : List ℕ} {images : List Bytes} → History n store images → (new : List ℕ) → Attempt new store after
       → (from : ℕ) → next after new from ≡ Done → History n after (new ∷ [])
-  cut : {store after : List ℕ} {images : List (List ℕ)} → History n store images → (new : List ℕ) → Attempt new store after
+  cut : {store after : List ℕ} {images : List Bytes} → History n store images → (new : List ℕ) → Attempt new store after
       → History n after (new ∷ images)
 
 -- a reader finds one of these images

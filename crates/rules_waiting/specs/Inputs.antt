@@ -16,11 +16,12 @@ use Rattle.rules.specs.Run.{final, kept}
 use Rattle.rules_waiting.specs.Slots.{recordOf, waiting}
 use Rattle.rules_waiting.specs.Round.{seats, orphaned}
 use Rattle.rules_waiting.specs.Terminal.{Terminal, Transition, handInChecks, handedIn, clears, takeChecks, turn, due, taken, directChecks, judged}
+use Rattle.rules.specs.Types.{Bytes, Clock, Size}
 
 -- a record is handed in; a take at a clock, with a reply buffer of a length; a record is judged at once
 pub data Input : Type 0 where
-  handIn : List ℕ → Input
-  takeAt : ℕ → ℕ → Input
+  handIn : Bytes → Input
+  takeAt : Clock → Size → Input
   direct : Request → Input
 
 abbrev pub transition : Defaults → Terminal → Input → Transition
@@ -68,17 +69,17 @@ abbrev pub allJudged : Defaults → Terminal → List Input → List Turn
 allJudged d = collected (next d) (judgedAt d)
 
 abbrev pub requestOf : Turn → Request
-requestOf u = u .request
+requestOf turn = turn .request
 
 abbrev pub turnTold : Turn → Response
-turnTold u = u .response
+turnTold turn = turn .response
 
-abbrev pub bytesOf : Turn → List ℕ
-bytesOf u = u .request .bytes
+abbrev pub bytesOf : Turn → Bytes
+bytesOf turn = turn .request .bytes
 
 -- the turn is one of the others'
 abbrev pub othersTurn : (Sender → Bool) → Turn → Bool
-othersTurn chosen u = not (chosen (sender (bytesOf u)))
+othersTurn chosen turn = not (chosen (sender (bytesOf turn)))
 
 -- no record is judged at once
 abbrev pub noneDirect : List Input → Bool
@@ -110,40 +111,40 @@ Undisturbed d x (i ∷ is) = (seats (next d x i .tables) ≡ seats (x .tables)) 
 -- ---- where records come from, and go
 
 -- the records that wait
-abbrev pub recordsIn : Terminal → List (List ℕ)
+abbrev pub recordsIn : Terminal → List Bytes
 recordsIn x = map recordOf (waiting (x .queue))
 
 -- the records handed in that are kept
-abbrev pub recordIf : List ℕ → Check → List (List ℕ)
+abbrev pub recordIf : Bytes → Check → List Bytes
 recordIf r Pass = r ∷ []
 recordIf r (Refuse n) = []
 
-abbrev pub keptAt : Defaults → Terminal → Input → List (List ℕ)
+abbrev pub keptAt : Defaults → Terminal → Input → List Bytes
 keptAt d x (handIn r) = recordIf r (verdict (handInChecks x r))
 keptAt d x (takeAt clock capacity) = []
 keptAt d x (direct q) = []
 
-abbrev pub allKept : Defaults → Terminal → List Input → List (List ℕ)
+abbrev pub allKept : Defaults → Terminal → List Input → List Bytes
 allKept d = collected (next d) (keptAt d)
 
 -- the waiting records that are dropped: with their credential rows, or all where the tables are cleared
-abbrev pub droppedBy : Defaults → Tables → Request → List Row → Check → List (List ℕ)
-droppedBy d t q ws Pass = map recordOf (cond (clears d t q) ws (kept (orphaned (seats (tablesAfter d t q))) ws))
-droppedBy d t q ws (Refuse n) = []
+abbrev pub droppedBy : Defaults → Tables → Request → List Row → Check → List Bytes
+droppedBy d t q slots Pass = map recordOf (cond (clears d t q) slots (kept (orphaned (seats (tablesAfter d t q))) slots))
+droppedBy d t q slots (Refuse n) = []
 
-abbrev pub droppedAt : Defaults → Terminal → Input → List (List ℕ)
+abbrev pub droppedAt : Defaults → Terminal → Input → List Bytes
 droppedAt d x (handIn r) = []
 droppedAt d x (takeAt clock capacity) =
     droppedBy d (x .tables) (received clock (due x) capacity) (without (hasKey 0 (turn x)) (waiting (x .queue))) (verdict (takeChecks x))
 droppedAt d x (direct q) = droppedBy d (x .tables) q (waiting (x .queue)) (verdict (directChecks x))
 
-abbrev pub allDropped : Defaults → Terminal → List Input → List (List ℕ)
+abbrev pub allDropped : Defaults → Terminal → List Input → List Bytes
 allDropped d = collected (next d) (droppedAt d)
 
 -- how many of the records pass a test
-unfoldable pub countOf : (List ℕ → Bool) → List (List ℕ) → ℕ
-countOf p [] = 0
-countOf p (r ∷ rs) = cond (p r) 1 0 + countOf p rs
+unfoldable pub countOf : (Bytes → Bool) → List Bytes → ℕ
+countOf passes [] = 0
+countOf passes (r ∷ rs) = cond (passes r) 1 0 + countOf passes rs
 
 -- of the records that pass a test, those taken, dropped and waiting at the end are as many as waited at the start and were kept
 abbrev pub Balance : (List ℕ → Bool) → Defaults → Terminal → List Input → Type 0

@@ -1,5 +1,5 @@
 -- Whose turn it is: takes go round from the unauthenticated seat through the credential rows, starting after the last seat taken.
-use Prim.Native.Nat.{ℕ, suc}
+use Prim.Native.Nat.{suc}
 use mathlib.Core.Bool.{Bool, true, false, not, _&&_, cond}
 use mathlib.Core.List.{List, [], _∷_, _++_, map}
 use lib.ListN.{take, drop}
@@ -9,57 +9,58 @@ use Rattle.rules.specs.declared.Table.the-variants.{Creds}
 use Rattle.rules.specs.Bits.{be16}
 use Rattle.rules.specs.Tables.{rowsIn, count, headOf}
 use Rattle.rules_waiting.specs.Slots.{Seat, Round, anew, after}
+use Rattle.rules.specs.Types.{Bytes, Index, Size}
 use lib.Dec.{eqb}
 
 -- unauthenticated senders share one
 abbrev pub nobody : Seat
 nobody = be16 0
 
--- the unauthenticated one, then one for each credential row, of n rows in these bytes
-abbrev pub seatsIn : ℕ → List ℕ → List Seat
-seatsIn n creds = nobody ∷ map (take 2) (rowsIn Creds n creds)
+-- the unauthenticated one, then one for each credential row, of this many rows in these bytes
+abbrev pub seatsIn : Size → Bytes → List Seat
+seatsIn count creds = nobody ∷ map (take 2) (rowsIn Creds count creds)
 
 unfoldable pub seats : Tables → List Seat
 seats t = seatsIn (t .ncreds) (t .creds)
 
 -- the seat is one of these
 unfoldable pub held : List Seat → Seat → Bool
-held ps p = some (same p) ps
+held seats seat = some (same seat) seats
 
 -- a record waits in the seat
 unfoldable pub occupied : List Row → Seat → Bool
-occupied ws p = some (hasKey 0 p) ws
+occupied slots seat = some (hasKey 0 seat) slots
 
 -- how many seats stand before the one that is first in turn; none where the round begins anew, or after a seat that is none of these
-unfoldable pub start : Round → List Seat → ℕ
-start anew ps = 0
-start (after p) ps = cond (held ps p) (suc (rowsBefore (same p) ps)) 0
+unfoldable pub start : Round → List Seat → Index
+start anew seats = 0
+start (after seat) seats = cond (held seats seat) (suc (rowsBefore (same seat) seats)) 0
 
 -- the seats from that one on, and then those before it
 unfoldable pub inTurn : Round → List Seat → List Seat
-inTurn k ps = drop (start k ps) ps ++ take (start k ps) ps
+inTurn round seats = drop (start round seats) seats ++ take (start round seats) seats
 
 -- the occupied seat that is first in turn, or no bytes
 unfoldable pub firstInTurn : Round → List Seat → List Row → Seat
-firstInTurn k ps ws = firstRow (occupied ws) (inTurn k ps)
+firstInTurn round seats slots = firstRow (occupied slots) (inTurn round seats)
 
 -- ---- when credential rows come and go
 
 -- the seats are the same: no credential row was added, and none removed
 unfoldable pub sameSeats : List Seat → List Seat → Bool
 sameSeats [] [] = true
-sameSeats [] (q ∷ qs) = false
-sameSeats (p ∷ ps) [] = false
-sameSeats (p ∷ ps) (q ∷ qs) = same p q && sameSeats ps qs
+sameSeats [] (other ∷ others) = false
+sameSeats (seat ∷ seats) [] = false
+sameSeats (seat ∷ seats) (other ∷ others) = same seat other && sameSeats seats others
 
 -- the slot's seat is none of these
 unfoldable pub orphaned : List Seat → Row → Bool
-orphaned ps w = not (held ps (take 2 w))
+orphaned seats slot = not (held seats (take 2 slot))
 
 -- the round begins anew where its seat is none of these
 abbrev pub heldRound : List Seat → Round → Round
-heldRound ps anew = anew
-heldRound ps (after p) = cond (held ps p) (after p) anew
+heldRound seats anew = anew
+heldRound seats (after seat) = cond (held seats seat) (after seat) anew
 
 -- as many credential rows as before
 unfoldable pub sameCount : Tables → Tables → Bool

@@ -1,5 +1,5 @@
 -- The terminal: the tables, and the memory of waiting records beside them. One soundness of both, for hand-ins, takes and records that are judged at once.
-use Prim.Native.Nat.{ℕ, _*_}
+use Prim.Native.Nat.{_*_, ℕ}
 use mathlib.Core.Path.{_≡_}
 use mathlib.Core.Bool.{Bool, false, not, _&&_, cond}
 use mathlib.Core.List.{List, [], _∷_, _++_}
@@ -21,32 +21,32 @@ use Rattle.rules.specs.Checks.{verdict, isPass}
 use Rattle.rules.specs.Groups.{senderChecks}
 use Rattle.rules.specs.Outcome.{Response, numberResponse, Said, responseTo, tablesAfter, judgementOf, saidOf}
 use Rattle.rules_waiting.specs.declared.Taken.{Taken}
-use Rattle.rules_waiting.specs.Slots.{Seat, Round, after, slotSize, queueCapacity, queueSize, seatOf, padded, slotOf}
-use Rattle.rules_waiting.specs.Slots.{recordOf, roundBytes, roundOf, waiting, queueOf, emptyQueue}
+use Rattle.rules_waiting.specs.Slots.{Queue, Seat, Round, after, slotSize, queueCapacity, queueSize, seatOf, padded, slotOf, recordOf, roundBytes, roundOf, waiting, queueOf, emptyQueue}
 use Rattle.rules_waiting.specs.Round.{seats, occupied, firstInTurn, sameSeats, orphaned, heldRound}
+use Rattle.rules.specs.Types.{Answer, Bytes, Checklist, Clock, Size}
 
 pub record Terminal : Type 0 where
   pub tables : Tables
-  pub queue : List ℕ
+  pub queue : Queue
 
-abbrev pub terminal : Tables → List ℕ → Terminal
-terminal t m = record { tables = t; queue = m }
+abbrev pub terminal : Tables → Queue → Terminal
+terminal t queue = record { tables = t; queue = queue }
 
 -- ---- soundness
 
--- beside the credential rows ws, the slot keeps a record that passes 2 to 7, in its sender's seat, with its length before it and zeros behind it
+-- the slot keeps a record that passes 2 to 7 with these credential rows, in its sender's seat, with its length before it and zeros after it
 unfoldable pub slotSound : List Row → Row → Bool
-slotSound ws w = same w (slotOf (recordOf w)) && isPass (verdict (senderChecks ws (recordOf w)))
+slotSound creds slot = same slot (slotOf (recordOf slot)) && isPass (verdict (senderChecks creds (recordOf slot)))
 
 -- memory of its length: few slots, a round's bytes, zeros after the slots, each slot sound, one for a seat
-unfoldable pub queueSound : List Row → List ℕ → Bool
-queueSound ws m =
-    eqb (length m) queueSize
-    && leb (getD m 0 0) queueCapacity
-    && same (take 3 (drop 1 m)) (roundBytes (roundOf m))
-    && allZero (drop (getD m 0 0 * slotSize) (drop 4 m))
-    && every (slotSound ws) (waiting m)
-    && distinctNumbers (waiting m)
+unfoldable pub queueSound : List Row → Queue → Bool
+queueSound creds queue =
+    eqb (length queue) queueSize
+    && leb (getD queue 0 0) queueCapacity
+    && same (take 3 (drop 1 queue)) (roundBytes (roundOf queue))
+    && allZero (drop (getD queue 0 0 * slotSize) (drop 4 queue))
+    && every (slotSound creds) (waiting queue)
+    && distinctNumbers (waiting queue)
 
 unfoldable pub soundTerminal : Terminal → Bool
 soundTerminal x = sound (x .tables) && queueSound (rows Creds (x .tables)) (x .queue)
@@ -62,29 +62,29 @@ clearedTerminal d x = freshTerminal d
 
 pub record Transition : Type 0 where
   -- the record that a take hands out; none otherwise
-  pub bytes : List ℕ
+  pub bytes : Bytes
   pub response : Response
   pub terminal : Terminal
 
 -- a number alone: of a refusal, and 0 of a record that is kept
-abbrev pub numberTransition : ℕ → Terminal → Transition
-numberTransition n x = record { bytes = []; response = numberResponse n; terminal = x }
+abbrev pub numberTransition : Answer → Terminal → Transition
+numberTransition answer x = record { bytes = []; response = numberResponse answer; terminal = x }
 
 -- ---- hand-in
 
 -- 1 to 7, and 26: the sender's seat is occupied
-abbrev pub handInChecks : Terminal → List ℕ → List (ℕ × Bool)
+abbrev pub handInChecks : Terminal → Bytes → Checklist
 handInChecks x r = (1, not (soundTerminal x)) ∷ senderChecks (rows Creds (x .tables)) r ++ (26, occupied (waiting (x .queue)) (seatOf r)) ∷ []
 
 -- the record waits in its sender's seat
-unfoldable pub withRecord : List ℕ → List ℕ → List ℕ
-withRecord r m = queueOf (roundOf m) (stored (slotOf r) (waiting m))
+unfoldable pub withRecord : Bytes → Queue → Queue
+withRecord r queue = queueOf (roundOf queue) (stored (slotOf r) (waiting queue))
 
-abbrev pub handInOf : Terminal → List ℕ → Check → Transition
+abbrev pub handInOf : Terminal → Bytes → Check → Transition
 handInOf x r Pass = numberTransition 0 (terminal (x .tables) (withRecord r (x .queue)))
 handInOf x r (Refuse n) = numberTransition n x
 
-unfoldable pub handedIn : Terminal → List ℕ → Transition
+unfoldable pub handedIn : Terminal → Bytes → Transition
 handedIn x r = handInOf x r (verdict (handInChecks x r))
 
 -- ---- what a judged record leaves of the queue
@@ -96,30 +96,29 @@ isReset = onMove (λ target. eqb target reset) false
 unfoldable pub clears : Defaults → Tables → Request → Bool
 clears d t q = eqb (responseTo d t q .answer) 0 && isReset (action (q .bytes))
 
--- the memory beside the tables that a record leaves, where k was the round and ws the slots: fresh tables hold no waiting record;
--- while no credential row is added or removed it stays; with a row its waiting record goes, and the round begins anew where its row goes or
--- was not held
-unfoldable pub queueAfter : Defaults → Tables → Request → Round → List Row → List ℕ
-queueAfter d t q k ws =
+-- the queue after a permitted record, from the round and the slots before it. RESET empties it. It is unchanged if no credential row
+-- was added or removed. Otherwise orphaned slots are dropped, and the round starts over if its seat is gone or was not valid before
+unfoldable pub queueAfter : Defaults → Tables → Request → Round → List Row → Queue
+queueAfter d t q round slots =
     let t′ = tablesAfter d t q in
     cond (clears d t q) emptyQueue
-    (cond (sameSeats (seats t) (seats t′)) (queueOf k ws)
-    (queueOf (heldRound (seats t′) (heldRound (seats t) k)) (without (orphaned (seats t′)) ws)))
+    (cond (sameSeats (seats t) (seats t′)) (queueOf round slots)
+    (queueOf (heldRound (seats t′) (heldRound (seats t) round)) (without (orphaned (seats t′)) slots)))
 
 abbrev pub terminalAfter : Defaults → Tables → Request → Round → List Row → Terminal
-terminalAfter d t q k ws = terminal (tablesAfter d t q) (queueAfter d t q k ws)
+terminalAfter d t q round slots = terminal (tablesAfter d t q) (queueAfter d t q round slots)
 
 -- ---- take
 
 -- 1, and 27: nothing waits
-abbrev pub takeChecks : Terminal → List (ℕ × Bool)
+abbrev pub takeChecks : Terminal → Checklist
 takeChecks x = (1, not (soundTerminal x)) ∷ (27, eqb (length (waiting (x .queue))) 0) ∷ []
 
 -- the seat whose turn it is, and the record that waits there
 unfoldable pub turn : Terminal → Seat
 turn x = firstInTurn (roundOf (x .queue)) (seats (x .tables)) (waiting (x .queue))
 
-unfoldable pub due : Terminal → List ℕ
+unfoldable pub due : Terminal → Bytes
 due x = recordOf (firstRow (hasKey 0 (turn x)) (waiting (x .queue)))
 
 -- the seat is emptied and the round moves on, whatever the record's answer
@@ -133,7 +132,7 @@ takeOf d x q Pass =
 takeOf d x q (Refuse n) = numberTransition n x
 
 -- at the take's clock, with a reply buffer of this length
-unfoldable pub taken : Defaults → Terminal → ℕ → ℕ → Transition
+unfoldable pub taken : Defaults → Terminal → Clock → Size → Transition
 taken d x clock capacity = takeOf d x (received clock (due x) capacity) (verdict (takeChecks x))
 
 -- a take that judges hands out the record due; its sender is told its outcome, and the tables are its outcome's
@@ -145,7 +144,7 @@ pub record OutcomeOfDue (d : Defaults) (x : Terminal) (clock capacity : ℕ) : T
 -- ---- a record that is judged at once
 
 -- 1; the others are those of the outcome
-abbrev pub directChecks : Terminal → List (ℕ × Bool)
+abbrev pub directChecks : Terminal → Checklist
 directChecks x = (1, not (soundTerminal x)) ∷ []
 
 abbrev pub directOf : Defaults → Terminal → Request → Check → Transition
@@ -163,12 +162,12 @@ said a = judgementOf (record { response = a .response; tables = a .terminal .tab
 -- of a take: with it the record, and zeros behind it
 pub record HandedOut : Type 0 where
   pub judgement : Said
-  pub size : ℕ
-  pub bytes : List ℕ
+  pub size : Size
+  pub bytes : Bytes
 
 abbrev pub handedOut : Transition → HandedOut
 handedOut a = record { judgement = said a; size = length (a .bytes); bytes = padded (a .bytes) }
 
 -- what code takes, and the bytes of the rows beside it
-abbrev pub takenOf : Taken → List ℕ → List ℕ → HandedOut
-takenOf u creds aces = record { judgement = saidOf (u .judgement) creds aces; size = u .size; bytes = u .bytes }
+abbrev pub takenOf : Taken → Bytes → Bytes → HandedOut
+takenOf taken creds aces = record { judgement = saidOf (taken .judgement) creds aces; size = taken .size; bytes = taken .bytes }

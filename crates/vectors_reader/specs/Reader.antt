@@ -1,26 +1,25 @@
 -- Tables as a file of test vectors has them: the fields of the head one after the other, then the rows of either kind.
 -- Rows stand after their length (16 bits), without the zeros after them. Any bytes are tables.
-use Prim.Native.Nat.{ℕ}
-use mathlib.Core.List.{List}
 use lib.ListN.{take, drop, getD, replicate}
 use Rattle.text.specs.Buffer.{written}
 use Rattle.rules.specs.declared.Tables.{Tables}
 use Rattle.rules.specs.Bits.{bits}
 use Rattle.rules.specs.declared.Table.the-variants.{Aces, Creds}
 use Rattle.rules.specs.Tables.{tableSize}
+use Rattle.rules.specs.Types.{Bytes, Size}
 
--- n bytes, of which the first are these
-abbrev pub padded : ℕ → List ℕ → List ℕ
-padded n bytes = written (replicate n 0) 0 bytes
+-- bytes of this size, of which the first are these
+abbrev pub padded : Size → Bytes → Bytes
+padded size bytes = written (replicate size 0) 0 bytes
 
 -- the length before the bytes, and so many of them
-abbrev pub counted : List ℕ → List ℕ
+abbrev pub counted : Bytes → Bytes
 counted bytes = take (bits bytes 0 16) (drop 2 bytes)
 
-abbrev pub afterCounted : List ℕ → List ℕ
+abbrev pub afterCounted : Bytes → Bytes
 afterCounted bytes = drop (bits bytes 0 16) (drop 2 bytes)
 
-abbrev pub tablesIn : List ℕ → Tables
+abbrev pub tablesIn : Bytes → Tables
 tablesIn bytes = record {
   state = getD bytes 0 0;
   owned = getD bytes 1 0;
