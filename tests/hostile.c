@@ -13,11 +13,12 @@
 #include "../examples/terminal/message.h"
 #include "tillerclover_records.h"
 
-/* What the one and the other does in turn. */
+/* What the one and the other does in turn. 0 to 7, 9 to 11, 17 and 18 are what no front says: each must be ended for it. */
 enum {
-    TURNS = 10
+    TURNS = 12
 };
-static const int CLEAR[TURNS] = {5, 6, 8, 9, 10, 11, 12, 13, 14, 15}, SECURE[TURNS] = {0, 1, 2, 3, 4, 5, 6, 7, 13, 14};
+static const int CLEAR[TURNS] = {5, 6, 8, 9, 10, 11, 12, 13, 14, 15, 16, 18};
+static const int SECURE[TURNS] = {0, 1, 2, 3, 4, 5, 6, 7, 13, 14, 16, 17};
 
 static void say(uint32_t kind, uint32_t number, const void *body, size_t length)
 {
@@ -31,6 +32,17 @@ static void say_record(bool crypt, unsigned sender, uint32_t ticket)
         tillerclover_record_of(TILLERCLOVER_RETRIEVE, crypt ? TILLERCLOVER_AUTH_CRYPT : TILLERCLOVER_ANON_CLEAR,
                                TILLERCLOVER_WEIGHT, sender, NULL, 0);
     say(MESSAGE_RECORD, ticket, r.bytes, r.length);
+}
+
+/* The owner's order to go to RFPRO, which would change the tables. A front may not say so for a sender that it cannot
+ * have. */
+static void say_order(bool crypt, unsigned sender)
+{
+    static const uint8_t RFPRO = 2 << 5;
+    tillerclover_record r =
+        tillerclover_record_of(TILLERCLOVER_UPDATE, crypt ? TILLERCLOVER_AUTH_CRYPT : TILLERCLOVER_ANON_CLEAR,
+                               TILLERCLOVER_PSTAT, sender, &RFPRO, 1);
+    say(MESSAGE_RECORD, 1, r.bytes, r.length);
 }
 
 static void misbehave(int kind, bool secure)
@@ -56,10 +68,10 @@ static void misbehave(int kind, bool secure)
         say(MESSAGE_RECORD, 1, bytes, TILLERCLOVER_RECORD_ROOM + 1);
         break;
     case 5:
-        say_record(!secure, secure ? 0 : 7, 1);
+        say_order(!secure, secure ? 0 : 5);
         break;
     case 6:
-        say_record(secure, secure ? 0 : 7, 1);
+        say_order(secure, secure ? 0 : 5);
         break;
     case 7:
         send(FRONT_SOCKET, bytes, sizeof bytes, 0);
@@ -88,6 +100,17 @@ static void misbehave(int kind, bool secure)
         for (int i = 0; i < 2000; i++) {
             send(FRONT_SOCKET, bytes + rand() % 1000, (size_t)(rand() % 300), MSG_DONTWAIT | MSG_NOSIGNAL);
         }
+        break;
+    case 16:
+        /* nothing at all, for longer than a front may */
+        poll(NULL, 0, 60000);
+        break;
+    case 17:
+        /* sessions that nobody asked it to end */
+        say(MESSAGE_ENDED, 7, NULL, 0);
+        break;
+    case 18:
+        say(MESSAGE_KEYS, 1, bytes, 2);
         break;
     default:
         exit(rand() % 3);

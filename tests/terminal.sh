@@ -3,15 +3,15 @@
 #
 #     tests/terminal.sh             all parts
 #     tests/terminal.sh PART..      some: starts, setup, yard, requests, turns, damage, noise, partners, kills, readme, and
-#                                   those of tests/attacks.sh: options, signals, sessions, subjects, spoofs, bursts, addresses, keys, locks,
-#                                   logs, clock, fronts, faults, fuzz, floods; and that of tests/device.sh: device
+#                                   those of tests/attacks.sh: options, signals, sessions, subjects, spoofs, bursts, addresses, stores, keys,
+#                                   locks, logs, clock, fronts, faults, fuzz, floods; and that of tests/device.sh: device
 #
 # INCLUDE and ARCHIVE name another header and archive of the library than the Makefile's. Exit status 1: a part failed.
 set -uo pipefail
 cd "$(dirname "$0")/.." || exit 2
 
 ALL=(starts setup yard requests turns damage noise partners kills readme
-    options signals sessions subjects spoofs bursts addresses keys locks logs clock fronts faults fuzz floods device)
+    options signals sessions subjects spoofs bursts addresses stores keys locks logs clock fronts faults fuzz floods device)
 # a part that is run by its name only
 LONG=(valgrind)
 work=$(mktemp -d) || exit 2

@@ -17,31 +17,45 @@
 #include "confine.h"
 #include "fail.h"
 
-/* The user and the group that own nothing, by the number that Linux itself gives to whom it does not know. */
-enum {
-    NOBODY = 65534
-};
-
-void confine_user(void)
-{
-    if (geteuid() == 0 &&
-        (setgroups(0, NULL) != 0 || setresgid(NOBODY, NOBODY, NOBODY) != 0 || setresuid(NOBODY, NOBODY, NOBODY) != 0)) {
-        fail("a front cannot become nobody: %s", strerror(errno));
-    }
-    /* A change of the user takes this back, so it comes last. */
-    prctl(PR_SET_PDEATHSIG, SIGKILL);
-}
-
 /* A bound that is lower already stays. */
 static void limit(int what, rlim_t most)
 {
     struct rlimit now;
     if (getrlimit(what, &now) != 0) {
-        fail("a front's bounds cannot be read: %s", strerror(errno));
+        fail("the bounds of a process cannot be read: %s", strerror(errno));
     }
     most = most < now.rlim_max ? most : now.rlim_max;
     if (setrlimit(what, &(struct rlimit){most, most}) != 0) {
-        fail("a front's bounds cannot be set: %s", strerror(errno));
+        fail("the bounds of a process cannot be set: %s", strerror(errno));
+    }
+}
+
+void confine_memory(void)
+{
+    limit(RLIMIT_CORE, 0);
+    if (prctl(PR_SET_DUMPABLE, 0, 0, 0, 0) != 0) {
+        fail("memory cannot be kept from other processes: %s", strerror(errno));
+    }
+}
+
+/* A user for each front of each core, out of the numbers that systemd gives to services that have none: whoever runs as
+ * nobody can neither end a front nor look into it, and one front not the other. */
+enum {
+    FIRST_USER = 61184,
+    CORES = 2168
+};
+
+void confine_user(bool secure)
+{
+    pid_t core = getppid();
+    uid_t own = FIRST_USER + 2 * ((uid_t)core % CORES) + secure;
+    if (geteuid() == 0 && (setgroups(0, NULL) != 0 || setresgid(own, own, own) != 0 || setresuid(own, own, own) != 0)) {
+        fail("a front cannot become a user of its own: %s", strerror(errno));
+    }
+    /* A change of the user takes these back, so they come last. */
+    confine_memory();
+    if (prctl(PR_SET_PDEATHSIG, SIGKILL) != 0 || getppid() != core) {
+        fail("a front without the program that started it");
     }
 }
 
@@ -54,6 +68,14 @@ static void filter(void)
 enum {
     MEMORY = 256 << 20
 };
+
+#if defined __x86_64__
+#define ARCHITECTURE AUDIT_ARCH_X86_64
+#elif defined __aarch64__
+#define ARCHITECTURE AUDIT_ARCH_AARCH64
+#else
+#error "the filter of system calls is not written for this processor"
+#endif
 
 #define ALLOW(call) BPF_JUMP(BPF_JMP | BPF_JEQ | BPF_K, SYS_##call, 0, 1), BPF_STMT(BPF_RET | BPF_K, SECCOMP_RET_ALLOW)
 
@@ -69,7 +91,7 @@ static void filter(void)
 {
     struct sock_filter steps[] = {
         BPF_STMT(BPF_LD | BPF_W | BPF_ABS, offsetof(struct seccomp_data, arch)),
-        BPF_JUMP(BPF_JMP | BPF_JEQ | BPF_K, AUDIT_ARCH_X86_64, 1, 0),
+        BPF_JUMP(BPF_JMP | BPF_JEQ | BPF_K, ARCHITECTURE, 1, 0),
         BPF_STMT(BPF_RET | BPF_K, SECCOMP_RET_KILL_PROCESS),
         BPF_STMT(BPF_LD | BPF_W | BPF_ABS, offsetof(struct seccomp_data, nr)),
         ALLOW(recvmsg),
@@ -79,8 +101,14 @@ static void filter(void)
         ALLOW(read),
         ALLOW(write),
         ALLOW(close),
+#ifdef SYS_poll
         ALLOW(poll),
         ALLOW(epoll_wait),
+#else
+        /* by which newer processors' C libraries do the same */
+        ALLOW(ppoll),
+        ALLOW(epoll_pwait),
+#endif
         ALLOW(epoll_ctl),
         ALLOW(timerfd_settime),
         ALLOW(clock_gettime),
@@ -118,8 +146,6 @@ static void filter(void)
 
 void confine_process(void)
 {
-    prctl(PR_SET_DUMPABLE, 0);
-    limit(RLIMIT_CORE, 0);
     if (prctl(PR_SET_NO_NEW_PRIVS, 1, 0, 0, 0) != 0) {
         fail("a front cannot give up privileges: %s", strerror(errno));
     }

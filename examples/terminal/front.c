@@ -36,9 +36,12 @@ static void run(struct server *s)
 int front_main(const char *name, const char *address, const char *port)
 {
     static struct server s;
-    prctl(PR_SET_NAME, name);
-    confine_user();
-    server_open(&s, FRONT_SOCKET, strcmp(name, "secure") == 0, address, port);
+    bool secure = strcmp(name, "secure") == 0;
+    if (prctl(PR_SET_NAME, name) != 0) {
+        fail("a front cannot be named");
+    }
+    confine_user(secure);
+    server_open(&s, FRONT_SOCKET, secure, address, port);
     confine_process();
     if (!message_send(s.core, MESSAGE_ALIVE, 0, NULL, 0)) {
         fail("the program itself starts its fronts");

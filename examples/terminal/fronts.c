@@ -24,14 +24,18 @@
 #define FRONT_ENVIRONMENT ((char *[]){NULL})
 #endif
 
+/* Milliseconds after which a front that says nothing is ended: it says every second that it is at work. A test has no
+ * time for as many. */
+#ifndef FRONT_SILENCE
+#define FRONT_SILENCE 15000
+#endif
+
 /* Milliseconds. */
 enum {
     /* The pause before a start: doubled for each front that dies young */
     PAUSE_LEAST = 50,
     PAUSE_MOST = 800,
     OLD = 10000,
-    /* A front says every second that it is at work. */
-    SILENCE = 15000,
     /* The core looks after the fronts every second, unless it stands still itself, as before a slow disk. */
     STANDSTILL = 3000,
     /* until it listens, and until it has ended by itself */
@@ -180,7 +184,7 @@ int fronts_tend(struct fronts *f)
         struct front *front = &f->list[i];
         /* Then it is not the front that was silent. */
         front->heard = stood_still ? now : front->heard;
-        if (front->pid != 0 && now - front->heard > SILENCE) {
+        if (front->pid != 0 && now - front->heard > FRONT_SILENCE) {
             fronts_end(f, i, "is silent");
         }
         if (front->pid == 0 && now >= front->due && !launch(f, front)) {
