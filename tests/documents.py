@@ -2,7 +2,7 @@
 """Compares the documents with the sources. Exit status 1: a line for each thing that is not as it is said.
 
     tests/documents.py            compares
-    tests/documents.py --write    first makes the pictures and tables of docs/PICTURES.md, ANSWERS.md and SECURITY-MODEL.md anew
+    tests/documents.py --write    first makes the pictures and tables of docs/PICTURES.md, ANSWERS.md and SECURITY-MODEL.md anew, and RULES.md
 
 ARCHITECTURE.md the layers with crates.txt; what must be believed with what the contracts cite
 PROOFS.md       each theorem that its tables name is exported with a statement by a file named, and that statement's names are defined in
@@ -14,6 +14,7 @@ README.md, ARCHITECTURE.md, INTEGRATION.md, SECURITY.md, CHANGELOG.md, SECURITY-
 CHANGELOG.md    its first heading is the interface's version, and it names the format's; the lengths of tables, rows and waiting records are today's
 MUST-FAIL.md    each edit has a row, and each row its edit; the rows of two edits or more name each entry point
 PICTURES.md     the pictures with those made from the definitions
+RULES.md        the page with the one made from the typed definitions and docs/trace.txt (tests/rules.py)
 ANSWERS.md      the tables with those made from the header, the words of names.rs and the definitions; the columns
                 'usual cause' and 'what to do' are written by hand in the page, and kept
 tillerclover.h  offsets, lengths and shifts with the definitions; so the rules in short: moves, writes, endpoints
@@ -31,6 +32,7 @@ import sys
 
 sys.dont_write_bytecode = True
 from answers import ANSWERS, answers, check_header_rules, order_picture, sequence_picture, states_picture, writes_table  # noqa: E402
+from rules import renew_rules  # noqa: E402
 from sources import HEADER, Changed, asks, contracts, exports, faults, fault, found, functions_of, number, read, right_side, rows_of  # noqa: E402
 from statements import check_statements  # noqa: E402
 
@@ -686,6 +688,7 @@ def main(words):
         renew(PAGE, lambda page: pictures(), bool(words))
         renew(ANSWERS, answers, bool(words))
         renew(MODEL, lambda page: {"boundary": boundary_picture()}, bool(words))
+        renew_rules(bool(words))
     except Changed as changed:
         print(f"documents: {changed}")
         return 1

@@ -7,7 +7,7 @@ use mathlib.Core.List.{List, [], _∷_, map}
 use Rattle.rules.specs.declared.Tables.{Tables as ByteTables}
 use Rattle.rules.specs.declared.Sender.{Sender}
 use Rattle.rules.specs.Record.{Request as ByteRequest}
-use Rattle.rules.specs.Defaults.{Defaults, fresh}
+use Rattle.rules.specs.Defaults.{Defaults}
 use Rattle.rules.specs.Reading.{filled}
 use Rattle.rules.specs.Outcome.{Said, judgementOf, Response as ByteResponse}
 use Rattle.rules.specs.Run.{replies, final, Along, kept, keptOf}
@@ -16,7 +16,7 @@ use Rattle.rules_typed.specs.Lists.{Maybe, when}
 use Rattle.rules_typed.specs.Types.{Record, Tables, Response, Outcome}
 use Rattle.rules_typed.specs.Tables.{isBytes}
 use Rattle.rules_typed.specs.Writing.{replyBytes, written, writtenOutcome}
-use Rattle.rules_typed.specs.Reading.{tablesOf, readTables, readRecord}
+use Rattle.rules_typed.specs.Reading.{tablesOf, readTables, readRecord, readFresh}
 use Rattle.rules_typed.specs.Outcome.{outcome, respond, next}
 use Rattle.rules_typed.specs.Isolation.{Premise, isOthers, compared}
 use Rattle.rules_waiting.specs.Terminal.{Terminal, Transition, soundTerminal}
@@ -27,7 +27,7 @@ use Rattle.rules_handed.specs.Isolation.{requestsOf, allTold}
 
 -- the fresh tables of a build
 abbrev pub freshOf : Defaults → Tables
-freshOf d = tablesOf (fresh d)
+freshOf d = readFresh d
 
 -- the tables of a terminal; none also where the queue beside them is not sound
 unfoldable pub tablesIn : Terminal → Maybe Tables

@@ -159,7 +159,7 @@ module _ (c : List ℕ) (l : length c ≡ 23) where
         none-asserted,
       )
 
-  cred-body : isBytes c ≡ true → credHeld w ≡ (validCredential (credentialIn c []) && same (credentialBytes (credentialIn c [])) c)
+  pub cred-body : isBytes c ≡ true → credHeld w ≡ (validCredential (credentialIn c []) && same (credentialBytes (credentialIn c [])) c)
   cred-body h = unasserted-is c l ∙ cred-exact c h
 
 long-authority : (b : List ℕ) → length b ≡ 21 → length (withAuthority b) ≡ 23

@@ -9,7 +9,7 @@ use Rattle.rules.specs.declared.Sender.{Sender}
 use Rattle.rules.specs.Record.{Request as ByteRequest, sender}
 use Rattle.rules.specs.Bodies.{aceKind, aceSubject, aceConnection, aceStorable, subjectStorable}
 use Rattle.rules.specs.Tables.{headOf, rows}
-use Rattle.rules.specs.Defaults.{Defaults, fresh}
+use Rattle.rules.specs.Defaults.{Defaults}
 use Rattle.rules.specs.Permission.{senderRow, subjectIs, connectionOf as connectionBit, resourceFits as resourceFitsBytes, isOwner as isOwnerBytes}
 use Rattle.rules.specs.Permission.{has as hasBytes}
 use Rattle.rules.specs.Outcome.{responseTo, tablesAfter}
@@ -22,7 +22,7 @@ use Rattle.rules_typed.specs.Lists.{Maybe, any, when}
 use Rattle.rules_typed.specs.Types.{Credential, Tables, SecurityResource, Doxm, Pstat, Cred, Acl2, Roles, Security, Record}
 use Rattle.rules_typed.specs.Permission.{credentialOf, callerOf, resourceFits, isOwner, has}
 use Rattle.rules_typed.specs.Isolation.{namesOwner, mayFit, rowAlters, mayAlter, Harmless, Premise, isOthers}
-use Rattle.rules_typed.specs.Reading.{subjectOf, accessOf, tablesOf, readTables, readRecord}
+use Rattle.rules_typed.specs.Reading.{subjectOf, accessOf, tablesOf, readTables, readRecord, readFresh}
 use Rattle.rules_typed.specs.Outcome.{respond, next}
 use Rattle.rules_typed.specs.Struct.{Given, DefaultBytes, AllBytes, IsStruct}
 use Rattle.rules_typed.specs.Writing.{written}
@@ -100,7 +100,7 @@ premise-read chosen t i p s = harmless-read t (record { isSound = s; struct = i 
 
 module _ (d : Defaults) (e : DefaultBytes d) (chosen : Sender → Bool) where
   abbrev pub first : Tables
-  first = tablesOf (fresh d)
+  first = readFresh d
 
   abbrev pub others : List ByteRequest → List ByteRequest
   others qs = kept (isOthersBytes chosen) qs
@@ -130,10 +130,10 @@ module _ (d : Defaults) (e : DefaultBytes d) (chosen : Sender → Bool) where
   run-struct t i (q ∷ qs) h = run-struct (tablesAfter d t q) (struct-kept d e t i q (h .0)) qs (h .1)
 
   pub isolation-typed : (t : ByteTables) → IsStruct t → (qs : List ByteRequest) → AllBytes qs
-      → Along (next (tablesOf (fresh d))) (Premise chosen) (readTables t) (kept (isOthers chosen) (map readRecord qs))
+      → Along (next (readFresh d)) (Premise chosen) (readTables t) (kept (isOthers chosen) (map readRecord qs))
       → keptOf (isOthersBytes chosen) qs (replies (responseTo d) (tablesAfter d) t qs)
       ≡ map written
-      (replies (respond (tablesOf (fresh d))) (next (tablesOf (fresh d))) (readTables t) (kept (isOthers chosen) (map readRecord qs)))
+      (replies (respond (readFresh d)) (next (readFresh d)) (readTables t) (kept (isOthers chosen) (map readRecord qs)))
   isolation-typed t i qs h a =
       let bytes = kept-bytes qs h in
       let premise = premise-along t i (others qs) bytes (rw (others-read qs) a) in

@@ -29,6 +29,7 @@ pub mod OutcomeRead
 pub mod RowWritten
 pub mod AccessWritten
 pub mod SoundExact
+pub mod FreshRead
 pub mod Whole
 pub mod IsolationRead
 pub mod ComparedRead

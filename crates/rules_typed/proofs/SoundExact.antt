@@ -76,13 +76,13 @@ module _ {A : Type 0} (read : Row → A) (Q : Row → Type 0) (sameAs : A → A 
   distinct-read (w ∷ ws) q =
       ap₂ (λ (x y : Bool). not x && y) (any-read read Q (numberedAs w) (sameAs (read w)) (λ v k. e w v (q .0) k) ws (q .1)) (distinct-read ws (q .1))
 
-same-credential : (v w : Row) → Good credHeld v → Good credHeld w → sameCredential (credentialAs v) (credentialAs w) ≡ numberedAs v w
+pub same-credential : (v w : Row) → Good credHeld v → Good credHeld w → sameCredential (credentialAs v) (credentialAs w) ≡ numberedAs v w
 same-credential v w g h = sym (number-read w (h .1) (cred-long w h) v (g .1) (cred-long v g))
 
-same-access : (v w : Row) → Good aceStorable v → Good aceStorable w → sameAccess (accessOf v) (accessOf w) ≡ numberedAs v w
+pub same-access : (v w : Row) → Good aceStorable v → Good aceStorable w → sameAccess (accessOf v) (accessOf w) ≡ numberedAs v w
 same-access v w g h = sym (number-read w (h .1) (ace-long w h) v (g .1) (ace-long v g))
 
-good-each : (p : Row → Bool) (ws : List Row) → every p ws ≡ true → Each (λ w. isBytes w ≡ true) ws → Each (Good p) ws
+pub good-each : (p : Row → Bool) (ws : List Row) → every p ws ≡ true → Each (λ w. isBytes w ≡ true) ws → Each (Good p) ws
 unfolding every
 good-each p [] h q = tt
 good-each p (w ∷ ws) h q = ((and-left _ _ h, q .0), good-each p ws (and-right (p w) _ h) (q .1))

@@ -1,6 +1,6 @@
 -- Theorems: of tables of any content and any record of bytes, the outcome over bytes is the typed outcome, written;
 -- and so is a run of records, its responses and its last tables.
-use Rattle.rows.proofs.Prelude.{_≡_, refl, sym, ap, ap₂, _∙_, true, false, List, [], _∷_, map, ones, bool-cases}
+use Rattle.rows.proofs.Prelude.{_≡_, refl, sym, ap, ap₂, _∙_, true, false, List, [], _∷_, map, ones, bool-cases, subst}
 use Rattle.rules.specs.Defaults.{Defaults, fresh}
 use Rattle.rules_typed.specs.Types.{Tables, Record}
 use Rattle.rules.specs.declared.Tables.{Tables as ByteTables}
@@ -10,17 +10,18 @@ use Rattle.rules.specs.Outcome.{outcome as outcomeBytes, Outcome as ByteOutcome
 use Rattle.rules_typed.specs.Writing.{writtenOutcome, writtenLinks, writtenOr, written}
 use Rattle.rules_typed.specs.Outcome.{outcome, respond, next}
 use Rattle.rules_typed.specs.Lists.{none, just, when, Maybe}
-use Rattle.rules_typed.specs.Reading.{readRecord, tablesOf, readTables}
+use Rattle.rules_typed.specs.Reading.{readRecord, tablesOf, readTables, readFresh}
 use Rattle.rules.specs.Checks.{verdict as verdictBytes}
 use Rattle.rules_typed.specs.Checks.{verdict}
 use Rattle.rules.specs.Links.{setOf}
 use Rattle.rules_typed.specs.Struct.{DefaultBytes, Given, IsStruct, AllBytes}
 use Rattle.rules_typed.specs.Tables.{isBytes}
-use Rattle.rules_typed.proofs.OutcomeRead.{outcome-typed}
+use Rattle.rules_typed.proofs.OutcomeRead.{outcome-typed, Represents}
 use Rattle.rules_typed.proofs.TablesBack.{tables-back}
 use Rattle.rules_typed.proofs.StructKept.{given-kept}
 use Rattle.rules.specs.Run.{replies, final}
 use Rattle.rules_typed.proofs.SoundExact.{read-is}
+use Rattle.rules_typed.proofs.FreshRead.{fresh-read}
 
 -- bytes that are no tables get 1, and stay
 unsound-written : (d : Defaults) (fresh : Tables) (t : ByteTables) (q : ByteRequest) → soundBytes t ≡ false
@@ -30,12 +31,17 @@ unsound-written d fresh t q e = rw e
 
 module _ (d : Defaults) (e : DefaultBytes d) where
   abbrev first : Tables
-  first = tablesOf (fresh d)
+  first = readFresh d
+
+  typed-outcome : (t : ByteTables) → Given t → (q : ByteRequest) → isBytes (q .bytes) ≡ true
+      → Represents (outcomeBytes d t q) (outcome first (just (tablesOf t)) (readRecord q))
+  typed-outcome t g q h =
+      subst (λ (f : Tables). Represents (outcomeBytes d t q) (outcome f (just (tablesOf t)) (readRecord q))) (fresh-read d e) (outcome-typed d t g q h)
 
   sound-written : (t : ByteTables) → Given t → (q : ByteRequest) → isBytes (q .bytes) ≡ true
       → outcomeBytes d t q ≡ writtenOutcome t (outcome first (just (tablesOf t)) (readRecord q))
   sound-written t g q h =
-      let o = outcome-typed d t g q h in
+      let o = typed-outcome t g q h in
       ap₂ (λ (r : ByteResponse) (u : ByteTables). record { response = r; tables = u }) (o .response)
       (sym (tables-back (tablesAfter d t q) (given-kept d e t g q h)) ∙ ap (writtenOr t) (o .tables))
 
@@ -63,7 +69,7 @@ module _ (d : Defaults) (e : DefaultBytes d) where
       rw (read-is t i, read-is (tablesAfter d t q) (struct-kept t i q h))
       (bool-cases (soundBytes t)
       (λ s. let g : Given t = record { isSound = s; struct = i } in
-      rw (s, given-kept d e t g q h .isSound) (outcome-typed d t g q h .tables))
+      rw (s, given-kept d e t g q h .isSound) (typed-outcome t g q h .tables))
       (λ s. rw (s, tablesAfter, s)))
 
   -- ---- runs

@@ -1,11 +1,11 @@
 -- How bytes are read as typed values: fields by their places, zeros as none.
 -- A body, a row or tables are read as the value that their fields give, if that value, written, is these bytes.
-use Prim.Native.Nat.{ℕ, _+_, _*_}
+use Prim.Native.Nat.{ℕ, _+_, _*_, _/_, _%_}
 use mathlib.Core.Bool.{Bool, true, _&&_, cond}
 use mathlib.Core.List.{List, [], _∷_, map}
 use lib.Dec.{eqb}
 use lib.ListN.{length, take, drop}
-use Rattle.rows.specs.Rows.{Row, same, allZero, without as withoutRows}
+use Rattle.rows.specs.Rows.{Row, same, allZero, without as withoutRows, rowsOf}
 use Rattle.rules.specs.declared.Tables.{Tables as ByteTables}
 use Rattle.rules.specs.declared.Table.the-variants.{Creds, Aces}
 use Rattle.rules.specs.Lookup.{lookup}
@@ -18,8 +18,9 @@ use Rattle.rules_typed.specs.Types.{Bytes, Uuid, Verb, Create, Retrieve,
 use Rattle.rules_typed.specs.Types.{RFPRO, RFNOP, SRESET, Target, Reset, To, Role, Asserted, Credential, Access, RowOwners, Tables, Subject, IsUuid}
 use Rattle.rules_typed.specs.Types.{HasRole, IsConnection}
 use Rattle.rules_typed.specs.Directory.{numberOf, resourceOf}
-use Rattle.rules_typed.specs.Tables.{uuidOrNone, validCredential, validAccess, validAsserted, sound}
+use Rattle.rules_typed.specs.Tables.{uuidOrNone, validCredential, validAccess, validAsserted, sound, fresh}
 use Rattle.rules_typed.specs.Writing.{ownerBytes, targetBytes, credentialBytes, assertedBytes, accessBytes, writtenTables}
+use Rattle.rules.specs.Defaults.{Defaults}
 
 -- ---- numbers
 
@@ -139,6 +140,25 @@ sameTables t u =
 -- none: the bytes are no tables (check 1)
 unfoldable pub readTables : ByteTables → Maybe Tables
 readTables t = when (sound (tablesOf t) && sameTables (writtenTables (tablesOf t)) t) (tablesOf t)
+
+-- ---- the default lists of a build: rows in the form of their longest bodies (U5)
+
+abbrev pub followed : {A : Type 0} → Maybe A → Maybe (List A) → Maybe (List A)
+followed none xs = none
+followed (just x) none = none
+followed (just x) (just xs) = just (x ∷ xs)
+
+-- each row is read, or none
+unfoldable pub readAll : {A : Type 0} → (Bytes → Maybe A) → List Bytes → Maybe (List A)
+readAll read [] = just []
+readAll read (w ∷ ws) = followed (read w) (readAll read ws)
+
+-- whole rows of so many bytes
+unfoldable pub readRows : {A : Type 0} → ℕ → (Bytes → Maybe A) → Bytes → Maybe (List A)
+readRows size read b = cond (eqb (length b % size) 0) (readAll read (rowsOf size (length b / size) b)) none
+
+unfoldable pub readFresh : Defaults → Tables
+readFresh d = fresh (readRows 23 readCredential (d .creds)) (readRows 36 readAccess (d .aces))
 
 -- ---- a record: verb (3), connection (1), resource (6), zeros (6), credential number (16), body
 

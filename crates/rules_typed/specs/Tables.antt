@@ -92,9 +92,15 @@ abbrev pub freshTables : List Credential → List Access → Tables
 freshTables cs xs =
     record { state = RFOTM; owner = none; rowOwners = record { doxm = none; pstat = none; cred = none; acl2 = none }; credentials = cs; accesses = xs }
 
--- at most two rows, each one that a body could store, no number twice; any other list counts as none
-unfoldable pub defaultCredentials : List Credential → List Credential
-defaultCredentials cs = cond (leb (length cs) 2 && all validCredential cs && distinct sameCredential cs) cs []
+-- of a list of rows that bodies could store, none if there is another among them: a list with more than two rows
+-- or a number twice counts as none too
+abbrev pub defaultCredentials : Maybe (List Credential) → List Credential
+defaultCredentials none = []
+defaultCredentials (just cs) = cond (leb (length cs) 2 && distinct sameCredential cs) cs []
 
-unfoldable pub defaultAccesses : List Access → List Access
-defaultAccesses xs = cond (leb (length xs) 2 && all validAccess xs && distinct sameAccess xs) xs []
+abbrev pub defaultAccesses : Maybe (List Access) → List Access
+defaultAccesses none = []
+defaultAccesses (just xs) = cond (leb (length xs) 2 && distinct sameAccess xs) xs []
+
+abbrev pub fresh : Maybe (List Credential) → Maybe (List Access) → Tables
+fresh cs xs = freshTables (defaultCredentials cs) (defaultAccesses xs)
