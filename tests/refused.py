@@ -8,7 +8,8 @@ LOG is what the prover said to an edit, target/must-fail/CRATE/EDIT/.log. Exit s
     an error is of the edit's form: a name, a field, a constructor, a clause, a plain type or a number of arguments that does
     not fit, or a text that cannot be read;
     the first error is that a callee's `requires` is not met: what the function itself promises is not looked at there;
-    a function is proved that the edit names as refused, in a line 'refused: CRATE::FUNCTION..' of its comment.
+    a function is proved that the edit names as refused, in a line 'refused: CRATE::FUNCTION..' of its comment;
+    the edit adds a function whose contract does not say what its result is: the right body would then be refused too.
 """
 import os
 import re
@@ -53,14 +54,28 @@ def answers_a_callee(error):
     return any(still_open)
 
 
-def named(path):
-    """The functions that an edit names as refused."""
+def edit_of(path):
+    """The text of the edit that a log is of, or none."""
     place = re.search(r"target/must-fail/(\w+)/(\w+)/\.log$", path)
     edit = f"crates/{place.group(1)}/must-fail/{place.group(2)}.edit" if place else ""
     if not os.path.exists(edit):
-        return []
+        return ""
     with open(edit, encoding="utf-8") as file:
-        return [name for words in re.findall(r"^refused: (.*)$", file.read(), re.M) for name in words.split()]
+        return file.read()
+
+
+def named(edit):
+    """The functions that an edit names as refused."""
+    return [name for words in re.findall(r"^refused: (.*)$", edit, re.M) for name in words.split()]
+
+
+def loose(edit):
+    """The functions that an edit adds without an equation for their result, in which it stands on the left side alone."""
+    for line in re.findall(r"^new:.*\bfn .*$", edit, re.M):
+        for function in re.split(r"\bfn (?=\w+\W)", line)[1:]:
+            equation = re.search(r"ensures \{ λ (\w+)\. ⌜ \(*(?:now |after )?\1\b[^.≡]*≡ (.*?) ⌝ \}", function)
+            if not equation or re.search(rf"\b{equation.group(1)}\b", equation.group(2)):
+                yield re.match(r"\w+", function).group()
 
 
 def fault(path):
@@ -70,7 +85,10 @@ def fault(path):
     for line in lines:
         if FORM.search(line):
             return "is refused for its form", line
-    for function in named(path):
+    edit = edit_of(path)
+    for function in loose(edit):
+        return f"adds `{function}`, whose contract does not say what its result is", ""
+    for function in named(edit):
         if not any(re.match(rf"fn {function}: not proved$", line) for line in lines):
             return f"leaves {function} proved, or not proved for another", ""
     first = first_of(lines)
