@@ -2,17 +2,17 @@
  *
  * A program keeps a tillerclover_terminal: the tables and the records that wait. Each call changes it in place and gives a
  * small result. The functions are made of those of libterminal.a, which `rt staticlib terminal` writes to target/staticlib/
- * for x86-64, and targets/build.sh to target/lib/ for six processors. They take pointers, 64-bit lengths and scalars alone,
- * so they are called alike on every processor. The archive needs nothing but memcpy, memmove and memset.
+ * for x86-64, and targets/build.sh to target/lib/ for six processors. They take only pointers, 64-bit lengths and
+ * scalars, so they are called alike on every processor. The archive needs nothing but memcpy, memmove and memset.
  *
- * What a function returns, writes into a buffer and leaves in the terminal depends on its arguments alone. The functions keep
+ * What a function returns, writes into a buffer and leaves in the terminal depends only on its arguments. The functions keep
  * no state between calls, allocate nothing, do no input or output, never fail and always return. So any number of threads may
- * call them at once, each with a terminal and a buffer of its own. A caller that shares a terminal between threads holds a
+ * call them at the same time, each with a terminal and a buffer of its own. A caller that shares a terminal between threads holds a
  * lock during each call. A thread needs 8 KiB of free stack for a call; docs/BENCHMARKS.md has the measured depth.
  *
  * What may overlap. Bytes that a call only reads (record, default rows, list, file) may overlap each other. Bytes that it
  * writes (the terminal, the reply, the text, the rows) must overlap nothing else that the call is given, and nothing else may
- * read or write them during the call. So a record that lies in the terminal's own queue must be copied before it is handed to
+ * read or write them during the call. So a record that lies in the terminal's own queue must be copied before it is given to
  * a call, and a reply must not be written over the record.
  *
  * What must be there. A pointer with a length points to that many bytes, also where the library refuses the length: it may
@@ -22,8 +22,8 @@
  * A call may write a byte of the terminal with the value that it has. So keep the terminal in RAM, and store it as
  * tillerclover_store.h says, or in a file: memory that wears would wear with every record.
  *
- * A null pointer with length 0 stands for no bytes, as any pointer does with that length, and is neither read nor written
- * through; of the null one that is tried (tests/interface.c) and not proved. Elsewhere a null pointer is an error of the
+ * A null pointer with length 0 means no bytes, as any pointer does with that length, and is neither read nor written
+ * through; for null pointers that is tested (tests/interface.c) and not proved. Elsewhere a null pointer is an error of the
  * caller.
  */
 #ifndef TILLERCLOVER_H
@@ -63,7 +63,7 @@ extern "C" {
  * MINOR where something is added. FORMAT is the version of the bytes of tables, waiting records and stores. It is counted
  * apart: interfaces 1.0 and 2.0 both have format 1, so what a program stored through the one is good for the other. What was
  * stored in another FORMAT means other things, and is not to be handed to a function but tillerclover_clear. Keep FORMAT
- * beside the tables, as examples/terminal does. Both are of this header; whether the archive belongs to it says
+ * with the tables, as examples/terminal does. Both are of this header; whether the archive belongs to it says
  * tillerclover_identified of tillerclover_yards.h.
  */
 #define TILLERCLOVER_INTERFACE_MAJOR 2
@@ -168,7 +168,7 @@ enum tillerclover_subject {
     TILLERCLOVER_SUBJECT_CONNECTION = 2
 };
 
-/* What an access row reaches beside its set: no security resource, and of the others */
+/* What an access row reaches in addition to its set: no security resource, and of the others */
 enum tillerclover_wildcard {
     /* "*": all */
     TILLERCLOVER_WILDCARD_STAR = 1,
@@ -188,7 +188,7 @@ enum tillerclover_permission {
     TILLERCLOVER_MAY_ALL = 31
 };
 
-/* ---- Where the fields stand, in records, bodies, rows and what waits
+/* ---- Where the fields are, in records, bodies, rows and waiting records
  *
  * AT is the field's first byte, counted from 0; numbers have their most significant byte first. A field of a few bits is
  * SHIFT bits to the left in its byte, or in the 16 bits from WORD on. docs/PICTURES.md draws the layouts.
@@ -205,7 +205,7 @@ enum {
     TILLERCLOVER_DOXM_OWNER_AT = 1,
     /* the byte of pstat */
     TILLERCLOVER_PSTAT_TARGET_SHIFT = 5,
-    /* a credential row, and the body of TILLERCLOVER_CRED_LENGTH bytes; ROLES is of the row alone */
+    /* a credential row, and the body of TILLERCLOVER_CRED_LENGTH bytes; ROLES is only of the row */
     TILLERCLOVER_CRED_NUMBER_AT = 0,
     TILLERCLOVER_CRED_SUBJECT_AT = 2,
     TILLERCLOVER_CRED_ROLE_AT = 18,
@@ -282,14 +282,14 @@ enum tillerclover_answer {
     TILLERCLOVER_MISSING = 13,
     /* a new row, and its table is full */
     TILLERCLOVER_FULL = 14,
-    /* the reply is longer than the buffer lent for it */
+    /* the reply is longer than its buffer */
     TILLERCLOVER_NO_ROOM = 15,
     /* this application resource has no endpoint for the connection: none that is secure for
      * AUTH_CRYPT, none that is unsecure for ANON_CLEAR */
     TILLERCLOVER_NO_ENDPOINT = 16,
     /* no text: the tables are not sound, or the memory of waiting records is not */
     TILLERCLOVER_LIST_NOT_SOUND = 17,
-    /* no text: it is longer than the buffer lent for it */
+    /* no text: it is longer than its buffer */
     TILLERCLOVER_LIST_NO_ROOM = 18,
     /* a list of another length than whole rows have, or of more than TILLERCLOVER_ACE_CAPACITY rows */
     TILLERCLOVER_TEST_BAD_SIZE = 19,
@@ -304,7 +304,7 @@ enum tillerclover_answer {
     TILLERCLOVER_CONVERT_BAD_FILE = 23,
     /* no rows: there would be more than TILLERCLOVER_ACE_CAPACITY */
     TILLERCLOVER_CONVERT_TOO_MANY = 24,
-    /* no rows: they are longer than the buffer lent for them */
+    /* no rows: they are longer than their buffer */
     TILLERCLOVER_CONVERT_NO_ROOM = 25,
     /* not kept: a record of this sender waits already */
     TILLERCLOVER_OCCUPIED = 26,
@@ -323,8 +323,8 @@ enum tillerclover_answer {
  *     SRESET to RESET, RFPRO
  *
  * Which state takes which writes. All others are answered with WRONG_STATE. Security resources are read in every state, and
- * a target is asked for in every state. Application resources are served in RFNOP alone, for every verb, and roles are
- * asserted there alone, over AUTH_CRYPT.
+ * a target is asked for in every state. Application resources are served only in RFNOP, for every verb, and roles are
+ * asserted only there, over AUTH_CRYPT.
  *
  *     RFOTM takes doxm, row owners, rows of cred and acl2
  *     RFPRO takes rows of cred and acl2
@@ -372,7 +372,7 @@ typedef struct tillerclover_tables {
     uint8_t devowner[TILLERCLOVER_UUID_LENGTH];
     /* the row owners of doxm, pstat, cred and acl2, each a UUID or nil */
     uint8_t rowners[TILLERCLOVER_ROW_OWNERS * TILLERCLOVER_UUID_LENGTH];
-    /* Rows in order of arrival, zeros behind the last. A credential row: number (16 bits), subject (128),
+    /* Rows in order of arrival, zeros after the last. A credential row: number (16 bits), subject (128),
      * role (16), the role's authority (16), type (6), two zero bits, and two places for asserted roles. A
      * body without the authority stores authority 0, the works' own. Role 0 is none and has authority 0.
      *
@@ -380,7 +380,7 @@ typedef struct tillerclover_tables {
      * UPDATE of TILLERCLOVER_ROLES with these eight bytes, and has it from then on as if it were stored, up
      * to its last second and with it. An assertion first takes those of the row away whose last second is
      * before the clock; an equal role, of the same authority, gets the new last second in its place, any
-     * other stands behind. A row that is stored or deleted anew has lost its asserted roles, and fresh
+     * other comes after it. A row that is stored again or deleted has lost its asserted roles, and fresh
      * tables hold none. */
     uint8_t creds[TILLERCLOVER_CRED_CAPACITY * TILLERCLOVER_CRED_ROW_LENGTH];
     /* An access row: number (16 bits), subject kind (2), permission (5), wildcards (3), six zero bits, set
@@ -393,11 +393,11 @@ typedef struct tillerclover_tables {
 
 /* The records that wait, one for each credential row and one for all unauthenticated senders, and whose turn it is.
  *
- * The bytes: how many records wait (8 bits); where the round stands (24), zeros or 1 and the credential number of the last
+ * The bytes: how many records wait (8 bits); the position of the round (24), zeros or 1 and the credential number of the last
  * record taken; 25 slots of 260 bytes, each with its sender's credential number (16, 0 for unauthenticated senders), the
- * record's length (16) and the record, zeros behind it.
+ * record's length (16) and the record, then zeros.
  *
- * All zero is fresh: nothing waits. Any content is allowed; bytes that are not sound beside the tables get
+ * All zero is fresh: nothing waits. Any content is allowed; bytes that are not sound with these tables get
  * TILLERCLOVER_NOT_SOUND, and tillerclover_clear takes them. They are sound when
  * - at most 25 records wait, in the first slots, with zeros in all others. The order of the slots is free.
  * - the round is zeros, or 1 and any number. 1 0 0 names the place of the unauthenticated. A number that no credential row
@@ -410,8 +410,8 @@ typedef struct tillerclover_waiting {
 
 /* A terminal: all that a program keeps, 8,676 bytes without padding, which may be stored as they are.
  *
- * The two belong together. Store both or the tables alone, with no record waiting then; include/tillerclover_store.h says
- * how. Waiting records beside tables that they do not belong to are not sound, as a rule.
+ * The two belong together. Store both, or only the tables with no record waiting then; include/tillerclover_store.h says
+ * how. Waiting records with tables of another terminal are not sound, as a rule.
  */
 typedef struct tillerclover_terminal {
     tillerclover_tables tables;
@@ -461,7 +461,7 @@ typedef struct tillerclover_outcome {
     size_t store_first;
     size_t store_count;
     /* The links of TILLERCLOVER_YARD, 8 to 14, that the sender may use now: those whose own record,
-     * with the same verb and sender and at the same clock, would be permitted. The top bit stands for
+     * with the same verb and sender and at the same clock, would be permitted. The top bit is
      * resource 0, so a link is in it by TILLERCLOVER_SET_BIT. `link_count` is how many they are. Both are 0
      * for every record but a permitted RETRIEVE or UPDATE of TILLERCLOVER_YARD. */
     uint64_t link_set;
@@ -476,7 +476,7 @@ typedef struct tillerclover_taken {
     tillerclover_outcome outcome;
     /* how many bytes the record has; 0 with TILLERCLOVER_NOT_SOUND and with TILLERCLOVER_NOTHING_WAITING */
     size_t record_length;
-    /* zeros behind the record */
+    /* zeros after the record */
     uint8_t record[TILLERCLOVER_RECORD_MAX];
 } tillerclover_taken;
 
@@ -488,7 +488,7 @@ typedef struct tillerclover_listed {
     size_t length;
 } tillerclover_listed;
 
-/* What is said of a list of access rows. */
+/* The result of testing a list of access rows. */
 typedef struct tillerclover_tested {
     /* TILLERCLOVER_PERMITTED where the list is accepted, or one of TILLERCLOVER_TEST_BAD_SIZE,
      * TILLERCLOVER_TEST_NOT_STORABLE and TILLERCLOVER_TEST_EXCESSIVE */
@@ -555,16 +555,16 @@ static inline void tillerclover_clear(tillerclover_terminal *terminal, const til
 TILLERCLOVER_RESULT TILLERCLOVER_NONNULL static inline bool
 tillerclover_is_sound(const tillerclover_terminal *terminal);
 
-/* Judges a record of `length` bytes at once, with a buffer of `capacity` bytes for a reply. It waits in no queue and leaves
- * those that do where they are, but for these: with a deleted credential row its waiting record goes, and after a RESET none
+/* Judges a record of `length` bytes directly, with a buffer of `capacity` bytes for a reply. It waits in no queue and leaves
+ * those that do where they are, except for these: a deleted credential row takes its waiting record with it, and after a RESET none
  * waits.
  *
  * terminal has its tables changed as the record says; a refusal changes no byte of it. The waiting records stay byte for byte
  *         unless a credential row is added or removed or the tables are cleared.
  * clock   is the terminal's clock as the record comes, in the seconds that the access rows' periods count. Any value is
  *         allowed, also one before that of an earlier call: it is kept nowhere.
- * record  may have any content and any length: one that is no record is refused.
- * reply   is a buffer of its own, of any length; TILLERCLOVER_REPLY_MAX fits every reply. The bytes behind the reply keep
+ * record  may have any content and any length: bytes that are no record are refused.
+ * reply   is a buffer of its own, of any length; TILLERCLOVER_REPLY_MAX fits every reply. The bytes after the reply keep
  *         their contents, and so do all of them where there is no reply.
  *
  * A permitted RETRIEVE of a security resource is replied to: doxm with its body of 17 bytes, pstat
@@ -574,7 +574,7 @@ tillerclover_is_sound(const tillerclover_terminal *terminal);
  * TILLERCLOVER_ROLE_LENGTH bytes each; over ANON_CLEAR it is empty.
  *
  * Who sent the record is believed: the session layer vouches for the connection bit and the
- * credential number, and hands over no record whose number is another sender's.
+ * credential number, and passes no record whose number is another sender's.
  */
 TILLERCLOVER_RESULT TILLERCLOVER_NONNULL static inline tillerclover_outcome
 tillerclover_judge(tillerclover_terminal *terminal, const tillerclover_defaults *defaults, uint32_t clock,
@@ -603,7 +603,7 @@ tillerclover_take(tillerclover_terminal *terminal, const tillerclover_defaults *
  * out; lists that differ in the rows written give different texts. A terminal that is not sound is answered
  * before a buffer that is too short.
  *
- * text    is a buffer of `capacity` bytes; TILLERCLOVER_TEXT_MAX fits every text. The bytes behind the text keep
+ * text    is a buffer of `capacity` bytes; TILLERCLOVER_TEXT_MAX fits every text. The bytes after the text keep
  *         their contents, and so do all of them where there is none.
  */
 TILLERCLOVER_RESULT TILLERCLOVER_NONNULL static inline tillerclover_listed
@@ -624,14 +624,14 @@ static inline tillerclover_tested tillerclover_test_list(const uint8_t *rows, si
 /* A list of an older terminal, `length` bytes in the earlier /oic/sec/acl form, as access rows.
  *
  * An old row has TILLERCLOVER_OLD_ROW_LENGTH bytes: subject UUID (128 bits), permission (5), three zero
- * bits, set of resources (64). The nil UUID stands for anybody, over either connection; that row becomes
+ * bits, set of resources (64). The nil UUID means anybody, over either connection; that row becomes
  * two, for AUTH_CRYPT and then for ANON_CLEAR, and any other becomes one. The access rows have
- * TILLERCLOVER_ACE_LENGTH bytes each, are numbered 1, 2, .. and hold for every second; each is one that an
- * UPDATE of ACL2 could store. Every sender has the same from them as from the old ones, on every resource.
+ * TILLERCLOVER_ACE_LENGTH bytes each, are numbered 1, 2, .. and hold for every second; an UPDATE of
+ * ACL2 could store each of them. Every sender has the same from them as from the old ones, on every resource.
  * A file that is bad in any row is answered before rows that are too many, and those before a buffer that
  * is too short. An empty file gives no rows.
  *
- * rows    is a buffer of `capacity` bytes; TILLERCLOVER_CONVERTED_MAX fits every result. The bytes behind the rows
+ * rows    is a buffer of `capacity` bytes; TILLERCLOVER_CONVERTED_MAX fits every result. The bytes after the rows
  *         keep their contents, and so do all of them where there are none.
  */
 TILLERCLOVER_RESULT
@@ -641,11 +641,11 @@ static inline tillerclover_converted tillerclover_convert_list(const uint8_t *fi
 /* ---- How they are made of the archive's functions
  *
  * These functions are not proved. They pass pointers on and give names to the words that the proved functions report; nothing
- * is decided here. tests/inlines.c calls each beside the archive's own, and tests/headers.py makes wrong headers, each of
+ * is decided here. tests/inlines.c compares each with the archive's own, and tests/headers.py makes wrong headers, each of
  * which a test must notice. */
 
-/* What was said of a record, and the table of the places to store by the record's resource. Where there are no places, the
- * record is not looked at. */
+/* The words of a record's outcome by name, and the table of the rows to store by the record's resource. If there are no rows
+ * to store, the record is not read. */
 static inline tillerclover_outcome tillerclover_outcome_of(const uint64_t *said, const uint8_t *record)
 {
     tillerclover_outcome outcome;

@@ -132,7 +132,7 @@ typedef struct tillerclover_cred {
 } tillerclover_cred;
 
 /* An access row. Its subject is the UUID, the role with its authority, or the connection, by `kind`; the others are not
- * looked at. It fits from the second `first` to the second `last`, both included: zeros are the second 0 alone. */
+ * looked at. It fits from the second `first` to the second `last`, both included: zeros are only the second 0. */
 typedef struct tillerclover_ace {
     unsigned number;
     enum tillerclover_subject kind;
@@ -150,7 +150,7 @@ typedef struct tillerclover_role {
     uint32_t last;
 } tillerclover_role;
 
-/* A row of an older terminal's list. The nil UUID stands for anybody. */
+/* A row of an older terminal's list. The nil UUID means anybody. */
 typedef struct tillerclover_old_row {
     const uint8_t *subject;
     unsigned permission;
@@ -209,7 +209,7 @@ static inline void tillerclover_pack_old_row(uint8_t *bytes, const tillerclover_
 /* ---- Rows read back: what a reply, a list or the tables hold, as the structs above
  *
  * Bytes of any content are read. A UUID is not copied: it points into the bytes that were read. Packed again, what was read
- * is the same bytes but for zero bits that were set, and for the part of a subject that its kind does not use. */
+ * is the same bytes except for zero bits that were set, and for the part of a subject that its kind does not use. */
 
 /* Of TILLERCLOVER_CRED_LENGTH bytes: a body, a row of a reply, or the first part of a row of the tables. */
 static inline tillerclover_cred tillerclover_unpack_cred(const uint8_t *body)
@@ -223,7 +223,7 @@ static inline tillerclover_cred tillerclover_unpack_cred(const uint8_t *body)
     return row;
 }
 
-/* Of TILLERCLOVER_ACE_LENGTH bytes. Each part of the subject is read, whatever the kind: look at the one that it names. */
+/* Of TILLERCLOVER_ACE_LENGTH bytes. Each part of the subject is read, whatever the kind: look at the part that it names. */
 static inline tillerclover_ace tillerclover_unpack_ace(const uint8_t *body)
 {
     const unsigned word = tillerclover_get_16(body + TILLERCLOVER_ACE_WORD);

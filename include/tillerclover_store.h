@@ -7,8 +7,8 @@
  * new one: whatever is left of the byte that was being written, and of every other byte in the same image or in the marks.
  * That is proved (docs/PROOFS.md). docs/STORE.md has a drawing, what it costs, and other ways to store.
  *
- * When the power comes on, read the whole store from the device. Then load the current image. If the image is the tables
- * alone, no record waits after a load, so the waiting records are zeros:
+ * When the power comes on, read the whole store from the device. Then load the current image. If the image is only the
+ * tables, no record waits after a load, so the waiting records are zeros:
  *
  *     uint64_t at;
  *     if (tillerclover_store_current(store, sizeof store, n, &at) == TILLERCLOVER_STORE_DONE) {
@@ -23,7 +23,7 @@
  *         memcpy(&terminal, store + at, sizeof terminal);
  *
  * The content of new memory is the current image too. So give it to the library as it is: tables that are not sound get
- * answer 1, and tillerclover_is_sound says so at once, until those of tillerclover_clear are stored.
+ * answer 1, and tillerclover_is_sound says so, until those of tillerclover_clear are stored.
  *
  * To store an image:
  *
@@ -47,12 +47,12 @@
  * Three things are supposed of the device:
  * - A cell whose write was cut reads the same value from then on, be it any value. No proof covers a cell that reads now
  *   this and now that; devices prevent it by a brown-out detector, which finishes a write or does not begin it.
- * - A write leaves the other two parts alone. A device that writes whole pages does so if both images, and the marks, begin
+ * - A write does not change the other two parts. A device that writes whole pages does so if both images, and the marks, begin
  *   on a page: make n a multiple of the page, with zeros after the image.
  * - `store` is what the device holds: mapped memory, or a copy. Read all of the copy when the power comes on, and after each
  *   write what the write may have changed: the byte, as above, or on a device that writes whole pages the page.
  *
- * What to store. For memory that wears: the tables alone, n = sizeof(tillerclover_tables). Hand-ins, polls and refused
+ * What to store. For memory that wears: only the tables, n = sizeof(tillerclover_tables). Hand-ins, polls and refused
  * records then write nothing. After a power cut no record waits, so the 0 of a hand-in is no receipt; answer a sender when
  * its record is taken. Where memory does not wear, or the 0 of a hand-in is passed on as a receipt: the
  * whole tillerclover_terminal as ONE image. Then no answer is taken back; a take that was cut may have counted, and its
@@ -85,14 +85,14 @@ enum tillerclover_store_answer {
 };
 
 /* What to do next to store an image of `image_length` bytes. With WRITE, `*place` is the place in the store and `*byte` the
- * byte to write there; otherwise both are left alone. `from` is 0 at the start of a run, so that nothing is written where
+ * byte to write there; otherwise both stay as they are. `from` is 0 at the start of a run, so that nothing is written where
  * nothing changed, and then the place after the last write, which saves time. With any other `from` the answers are as
  * safe. */
 uint64_t tillerclover_store_next(const uint8_t *store, uint64_t store_length, const uint8_t *image,
                                  uint64_t image_length, uint64_t from, uint64_t *place, uint8_t *byte);
 
-/* Where the current image starts, in a store for images of n bytes. With DONE, `*place` is 0 or n; with UNFIT it is left
- * alone. */
+/* Where the current image starts, in a store for images of n bytes. With DONE, `*place` is 0 or n; with UNFIT it stays
+ * as it is. */
 uint64_t tillerclover_store_current(const uint8_t *store, uint64_t store_length, uint64_t n, uint64_t *place);
 
 #ifdef __cplusplus

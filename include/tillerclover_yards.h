@@ -58,7 +58,7 @@ enum tillerclover_isolation_reason {
     TILLERCLOVER_ISOLATION_MAY_ALTER = 5
 };
 
-/* What is said of a list of senders. */
+/* The result of asking about a list of senders. */
 typedef struct tillerclover_isolation {
     /* enum tillerclover_isolation_reason */
     uint8_t reason;
@@ -68,7 +68,7 @@ typedef struct tillerclover_isolation {
     size_t row;
 } tillerclover_isolation;
 
-/* The archive's function: the tables as five arrays in the order of their bytes, and what is said as reason, entry and row. */
+/* The archive's function: the tables as five arrays in the order of their bytes, and the result as reason, entry and row. */
 void tillerclover_isolated_at(const uint8_t counts[4], const uint8_t devowner[16], const uint8_t rowners[64],
                               const uint8_t creds[936], const uint8_t aces[1152], const uint8_t *senders,
                               uint64_t length, uint64_t said[3]);
@@ -77,7 +77,7 @@ void tillerclover_isolated_at(const uint8_t counts[4], const uint8_t devowner[16
  * outcome of a record of anybody else that is judged, and of the tables nothing but their own asserted roles. When a record is
  * taken may differ, and so whether a hand-in gets TILLERCLOVER_OCCUPIED.
  *
- * Any content and any bytes are allowed; what waits is not looked at. An entry may stand twice, and may name a partner without
+ * Any content and any bytes are allowed; waiting records are not looked at. An entry may occur twice, and may name a partner without
  * a credential row. An empty list is isolated where the tables are sound.
  *
  * senders points to at least `length` bytes that nothing changes during the call: TILLERCLOVER_SENDER_LENGTH for each entry.
