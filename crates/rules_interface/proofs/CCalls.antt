@@ -1,23 +1,29 @@
 -- Theorem, demand 3 of C calls: what the C functions promise (`Promised`, specs/Calls.antt), with the payload read at its offset and length,
 -- are calls as `built-isolation` takes them (rules_waiting/proofs/Built.antt), each on the bytes that the one before left.
-use Rattle.rows.proofs.Prelude.{_≡_, ap, _∙_, Bool, List, [], _∷_, ℕ, length, getD}
+use Rattle.rows.proofs.Prelude.{_≡_, ap, _∙_, Bool, false, List, [], _∷_, map, ℕ, length, getD, contradiction}
 use Rattle.rules.specs.declared.Tables.{Tables}
 use Rattle.rules.specs.declared.Sender.{Sender}
 use Rattle.rules.specs.Defaults.{Defaults}
 use Rattle.rules.specs.Checks.{verdict}
-use Rattle.rules.specs.Outcome.{payloadPart}
-use Rattle.rules.specs.Run.{kept}
+use Rattle.rules.specs.Record.{Request}
+use Rattle.rules.specs.Tables.{sound}
+use Rattle.rules.specs.Outcome.{Outcome, payloadPart, tablesAfter}
+use Rattle.rules.specs.Run.{Along, kept}
+use Rattle.rules.specs.Isolation.{Premise, isOthers}
 use Rattle.rules.proofs.CheckLaws.{check-cases}
+use Rattle.rules.proofs.Refusals.{unsound-refused}
 use Rattle.rules_waiting.specs.Slots.{padded}
 use Rattle.rules_waiting.specs.Terminal.{Terminal, Transition, handInChecks, handedIn, taken, judged, said, handedOut}
 use Rattle.rules_waiting.specs.Inputs.{Input, handIn, takeAt, direct, othersTurn}
-use Rattle.rules_waiting.specs.CallRun.{Meets, Built, handedBack, callTurns}
+use Rattle.rules_waiting.specs.CallRun.{told, Meets, Built, handedBack, callTurns}
 use Rattle.rules_waiting.specs.Isolation.{Premises, AsTheBook}
-use Rattle.rules_waiting.proofs.Built.{built-isolation}
+use Rattle.rules_waiting.specs.Direct.{Whole}
+use Rattle.rules_waiting.proofs.Built.{built-isolation, direct-isolation}
 use Rattle.rules_interface.specs.Memory.{Memory, terminalAt, memoryOf}
 use Rattle.rules_interface.specs.Interface.{wordsOf}
 use Rattle.rules_interface.specs.Calls.{CCall, Promised, CBuilt}
-use Rattle.rules_interface.specs.CallRun.{payloadIn, callOf, callsOf, saidIn}
+use Rattle.rules_interface.specs.CallRun.{payloadIn, callOf, callsOf, saidIn, leftBy}
+use Rattle.rules_interface.specs.Direct.{DirectIsolated}
 use Rattle.rules_interface.proofs.Payload.{part-found}
 
 -- ---- a C call as a call
@@ -87,3 +93,32 @@ pub c-isolation :
     → Premises d chosen (terminalAt m) (kept (othersTurn chosen) (callTurns is (callsOf is cs)))
     → AsTheBook d chosen (terminalAt m) (kept (othersTurn chosen) (callTurns is (callsOf is cs))) (handedBack (terminalAt m) (callsOf is cs) .tables)
 c-isolation d chosen m is cs b = built-isolation d chosen (terminalAt m) is (callsOf is cs) (c-built d m is cs b)
+
+-- ---- records judged at once alone
+
+-- demand 3 over a list of them: each of the others' is told what the book answers
+pub c-direct-isolation :
+    (d : Defaults) (chosen : Sender → Bool) (m : Memory) (qs : List Request) (cs : List CCall)
+    → CBuilt d m (map direct qs) cs
+    → Whole (terminalAt m)
+    → Along (tablesAfter d) (Premise chosen) (terminalAt m .tables) (kept (isOthers chosen) qs)
+    → DirectIsolated d chosen (terminalAt m .tables) qs (map told (callsOf (map direct qs) cs)) (leftBy m (map direct qs) cs .tables)
+c-direct-isolation d chosen m qs cs b whole premise =
+    let both = direct-isolation d chosen (terminalAt m) qs (callsOf (map direct qs) cs) (c-built d m (map direct qs) cs b) whole premise in
+    record { told-same = both .0; tables-same = both .1 }
+
+-- tables that are not sound stay as they are
+unsound-along : (d : Defaults) (chosen : Sender → Bool) (t : Tables) (qs : List Request) → sound t ≡ false → Along (tablesAfter d) (Premise chosen) t qs
+unsound-along d chosen t [] e = λ h. contradiction h e
+unsound-along d chosen t (q ∷ qs) e =
+    let stays : tablesAfter d t q ≡ t = ap (λ (o : Outcome). o .tables) (unsound-refused d t q e) in
+    (λ h. contradiction h e, rw stays (unsound-along d chosen t qs e))
+
+-- tables that are not sound need no premise: each record gets 1, from the terminal and from the book
+pub c-direct-unsound :
+    (d : Defaults) (chosen : Sender → Bool) (m : Memory) (qs : List Request) (cs : List CCall)
+    → CBuilt d m (map direct qs) cs
+    → sound (terminalAt m .tables) ≡ false
+    → DirectIsolated d chosen (terminalAt m .tables) qs (map told (callsOf (map direct qs) cs)) (leftBy m (map direct qs) cs .tables)
+c-direct-unsound d chosen m qs cs b e =
+    c-direct-isolation d chosen m qs cs b (λ h. contradiction h e) (unsound-along d chosen (terminalAt m .tables) (kept (isOthers chosen) qs) e)

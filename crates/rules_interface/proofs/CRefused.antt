@@ -1,10 +1,11 @@
 -- Theorems of C calls: a refusal says its number and zeros, and changes no byte of the tables, of what waits and of the buffer.
-use Rattle.rows.proofs.Prelude.{_≡_, refl, sym, ap, _∙_, true, false, _||_, eqb, List, [], _∷_, ℕ, suc, arith, length, getD}
+use Rattle.rows.proofs.Prelude.{_≡_, refl, sym, ap, _∙_, true, false, _||_, eqb, List, [], _∷_, ℕ, suc, arith, length, getD, replicate}
+use Rattle.rows.specs.Rows.{hasKey, without}
 use Rattle.rules.specs.Record.{Request}
 use Rattle.rules.specs.Defaults.{Defaults}
 use Rattle.rules.specs.Reading.{filled}
-use Rattle.rules_waiting.specs.Terminal.{Transition, terminal, soundTerminal}
-use Rattle.rules_waiting.specs.Slots.{waiting}
+use Rattle.rules_waiting.specs.Terminal.{Transition, terminal, soundTerminal, turn, due}
+use Rattle.rules_waiting.specs.Slots.{after, padded, waiting, queueOf}
 use Rattle.rules_waiting.specs.Inputs.{handIn, takeAt, direct}
 use Rattle.rules_waiting.proofs.Refused.{take-nothing, refused-take, refused-direct, refused-hand-in}
 use Rattle.rules_interface.specs.Memory.{Memory, terminalAt, memoryOf, withQueue}
@@ -44,28 +45,35 @@ module _ (d : Defaults) (m : Memory) (sized : length (m .counts) ≡ 4) (c : CCa
         p .0 .fills ∙ ap (λ (t : Transition). filled (c .lent) (t .response .contents)) r,
       )
 
-  -- a take that answers 1 or 27: no record either
+  -- a take that answers 1 or 27: no record either, and 256 zeros in its place
   pub c-nothing : (clock capacity : ℕ) → Promised d m (takeAt clock capacity) c → getD (c .words) 0 0 ≡ n → (eqb n 1 || eqb n 27) ≡ true
-      → (c .words ≡ numberWords n) × (c .size ≡ 0 ∷ []) × (c .memory ≡ m) × (c .buffer ≡ c .lent)
-  unfolding offsetOf filled
+      → (c .words ≡ numberWords n) × (c .size ≡ 0 ∷ []) × (c .bytes ≡ replicate 256 0) × (c .memory ≡ m) × (c .buffer ≡ c .lent)
+  unfolding offsetOf filled padded
   c-nothing clock capacity p a e =
       let r = take-nothing d (terminalAt m) clock capacity n e (sym (ap (λ (l : List ℕ). getD l 0 0) (p .0 .says)) ∙ a) in (
         p .0 .says ∙ ap wordsOf r,
         p .0 .sized ∙ ap (λ (t : Transition). length (t .bytes) ∷ []) r,
+        p .0 .hands ∙ ap (λ (t : Transition). padded (t .bytes)) r,
         p .0 .keeps ∙ ap (λ (t : Transition). memoryOf (t .terminal)) r ∙ memory-back m sized,
         p .0 .fills ∙ ap (λ (t : Transition). filled (c .lent) (t .response .contents)) r,
       )
 
-  -- a take whose record is refused: the record has left its place, and nothing of the tables changes
+  -- a take whose record is refused: the record is handed out whole and leaves its place, and the round stands behind that place. Nothing else
+  -- changes: no byte of the tables, no other record that waits
   pub c-refused-take : (clock capacity : ℕ) → Promised d m (takeAt clock capacity) c → soundTerminal (terminalAt m) ≡ true
       → eqb (length (waiting (m .queue))) 0 ≡ false → getD (c .words) 0 0 ≡ suc n
-      → (c .words ≡ numberWords (suc n)) × (c .memory ≡ withQueue m (c .memory .queue)) × (c .buffer ≡ c .lent)
+      → (c .words ≡ numberWords (suc n))
+      × (c .size ≡ length (due (terminalAt m)) ∷ [])
+      × (c .bytes ≡ padded (due (terminalAt m)))
+      × (c .memory ≡ withQueue m (queueOf (after (turn (terminalAt m))) (without (hasKey 0 (turn (terminalAt m))) (waiting (m .queue)))))
+      × (c .buffer ≡ c .lent)
   unfolding offsetOf filled
   c-refused-take clock capacity p h w a =
-      let r = refused-take d (terminalAt m) clock capacity n h w (sym (ap (λ (l : List ℕ). getD l 0 0) (p .0 .says)) ∙ a) in
-      let k = p .0 .keeps ∙ ap (λ (t : Transition). memoryOf (t .terminal)) r ∙ queue-back m _ sized in (
+      let r = refused-take d (terminalAt m) clock capacity n h w (sym (ap (λ (l : List ℕ). getD l 0 0) (p .0 .says)) ∙ a) in (
         p .0 .says ∙ ap wordsOf r,
-        k ∙ ap (withQueue m) (sym (ap (λ (b : Memory). b .queue) k)),
+        p .0 .sized ∙ ap (λ (t : Transition). length (t .bytes) ∷ []) r,
+        p .0 .hands ∙ ap (λ (t : Transition). padded (t .bytes)) r,
+        p .0 .keeps ∙ ap (λ (t : Transition). memoryOf (t .terminal)) r ∙ queue-back m _ sized,
         p .0 .fills ∙ ap (λ (t : Transition). filled (c .lent) (t .response .contents)) r,
       )
 
