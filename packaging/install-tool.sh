@@ -16,6 +16,11 @@ install -d "$prefix/share/man/man1" "$prefix/share/bash-completion/completions" 
 # page NAME WORD..: the page of a subcommand, or without words of the whole command
 page() { "$tool" man "${@:2}" | gzip -9n >"$prefix/share/man/man1/$1.1.gz"; }
 page tillerclover
-"$tool" --help | sed -n '/^Commands:/,/^$/s/^  \([a-z-]*\)  .*/\1/p' | while read -r word; do
-    [ "$word" = help ] || page "tillerclover-$word" "$word"
+# commands WORD..: the names of the subcommands
+commands() { "$tool" "$@" --help | sed -n '/^Commands:/,/^$/s/^  \([a-z-]*\)  .*/\1/p' | grep -vx help; }
+for word in $(commands); do
+    page "tillerclover-$word" "$word"
+done
+for word in $(commands list); do
+    page "tillerclover-list-$word" list "$word"
 done

@@ -8,11 +8,12 @@
 # shellcheck disable=SC2015
 set -uo pipefail
 cd "$(dirname "$0")/.." || exit 2
+unset TZ TILLERCLOVER_TZ
 root=$PWD
 program=$(realpath "$1") || exit 2
 shift
 
-ALL=(documents keys tables store images records faults silences names boxing many locks backups questions yards page lists office runs lines expectations habits bad hostile crowd disk kills)
+ALL=(documents keys tables store images records faults silences names boxing many locks backups questions yards page lists office runs lines expectations everyday habits bad hostile crowd disk kills)
 work=$(mktemp -d) || exit 2
 small=$work/small
 trap 'umount "$small" 2>/dev/null; rm -rf "$work"' EXIT
@@ -898,6 +899,92 @@ END
     gives 2 "bad.toml: no TOML" test bad.toml
 }
 
+# Seasons, records on the wire, tables for spreadsheets, help where somebody would be at a loss.
+part_everyday() {
+    yard a
+    tillerclover judge a UPDATE /oic/sec/pstat as 5 state=RFPRO UPDATE /oic/sec/acl2 as 5 number=3 "subject=$haulier" permission=RU resources=/tare \
+        first=2027-07-01 last=2027-09-30 UPDATE /oic/sec/acl2 as 5 number=4 "subject=$haulier" permission=U resources=/zero last=2026-09-15 \
+        UPDATE /oic/sec/pstat as 5 state=RFNOP >/dev/null || fault "no seasons"
+    cp a before
+    gives 0 "ends in 61 days; row 3 gives it later" seasons a --clock 2026-07-31T12:00
+    gives 0 "begins in 334 days" seasons a --clock 2026-07-31T12:00
+    gives 0 "over since 14 days" seasons a --clock 2026-10-15T12:00
+    gives 0 "no seasons that end soon in a at" seasons a --within 30d --clock 2026-07-31
+    gives 1 "ends in 14 days" seasons a --within 30d --clock 2026-09-01
+    gives 0 "ends in 10 days; row 3 gives it later" seasons a --within 2w --clock 2026-09-20T12:00
+    gives 2 "--within: '30x' is no time: write seconds, or 12h, 30d or 4w" seasons a --within 30x
+    gives 0 '"place": "to come"' seasons a --clock 2026-09-20 --json
+    tillerclover rights a --clock 2026-09-20 --html p.html >/dev/null
+    [ "$(grep -c '<rect class="bar-' p.html)" -eq 3 ] && grep -q 'bar-over.*to 2026-09-15; over since 4 days' p.html && grep -q '>2026-10<' p.html ||
+        fault "the seasons of the page: $(grep bar- p.html)"
+    # records, there and back
+    gives 0 "524000076c6f727279" record UPDATE /tare as 7 text:lorry
+    gives 0 "UPDATE /tare as 7 text:lorry" decode 524000076c6f727279
+    tillerclover record --bytes UPDATE /tare as 7 text:lorry RETRIEVE /weight | xxd -p | grep -qx 524000076c6f72727922000000 || fault "a record's bytes"
+    gives 0 'coap-client-openssl -m post -e %40 -u 5 -k "$KEY" coaps://10.0.0.5/oic/sec/pstat' record --coap 10.0.0.5 UPDATE /oic/sec/pstat as 5 state=RFPRO
+    gives 0 "coap-client-openssl -m get coap://'a b;c'/weight" record --coap 'a b;c' RETRIEVE /weight
+    gives 2 "has no request of CoAP" record --coap x hex:ffff
+    gives 2 "record '5g': digit 2 is 'g'" decode 5g
+    # tables for spreadsheets
+    tillerclover list text a --csv >rows.csv && gives 0 "rows.list: 4 rows made" list make rows.csv rows.list
+    tillerclover judge a UPDATE /oic/sec/pstat as 5 state=RFPRO >/dev/null
+    gives 0 "a: unchanged" list load rows.list a as 5
+    gives 0 "a: unchanged" list load rows.csv a as 5
+    printf 'Number;Subject;Resources;Permission;Last\r\n9;%s;/tare /zero;U;2026-12-31\r\n' "$haulier" >office.csv
+    gives 0 "access row 9 added: number=9 subject=$haulier permission=--U-- resources=/tare,/zero last=2026-12-31T23:59:59" list load office.csv a as 5 --dry-run
+    printf 'number,subject,resources,permision\n' >bad.csv
+    gives 2 "bad.csv: unknown column 'permision'; did you mean permission?" list make bad.csv gone
+    tillerclover list text a >own.json 2>/dev/null
+    gives 2 "own.json: is the office's JSON, and no list of bytes: 'list make' makes one" list check own.json
+    gives 2 "own.json: is the office's JSON, and no list of bytes: 'list make' makes one" list text own.json
+    gives 2 "rows.csv: is a table of CSV, and no list of bytes" list check rows.csv
+    # what somebody may try
+    cp before a
+    printf 'RETRIEVE /weight\nRETRIEVE /lamp\n' >lines
+    gives 2 "lines: is a text, and no run of clocks, lengths and records; --lines reads one" run lines
+    head -c 40000 /dev/zero >long
+    tillerclover run long >out 2>errors
+    grep -q "long: has 40000 bytes; the first 32768 are read, as the run program does; --whole reads all" errors || fault "a long run: $(cat errors)"
+    gives 2 "unknown word 'GET', which of CoAP is RETRIEVE here" judge a "GET /weight"
+    gives 2 "permision= is no part of such a body; did you mean permission?" judge a UPDATE /oic/sec/acl2 as 5 permision=R
+    gives 2 "--clock" hand-in a --clock 2026-08-01 RETRIEVE /weight
+    local held
+    holder posix a
+    gives 3 "nothing was changed; 'tillerclover record' writes what can be sent to it instead" judge a UPDATE /tare as 7
+    kill "$held" && wait "$held" 2>/dev/null
+    # the zone of the surroundings
+    TZ=Europe/Berlin tillerclover show a | grep -q "season (Europe/Berlin)" || fault "TZ is not heard"
+    TZ=:Asia/Tokyo TILLERCLOVER_TZ=+02:00 tillerclover show a | grep -q "season (+02:00)" || fault "TILLERCLOVER_TZ is not heard"
+    TZ=CET-1CEST tillerclover show a | grep -q "season (UTC)" || fault "a zone of the system's own form is a mistake"
+    TZ=Asia/Tokyo tillerclover show a --tz UTC | grep -q "season (UTC)" || fault "--tz is not heard"
+    TILLERCLOVER_TZ=Berlin gives 2 "TILLERCLOVER_TZ: 'Berlin' is no time zone" show a
+    # the width of a screen
+    script -qec "stty cols 60; tillerclover rights a; tillerclover judge --help" /dev/null </dev/null | tr -d '\r' >out
+    [ "$(sed 's/\x1b\[[0-9;]*m//g' out | awk '{ if (length($0) > 60) n++ } END { print n + 0 }')" -eq 0 ] || fault "wider than the screen: $(awk 'length($0) > 60' out | head -n 3)"
+    # watched
+    cp before b
+    printf 'tables = "b"\n[[expect]]\nname = "one"\nrecord = "RETRIEVE /weight"\nanswer = 0\n' >w.toml
+    timeout 20 tillerclover test --watch w.toml >watched &
+    local watcher=$! i
+    for ((i = 0; i < 100; i++)); do grep -q watching watched && break || sleep 0.1; done
+    sleep 0.5
+    tillerclover judge b --no-backup UPDATE /oic/sec/pstat as 5 state=RFPRO >/dev/null
+    for ((i = 0; i < 100; i++)); do grep -q "0 met" watched && break || sleep 0.1; done
+    kill "$watcher" && wait "$watcher" 2>/dev/null
+    grep -q "1 met, 0 not" watched && grep -q "0 met, 1 not" watched && [ "$(grep -c watching watched)" -eq 2 ] || fault "not watched: $(cat watched)"
+    # versions for programs, completions, pages
+    gives 0 '"interface": "' --version --json
+    printf '7 Northfield Haulage\nrole 7@2 foreman\n' >a.names
+    tillerclover completions bash >script
+    # shellcheck disable=SC2016
+    completes() { bash -c '. ./script; COMP_WORDS=(tillerclover "$@"); COMP_CWORD=$#; _tillerclover_and_names tillerclover "${!#}" "$1"; echo "${COMPREPLY[*]}"' x "$@"; }
+    [ "$(completes who UP)" = UPDATE ] && [ "$(completes who UPDATE /ta)" = /tare ] && [ "$(completes judge a UPDATE /oic/sec/pstat state=RFN)" = state=RFNOP ] &&
+        [ "$(completes judge a UPDATE /tare as north)" = Northfield-Haulage ] || fault "words are not completed: $(completes who UP) $(completes judge a as north)"
+    "$root/packaging/install-tool.sh" "$program" "$PWD/installed" && [ -e installed/share/man/man1/tillerclover-list-make.1.gz ] || fault "no page of list make"
+    tillerclover judge --help | sed -n 's/^ *--\([a-z-]*\).*/\1/p' | tr '\n' ' ' |
+        grep -qx "clock all default-creds default-aces no-backup wait dry-run force json tz names color " || fault "options out of order"
+}
+
 part_habits() {
     busy_yard a
     # the yard's midnight
@@ -1010,7 +1097,7 @@ part_runs() {
     gives 1 '{"cut":{"begin":58,"end":60}}' run --json short
     # more than the run program reads
     for ((i = 0; i < 900; i++)); do cat "$root/crates/run/stdin"; done >long
-    tillerclover run long >found
+    tillerclover run long >found 2>/dev/null
     local numbers=$(($(wc -l <found) - 2))
     tail -n 1 found | grep -q '^cut  .* ends at byte 32768,' || fault "a long run ends so: $(tail -n 1 found)"
     tillerclover run --whole long >found || fault "a whole run ends with $?"

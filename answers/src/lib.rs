@@ -28,6 +28,7 @@ pub mod matrix;
 pub mod office;
 pub mod plan;
 pub mod rights;
+pub mod seasons;
 pub mod senders;
 pub mod service;
 pub mod sheet;

@@ -12,7 +12,7 @@ use crate::report::{columns, many, Report, Status};
 use crate::soundness::{ace_faults, unknown};
 use crate::stored::{Form, Stored};
 use crate::who::ROLES_ARE_OPEN;
-use crate::{colour, office, words};
+use crate::{colour, csv, office, words};
 
 /// The whole rows of a list.
 pub fn rows(list: &[u8]) -> Vec<Ace> {
@@ -177,15 +177,30 @@ fn bad_file(file: &[u8]) -> String {
     format!("row {}, at byte {at}: {what}", place + 1)
 }
 
+/// The terminal of tables, or one that has loaded a list; otherwise why the list is not accepted.
+fn terminal(path: &Path, bytes: &[u8]) -> Result<Result<Terminal, Report>, Error> {
+    if Form::of(bytes).is_some() {
+        return Ok(Ok(Stored::whole(path, bytes, Default::default())?.terminal));
+    }
+    Ok(load(bytes).map_err(|_| check(path, bytes)))
+}
+
+/// A table of CSV of tables' access rows, or of a list that a terminal would load.
+pub fn table(path: &Path, bytes: &[u8]) -> Result<Report, Error> {
+    let rows = match terminal(path, bytes)? {
+        Ok(terminal) => terminal.tables.aces(),
+        Err(report) => return Ok(report),
+    };
+    let json =
+        json!({ "file": path.display().to_string(), "rows": rows.iter().map(words::ace_json).collect::<Vec<_>>() });
+    Ok(Report::new(csv::of_rows(&rows), json, Status::Yes))
+}
+
 /// The office text of tables, or of a list that a terminal would load.
 pub fn text(path: &Path, bytes: &[u8], seasons: bool) -> Result<Report, Error> {
-    let terminal = if Form::of(bytes).is_some() {
-        Stored::whole(path, bytes, Default::default())?.terminal
-    } else {
-        match load(bytes) {
-            Ok(terminal) => terminal,
-            Err(_) => return Ok(check(path, bytes)),
-        }
+    let terminal = match terminal(path, bytes)? {
+        Ok(terminal) => terminal,
+        Err(report) => return Ok(report),
     };
     let aces = terminal.tables.aces();
     let mut left_out: Vec<u16> = aces.iter().filter(|row| row.period != Period::ALWAYS).map(|row| row.number).collect();

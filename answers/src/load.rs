@@ -11,7 +11,7 @@ use crate::error::{name, Error};
 use crate::list::{not_storable, refusal, rows, warning};
 use crate::report::{many, Report, Status};
 use crate::stored::without_mark;
-use crate::{colour, office, parse, service, words};
+use crate::{colour, csv, office, parse, service, words};
 
 /// Rows that were read, and how many have a season by the extension of the office's JSON.
 pub struct Read {
@@ -28,13 +28,14 @@ impl Read {
     }
 }
 
-/// The office's JSON, or rows in words, one to a line.
+/// The office's JSON, a table of CSV, or rows in words, one to a line.
 pub fn read(path: &Path, text: &str) -> Result<Read, Error> {
     if text.trim_start().starts_with('{') {
         let (rows, seasons) = office::read(text).map_err(|error| Error::of(path, error))?;
         return Ok(Read { rows, seasons });
     }
-    let rows = parse::rows(text, parse::access_row).map_err(|error| Error::of(path, error))?;
+    let read = if csv::is_table(text) { csv::rows(text) } else { parse::rows(text, parse::access_row) };
+    let rows = read.map_err(|error| Error::of(path, error))?;
     Ok(Read { rows, seasons: 0 })
 }
 
@@ -70,14 +71,37 @@ pub fn made(new: &Path, made: &Read) -> Report {
     Report::new(text, json, Status::Yes)
 }
 
-/// The bytes of a list, which may also be the office's JSON.
+/// The bytes of a list, which may also be the office's JSON, a table of CSV or rows in words.
 pub fn list_bytes(path: &Path, bytes: Vec<u8>) -> Result<Vec<u8>, Error> {
     match std::str::from_utf8(without_mark(&bytes)) {
-        Ok(text) if text.trim_start().starts_with('{') && text.trim_end().ends_with('}') => {
+        Ok(text) if is_json(text) || csv::is_table(text) || parse::are_words(text.as_bytes()) => {
             Ok(read(path, text)?.list())
         }
         _ => Ok(bytes),
     }
+}
+
+/// Whether a text is the office's JSON.
+pub fn is_json(text: &str) -> bool {
+    text.trim_start().starts_with('{') && text.trim_end().ends_with('}')
+}
+
+/// What to do with a text where a list of bytes is asked for.
+pub fn no_list(bytes: &[u8]) -> Option<&'static str> {
+    let text = std::str::from_utf8(without_mark(bytes)).ok()?;
+    let what = match text {
+        _ if is_json(text) => {
+            "is the office's JSON, and no list of bytes: 'list make' makes one, and 'list load' takes it as it is"
+        }
+        _ if csv::is_table(text) => {
+            "is a table of CSV, and no list of bytes: 'list make' makes one, and 'list load' takes it as it is"
+        }
+        _ if parse::are_words(text.as_bytes()) => {
+            "has rows in words, and is no list of bytes: 'list make' makes one, and 'list load' takes it as it is"
+        }
+        _ => return None,
+    };
+    Some(what)
 }
 
 /// A list that is to be loaded, and how.

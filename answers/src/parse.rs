@@ -62,13 +62,22 @@ fn digits(text: &str) -> Result<Vec<u8>, String> {
         || word.chars().all(char::is_alphabetic) && word.len() > 2
     {
         let verbs: Vec<String> = Verb::ALL.iter().map(Verb::to_string).collect();
-        return Err(format!(
-            "unknown word '{word}'{}; a record is hexadecimal digits, or begins with {}",
-            did_you_mean(word, &verbs),
-            either(&verbs)
-        ));
+        let near = coap(word).unwrap_or_else(|| did_you_mean(word, &verbs));
+        let verbs = either(&verbs);
+        return Err(format!("unknown word '{word}'{near}; a record is hexadecimal digits, or begins with {verbs}"));
     }
     hex::read(text)
+}
+
+/// The verb of a method of CoAP.
+fn coap(word: &str) -> Option<String> {
+    let verb = match word.to_uppercase().as_str() {
+        "GET" => Verb::RETRIEVE,
+        "POST" => Verb::UPDATE,
+        "PUT" => Verb::CREATE,
+        _ => return None,
+    };
+    Some(format!(", which of CoAP is {verb} here"))
 }
 
 fn known_resources() -> String {
@@ -136,10 +145,32 @@ fn body(verb: Verb, resource: Resource, words: &[&str]) -> Result<Vec<u8>, Strin
         return Ok(words.join(" ").as_bytes()["text:".len()..].to_vec());
     }
     let mut fields = Fields::read(words)?;
+    let known = keys(verb, resource);
+    if let Some(key) = fields.0.keys().find(|key| !known.is_empty() && !known.contains(key)) {
+        let names: Vec<String> = known.iter().map(|key| key.to_string()).collect();
+        let near = did_you_mean(key, &names);
+        return Err(format!("{key}= is no part of such a body{near}; it takes {}=", known.join("=, ")));
+    }
     let body = fields.body(verb, resource)?;
     match fields.0.keys().next() {
         Some(key) => Err(format!("{key}= is no part of such a body")),
         None => Ok(body.to_bytes()),
+    }
+}
+
+/// The keys that the fields of a body may have.
+fn keys(verb: Verb, resource: Resource) -> &'static [&'static str] {
+    match (verb, resource) {
+        (Verb::UPDATE, Resource::DOXM) => &["owner", "row-owner"],
+        (Verb::UPDATE, Resource::PSTAT) => &["state", "row-owner"],
+        (Verb::UPDATE, Resource::CRED) => &["number", "subject", "role", "type", "row-owner"],
+        (Verb::UPDATE, Resource::ACL2) => {
+            &["number", "subject", "permission", "resources", "first", "last", "row-owner"]
+        }
+        (Verb::UPDATE, Resource::ROLES) => &["role", "last"],
+        (Verb::DELETE, Resource::CRED) => &["number", "subject"],
+        (Verb::DELETE, Resource::ACL2) => &["number"],
+        _ => &[],
     }
 }
 
@@ -379,7 +410,12 @@ mod tests {
             ("UPDATE /oic/sec/pstat state=READY", "unknown state 'READY'"),
             ("UPDATE /oic/sec/cred number=5", "subject= is missing"),
             ("UPDATE /oic/sec/cred number=5 number=6", "number= stands twice"),
-            ("UPDATE /oic/sec/pstat state=RFPRO colour=red", "colour= is no part of such a body"),
+            (
+                "UPDATE /oic/sec/pstat state=RFPRO colour=red",
+                "colour= is no part of such a body; it takes state=, row-owner=",
+            ),
+            ("UPDATE /oic/sec/acl2 permision=R", "permision= is no part of such a body; did you mean permission?"),
+            ("GET /tare", "unknown word 'GET', which of CoAP is RETRIEVE here"),
             ("UPDATE /oic/sec/acl2 number=1 subject=me permission=R resources=*", "subject=me: a subject is"),
             (
                 "UPDATE /oic/sec/acl2 number=1 subject=role:7 permission=RX resources=*",

@@ -3,13 +3,14 @@
 
 use std::path::Path;
 
-use tillerclover::{Ace, Cred, Permission, Resource, Tables, Terminal, Waiting};
+use tillerclover::{Ace, Cred, Permission, Resource, Subject, Tables, Terminal, Waiting};
 
-use crate::marks::{self, Mark};
+use crate::marks::{self, Mark, DAY};
 use crate::matrix::{matrix, short_name, Cell, Line};
+use crate::seasons::{self, Place, Season};
 use crate::senders::Sender;
 use crate::stored::Stored;
-use crate::times::{self, Zone};
+use crate::times::{self, Day, Zone};
 use crate::who::ROLES_ARE_OPEN;
 use crate::yards::{self, Finding, Other, Yard};
 use crate::{names, service, words};
@@ -24,6 +25,7 @@ pub fn sheet(path: &Path, stored: &Stored, clock: u32, named: &[Yard], by: &str)
         head(&name, terminal, clock),
         rights(&matrix(terminal, clock)),
         isolation(terminal, named),
+        timeline(terminal, clock),
         access_rows(terminal, clock),
         credentials(&terminal.tables),
         waiting(terminal),
@@ -166,6 +168,77 @@ fn isolation_text(terminal: &Terminal, finding: &Finding) -> String {
         None => "<span class=\"now\">isolated</span>".into(),
         Some(reason) => format!("<span class=\"bad\">not isolated</span>: {}", escape(&reason)),
     }
+}
+
+/// The months that a timeline shows before and after the clock.
+const MONTHS: [u32; 2] = [6, 12];
+/// The left end and the right end of its bars, and the height of one.
+const BARS: [f64; 3] = [330.0, 860.0, 24.0];
+
+/// The rows that have a season, as bars over eighteen months; nothing where no row has one.
+fn timeline(terminal: &Terminal, clock: u32) -> String {
+    let found = seasons::seasons(terminal, clock);
+    if found.is_empty() {
+        return String::new();
+    }
+    let [first, last] = [clock.saturating_sub(MONTHS[0] * 30 * DAY), clock.saturating_add(MONTHS[1] * 30 * DAY)];
+    let at = |second: u32| {
+        let share = f64::from(second.clamp(first, last) - first) / f64::from((last - first).max(1));
+        BARS[0] + share * (BARS[1] - BARS[0])
+    };
+    let high = 34.0 + BARS[2] * found.len() as f64;
+    let upright = |class: &str, x: f64| {
+        format!("<line class=\"{class}\" x1=\"{x:.1}\" x2=\"{x:.1}\" y1=\"18\" y2=\"{high}\"/>\n")
+    };
+    let mut svg: String = months(first, last).iter().map(|(second, _)| upright("tick", at(*second))).collect();
+    for (second, name) in months(first, last).iter().step_by(3) {
+        svg +=
+            &format!("<text class=\"tick\" x=\"{:.1}\" y=\"12\" text-anchor=\"middle\">{name}</text>\n", at(*second));
+    }
+    for (place, season) in found.iter().enumerate() {
+        svg += &bar(season, 24.0 + BARS[2] * place as f64, [at(season.row.period.first), at(season.row.period.last)]);
+    }
+    svg += &upright("clock", at(clock));
+    format!(
+        "<section>\n<h2>Seasons</h2>\n<p>Rows that hold for a season; all others hold always. The red line is the clock of this \
+         page.</p>\n<div class=\"wide\"><svg class=\"seasons\" viewBox=\"0 0 {} {high}\" role=\"img\" aria-label=\"Seasons of \
+         access rows\">\n{svg}</svg></div>\n</section>\n",
+        BARS[1]
+    )
+}
+
+/// The first seconds of the months between two seconds, and their names.
+fn months(first: u32, last: u32) -> Vec<(u32, String)> {
+    let start = times::word(first);
+    let year: u32 = start.get(..4).and_then(|year| year.parse().ok()).unwrap_or(1970);
+    let all = (year..).take(3).flat_map(|year| (1..=12).map(move |month| format!("{year}-{month:02}")));
+    let begins = |month: &String| times::read(&format!("{month}-01"), Day::Begins).ok();
+    all.filter_map(|month| Some((begins(&month)?, month)))
+        .filter(|(second, _)| (first..last).contains(second))
+        .collect()
+}
+
+/// The bar of a row, with its words on the left.
+fn bar(season: &Season, y: f64, [from, to]: [f64; 2]) -> String {
+    let row = &season.row;
+    let class = match season.place {
+        Place::Over(_) => "over",
+        Place::Now(_) => "now",
+        Place::ToCome(_) => "come",
+    };
+    let who = match row.subject {
+        Subject::Uuid(uuid) => names::of_uuid(uuid).unwrap_or_else(|| format!("{}..", &uuid.to_string()[..8])),
+        Subject::Role(role) => names::of_role(role).unwrap_or_else(|| words::subject(row.subject)),
+        _ => words::subject(row.subject),
+    };
+    format!(
+        "<text x=\"0\" y=\"{}\">{}</text>\n<rect class=\"bar-{class}\" x=\"{from:.1}\" y=\"{y}\" width=\"{:.1}\" height=\"14\" rx=\"3\">\
+         <title>{}</title></rect>\n",
+        y + 11.0,
+        escape(&format!("{}  {who}  {}", row.number, words::resources_or_nothing(row))),
+        (to - from).max(1.0),
+        escape(&format!("{}; {}", times::period(row.period), season.place.words())),
+    )
 }
 
 fn access_rows(terminal: &Terminal, clock: u32) -> String {

@@ -158,6 +158,21 @@ pub fn now() -> Result<u32, String> {
     NOW.get().ok_or_else(|| "the time is not known here: write it out".into())
 }
 
+/// So many seconds: a number, or one with s, m, h, d or w after it.
+pub fn duration(text: &str) -> Result<u32, String> {
+    let end = text.find(|letter: char| !letter.is_ascii_digit()).unwrap_or(text.len());
+    let unit = match &text[end..] {
+        "" | "s" => 1,
+        "m" => 60,
+        "h" => 3600,
+        "d" => 86_400,
+        "w" => 7 * 86_400,
+        _ => 0,
+    };
+    let seconds = text[..end].parse().ok().and_then(|count: u32| count.checked_mul(unit)).filter(|_| unit > 0);
+    seconds.ok_or_else(|| format!("'{text}' is no time: write seconds, or 12h, 30d or 4w"))
+}
+
 /// A second as a date with a time, in one word; with its offset where the zone is another than UTC.
 pub fn word(second: u32) -> String {
     word_in(Zone::chosen(), second)
@@ -216,6 +231,12 @@ mod tests {
         assert!(read("2026-13-01", Day::Begins).is_err());
         assert!(read("4294967296", Day::Begins).is_err());
         assert!(read("1969-12-31", Day::Begins).is_err());
+    }
+
+    #[test]
+    fn durations() {
+        assert_eq!(["90", "90s", "2h", "30d", "4w"].map(duration), [90, 90, 7200, 2_592_000, 2_419_200].map(Ok));
+        assert!(["", "d", "30x", "-1d", "99999999w"].iter().all(|text| duration(text).is_err()));
     }
 
     #[test]

@@ -42,7 +42,9 @@ pub fn file<'a>(arguments: &'a ArgMatches, name: &str) -> &'a Path {
 
 /// The terminal's clock.
 pub fn clock(arguments: &ArgMatches) -> Result<u32, Error> {
-    times::read(text(arguments, "clock").unwrap_or("now"), Day::Begins)
+    // What is handed in needs no clock.
+    let given = arguments.try_get_one::<String>("clock").ok().flatten();
+    times::read(given.map_or("now", String::as_str), Day::Begins)
         .map_err(|error| Error::new(format!("--clock: {error}")))
 }
 

@@ -1,10 +1,12 @@
 //! The command line: what the subcommands take, and what they are for.
 
-use std::ffi::OsString;
+use std::ffi::{OsStr, OsString};
 use std::path::PathBuf;
 
 use answers::stored::Form;
+use clap::builder::{PossibleValue, TypedValueParser};
 use clap::{value_parser, Arg, ArgAction, Command};
+use tillerclover::{Resource, Verb};
 
 use crate::help::{EXIT, EXPECT, LINES, MAKE, RECORDS};
 use crate::version;
@@ -19,11 +21,16 @@ pub fn command() -> Command {
         .after_help(EXIT)
         .subcommand_required(true)
         .arg_required_else_help(true)
-        .arg(flag("json", "Write JSON for programs, errors too").global(true))
+        .arg(flag("json", "Write JSON for programs, errors too").global(true).display_order(901))
         .arg(
-            option("tz", "ZONE", "The zone of times: a name such as Europe/Berlin, or an offset such as +02:00")
-                .default_value("UTC")
-                .global(true),
+            option(
+                "tz",
+                "ZONE",
+                "The zone of times: a name such as Europe/Berlin, or an offset such as +02:00; without it \
+                TILLERCLOVER_TZ or TZ, or UTC",
+            )
+            .global(true)
+            .display_order(902),
         )
         .arg(
             option(
@@ -32,16 +39,18 @@ pub fn command() -> Command {
                 "The yard's names, one to a line; without it those of a file FILE.names beside the tables",
             )
             .value_parser(value_parser!(PathBuf))
-            .global(true),
+            .global(true)
+            .display_order(903),
         )
         .arg(
             option("color", "WHEN", "Colours; auto is where a terminal shows them and NO_COLOR is not set")
                 .value_parser(["auto", "always", "never"])
                 .default_value("auto")
-                .global(true),
+                .global(true)
+                .display_order(904),
         )
         .subcommands([new(), judge(), hand_in(), take(), undo(), fresh(), clear()])
-        .subcommands([show(), who(), rights(), why(), isolated(), yards(), diff()])
+        .subcommands([show(), seasons(), who(), rights(), why(), isolated(), yards(), diff()])
         .subcommand(
             Command::new("list")
                 .about("Test, make, convert and load lists of access rows, write the office's text")
@@ -49,7 +58,7 @@ pub fn command() -> Command {
                 .arg_required_else_help(true)
                 .subcommands([list_check(), list_convert(), list_make(), list_load(), list_text()]),
         )
-        .subcommands([run(), test(), completions(), man()])
+        .subcommands([record(), decode(), run(), test(), completions(), man()])
 }
 
 fn new() -> Command {
@@ -69,8 +78,8 @@ fn judge() -> Command {
 }
 
 fn hand_in() -> Command {
-    let hand_in = Command::new("hand-in").about("Hand records in, to wait for their turn");
-    stores(defaults(recorded(hand_in).after_help(format!("{RECORDS}{LINES}"))))
+    let hand_in = Command::new("hand-in").about("Hand records in, to wait for their turn").arg(file()).arg(records());
+    stores(defaults(hand_in.after_help(format!("{RECORDS}{LINES}"))))
 }
 
 fn take() -> Command {
@@ -116,11 +125,38 @@ fn show() -> Command {
         .arg(clock())
 }
 
+fn seasons() -> Command {
+    let within = "Show those alone that end within this time, such as 30d; status 1 where no row renews one";
+    Command::new("seasons")
+        .about("The seasons of access rows: over, ending, to come, renewed")
+        .arg(file())
+        .arg(option("within", "TIME", within))
+        .arg(clock())
+}
+
+fn record() -> Command {
+    let bytes = "Write the bytes themselves, one record after the other";
+    let coap =
+        "Write a line for libcoap's client, which sends it to this address; its key is asked of the variable KEY";
+    Command::new("record")
+        .about("Write records in words as hexadecimal digits, as bytes, or as a line that sends them")
+        .arg(records())
+        .arg(flag("bytes", bytes).conflicts_with("coap"))
+        .arg(option("coap", "HOST", coap))
+        .after_help(RECORDS)
+}
+
+fn decode() -> Command {
+    Command::new("decode")
+        .about("Write records of hexadecimal digits in words")
+        .arg(Arg::new("HEX").required(true).num_args(1..).help("Records, each in quotes or without spaces"))
+}
+
 fn who() -> Command {
     Command::new("who")
         .about("Who may do something with a resource, by which row or right, and who could by asserting a role")
-        .arg(Arg::new("VERB").required(true).help("CREATE, RETRIEVE, UPDATE, DELETE or OBSERVE"))
-        .arg(Arg::new("RESOURCE").required(true).help("/weight, /tare, /oic/sec/acl2, .."))
+        .arg(completed("VERB", verbs).help("CREATE, RETRIEVE, UPDATE, DELETE or OBSERVE"))
+        .arg(completed("RESOURCE", resources).help("/weight, /tare, /oic/sec/acl2, .."))
         .arg(file())
         .arg(clock())
 }
@@ -200,7 +236,7 @@ fn list_convert() -> Command {
 fn list_make() -> Command {
     let make = Command::new("make")
         .about("Make a list of words or of the office's JSON, and hold it to what the library writes of it")
-        .arg(path_argument("FROM", "The office's JSON, or rows in words, one to a line"))
+        .arg(path_argument("FROM", "The office's JSON, a table of CSV, or rows in words, one to a line"))
         .arg(path_argument("NEW", "The list to write"))
         .arg(force())
         .after_help(MAKE);
@@ -225,6 +261,7 @@ fn list_text() -> Command {
         .about("Write the access list as the office's JSON")
         .arg(path_argument("FILE", "Tables, or a list of rows of 36 bytes"))
         .arg(flag("seasons", "Write rows with a season too, with first and last: an extension of this command"))
+        .arg(flag("csv", "Write all rows as a table for spreadsheets").conflicts_with("seasons"))
 }
 
 fn run() -> Command {
@@ -242,6 +279,7 @@ fn test() -> Command {
     Command::new("test")
         .about("Test a yard's expectations: what records get at a clock, in a file of TOML")
         .arg(files("Files of expectations, or folders of them"))
+        .arg(flag("watch", "Test again whenever a file changes, until the command is ended"))
         .after_help(EXPECT)
 }
 
@@ -260,16 +298,51 @@ fn man() -> Command {
 
 /// A subcommand on tables with records.
 fn recorded(command: Command) -> Command {
-    command
-        .arg(file())
-        .arg(
-            Arg::new("RECORD")
-                .required(true)
-                .num_args(1..)
-                .value_parser(value_parser!(OsString))
-                .help("Records in words or hexadecimal digits"),
-        )
-        .arg(clock())
+    command.arg(file()).arg(records()).arg(clock())
+}
+
+fn records() -> Arg {
+    Arg::new("RECORD")
+        .required(true)
+        .num_args(1..)
+        .value_parser(Words(|| [verbs(), resources(), states()].concat()))
+        .hide_possible_values(true)
+        .help("Records in words or hexadecimal digits")
+}
+
+/// An argument that takes any text, with words that a shell may complete it to.
+fn completed(name: &'static str, words: fn() -> Vec<&'static str>) -> Arg {
+    let parser = Words(words).map(|word| word.to_string_lossy().into_owned());
+    Arg::new(name).required(true).value_parser(parser).hide_possible_values(true)
+}
+
+fn verbs() -> Vec<&'static str> {
+    Verb::ALL.iter().filter_map(|verb| verb.name()).collect()
+}
+
+fn resources() -> Vec<&'static str> {
+    Resource::ALL.iter().filter_map(|resource| resource.name()).collect()
+}
+
+/// The fields that set a state.
+fn states() -> Vec<&'static str> {
+    vec!["state=RESET", "state=RFOTM", "state=RFPRO", "state=RFNOP", "state=SRESET"]
+}
+
+/// Any text, and the words that a shell may complete it to.
+#[derive(Clone)]
+struct Words(fn() -> Vec<&'static str>);
+
+impl TypedValueParser for Words {
+    type Value = OsString;
+
+    fn parse_ref(&self, _: &Command, _: Option<&Arg>, value: &OsStr) -> Result<OsString, clap::Error> {
+        Ok(value.into())
+    }
+
+    fn possible_values(&self) -> Option<Box<dyn Iterator<Item = PossibleValue> + '_>> {
+        Some(Box::new((self.0)().into_iter().map(PossibleValue::new)))
+    }
 }
 
 /// A subcommand that replaces a file.

@@ -8,7 +8,7 @@ use answers::report::{Report, Status};
 use answers::steps::Act;
 use answers::who::{self, Question};
 use answers::yards::{known, parse as parse_yards};
-use answers::{diff, matrix, parse, sheet, show, why};
+use answers::{diff, matrix, parse, seasons, sheet, show, times, why};
 use clap::ArgMatches;
 use serde_json::json;
 
@@ -17,7 +17,7 @@ use crate::error::{name, Error};
 use crate::files::{self, Sum};
 use crate::records::word;
 use crate::store::{self, Care};
-use crate::{boxing, expect, judge, list, manual, names, new, run, undo, version, yards};
+use crate::{boxing, expect, judge, list, manual, names, new, run, undo, version, watch, wire, yards};
 
 /// What a command leaves to do.
 pub enum Done {
@@ -33,6 +33,10 @@ pub fn dispatch(matches: &ArgMatches) -> Result<Done, Error> {
         Some(("run", arguments)) => {
             names::choose(arguments).and_then(|()| run::file(arguments, matches.get_flag("json"))).map(Done::Printed)
         }
+        Some(("record", arguments)) if arguments.get_flag("bytes") => {
+            names::choose(arguments).and_then(|()| wire::bytes(arguments)).map(Done::Printed)
+        }
+        Some(("test", arguments)) if arguments.get_flag("watch") => watch::test(arguments).map(Done::Printed),
         Some((name, arguments)) => report(name, arguments).map(Done::Report),
         None => unreachable!("clap asks for a subcommand"),
     }
@@ -57,20 +61,26 @@ fn report(name: &str, arguments: &ArgMatches) -> Result<Report, Error> {
         "hand-in" => judge::judge(arguments, Act::HandIn),
         "take" => judge::take(arguments),
         "undo" => undo::undo(file(arguments, "FILE"), wait(arguments)),
+        "seasons" => seasons(arguments),
+        "record" => wire::record(arguments),
+        "decode" => wire::decode(arguments),
         "who" => who(arguments),
         "rights" => rights(arguments),
         "why" => explain(arguments),
         "isolated" => yards::isolated(arguments),
         "yards" => yards::yards(arguments),
-        "test" => {
-            let test = |file: &Path| expect::test(file, path(arguments, "names"));
-            on_each(arguments, test, &Sum { what: "file", well: "met", not: "not" })
-        }
+        "test" => test(arguments),
         "completions" => manual::completions(text(arguments, "SHELL").unwrap_or_default()).map(plain),
         "man" => manual::page(&texts(arguments, "COMMAND")).map(plain),
         "diff" => compare(arguments),
         _ => unreachable!("clap knows no such command"),
     }
+}
+
+/// `test FILE..`.
+pub fn test(arguments: &ArgMatches) -> Result<Report, Error> {
+    let test = |file: &Path| expect::test(file, path(arguments, "names"));
+    on_each(arguments, test, &Sum { what: "file", well: "met", not: "not" })
 }
 
 /// Asks about the file of a command, or about each of many.
@@ -117,6 +127,13 @@ fn compare(arguments: &ArgMatches) -> Result<Report, Error> {
 fn plain(text: String) -> Report {
     let json = json!({ "text": text });
     Report::new(text, json, Status::Yes)
+}
+
+fn seasons(arguments: &ArgMatches) -> Result<Report, Error> {
+    let (path, clock) = (file(arguments, "FILE"), clock(arguments)?);
+    let within = text(arguments, "within").map(times::duration).transpose();
+    let within = within.map_err(|error| Error::new(format!("--within: {error}")))?;
+    Ok(seasons::report(path, &store::whole_tables(path, Default::default())?, clock, within))
 }
 
 fn who(arguments: &ArgMatches) -> Result<Report, Error> {

@@ -1,7 +1,7 @@
 //! `test FILE.toml`: a yard's own expectations of its tables: what a record gets
 //! at a clock.
 
-use std::path::Path;
+use std::path::{Path, PathBuf};
 use std::str::FromStr;
 
 use answers::colour::verdict;
@@ -53,6 +53,12 @@ pub fn test(path: &Path, names: Option<&Path>) -> Result<Report, Error> {
     let results: Vec<Checked> =
         suite.expectations.iter().map(|expectation| expectation.ask(&mut terminal, suite.sequence)).collect();
     Ok(report(path, &tables, &results))
+}
+
+/// The tables that a file of expectations is about, where it says so.
+pub fn tables_of(path: &Path) -> Option<PathBuf> {
+    let text = store::read_text(path).ok()?;
+    Suite::tables(&text).ok().map(|tables| path.parent().unwrap_or(Path::new("")).join(tables))
 }
 
 /// A whole file.

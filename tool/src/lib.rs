@@ -25,6 +25,8 @@ pub mod nesting;
 pub mod new;
 pub mod run;
 pub mod undo;
+pub mod watch;
+pub mod wire;
 pub mod yards;
 
 // Files.

@@ -31,12 +31,24 @@ pub fn list(name: &str, arguments: &ArgMatches) -> Result<Report, Error> {
 }
 
 fn check(path: &Path) -> Result<Report, Error> {
-    Ok(list::check(path, &store::read(path)?))
+    Ok(list::check(path, &bytes(path)?))
+}
+
+/// The bytes of a list or of tables. A text is none, and what to do with it is said.
+fn bytes(path: &Path) -> Result<Vec<u8>, Error> {
+    let bytes = store::read(path)?;
+    match load::no_list(&bytes) {
+        Some(what) => Err(Error::of(path, what)),
+        None => Ok(bytes),
+    }
 }
 
 fn text(arguments: &ArgMatches) -> Result<Report, Error> {
     let path = file(arguments, "FILE");
-    list::text(path, &store::read(path)?, arguments.get_flag("seasons"))
+    match arguments.get_flag("csv") {
+        true => list::table(path, &bytes(path)?),
+        false => list::text(path, &bytes(path)?, arguments.get_flag("seasons")),
+    }
 }
 
 /// Makes a new list of an older terminal's. A bad list leaves no file behind.

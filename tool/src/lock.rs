@@ -103,7 +103,8 @@ impl Locked {
         let Some(number) = holder else { return Ok(!refused) };
         let process = (number != 0).then_some(number);
         let by = process.map_or("another process".into(), |number| format!("process {number}"));
-        let message = format!("in use by {by}; nothing was changed");
+        let message =
+            format!("in use by {by}; nothing was changed; 'tillerclover record' writes what can be sent to it instead");
         Err(Error { kind: Kind::InUse, process, ..Error::of(&self.path, message) })
     }
 

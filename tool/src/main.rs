@@ -8,7 +8,7 @@ use std::io::{self, Write};
 use std::process::ExitCode;
 
 use answers::colour;
-use answers::report::{Report, Status};
+use answers::report::{folded, Report, Status};
 use answers::times::{self, Zone};
 use clap::error::ErrorKind;
 use clap::ArgMatches;
@@ -17,7 +17,7 @@ use tool::arguments::text;
 use tool::command::command;
 use tool::dispatch::{dispatch, Done};
 use tool::error::{plain, Error, Kind};
-use tool::screen;
+use tool::{screen, version};
 
 fn main() -> ExitCode {
     let matches = match command().try_get_matches() {
@@ -42,8 +42,13 @@ fn main() -> ExitCode {
 fn settings(matches: &ArgMatches) -> Result<(), Error> {
     colour::switch(screen::colours(text(matches, "color").unwrap_or("auto")));
     times::set_now(screen::now());
-    let zone: Zone =
-        text(matches, "tz").unwrap_or("UTC").parse().map_err(|error| Error::new(format!("--tz: {error}")))?;
+    let named = |name: &str, zone: &str| zone.parse().map_err(|error| Error::new(format!("{name}: {error}")));
+    let zone: Zone = match (text(matches, "tz"), env::var("TILLERCLOVER_TZ")) {
+        (Some(zone), _) => named("--tz", zone)?,
+        (None, Ok(zone)) if !zone.is_empty() => named("TILLERCLOVER_TZ", &zone)?,
+        // The system's variable has forms of its own, which are no mistake.
+        _ => env::var("TZ").ok().and_then(|zone| zone.trim_start_matches(':').parse().ok()).unwrap_or(Zone::UTC),
+    };
     zone.choose();
     Ok(())
 }
@@ -55,7 +60,15 @@ fn usage(error: &clap::Error) -> ExitCode {
         let message = error.to_string();
         return fail(&Error::new(message.trim_start_matches("error: ").trim_end()), true);
     }
-    match error.print() {
+    if error.kind() == ErrorKind::DisplayVersion && env::args_os().any(|argument| argument == "--json") {
+        let version = Report::new(String::new(), version::json(), Status::Yes);
+        return print(&version, true).map_or(ExitCode::from(2), |_| ExitCode::SUCCESS);
+    }
+    let printed = match screen::width() {
+        Some(width) if asked => write!(io::stdout(), "{}", folded(&error.to_string(), width)),
+        _ => error.print(),
+    };
+    match printed {
         Err(error) if error.kind() != io::ErrorKind::BrokenPipe => ExitCode::from(2),
         _ => ExitCode::from(if asked { 0 } else { 2 }),
     }
@@ -74,7 +87,11 @@ fn print(report: &Report, json: bool) -> Result<Status, Error> {
             let _ = writeln!(io::stderr(), "tillerclover: {notice}");
         }
     }
-    let text = if json { format!("{:#}\n", report.json) } else { report.text.clone() };
+    let text = match (json, screen::width()) {
+        (true, _) => format!("{:#}\n", report.json),
+        (false, Some(width)) => folded(&report.text, width),
+        (false, None) => report.text.clone(),
+    };
     let written = io::stdout().write_all(text.as_bytes()).and_then(|()| io::stdout().flush());
     let written = if screen::output_is_closed() { Err(io::ErrorKind::BrokenPipe.into()) } else { written };
     match (written, &report.changed) {

@@ -13,8 +13,22 @@ pub fn completions(shell: &str) -> Result<String, Error> {
     let shell: Shell = shell.parse().map_err(Error::new)?;
     let mut script = Vec::new();
     clap_complete::generate(shell, &mut command(), "tillerclover", &mut script);
-    String::from_utf8(script).map_err(|_| Error::new("the script is no text"))
+    let script = String::from_utf8(script).map_err(|_| Error::new("the script is no text"))?;
+    Ok(if shell == Shell::Bash { script + BASH_NAMES } else { script })
 }
+
+/// What bash completes beside the command's own words: the names of the files of names in the folder.
+const BASH_NAMES: &str = r#"
+_tillerclover_and_names() {
+    _tillerclover "$@"
+    local word=${COMP_WORDS[COMP_CWORD]} name
+    [ -n "$word" ] || return 0
+    while read -r name; do
+        [[ ${name,,} != "${word,,}"* ]] || COMPREPLY+=("$name")
+    done < <(sed -nE 's/(^| )#.*//; s/^(role +)?[0-9@]+ +([0-9a-fA-F-]{32,36} +)?//; s/ +$//; s/ +/-/g; /./p' -- *.names 2>/dev/null)
+}
+complete -F _tillerclover_and_names -o bashdefault -o default tillerclover
+"#;
 
 /// The page of the whole command, or of one of its subcommands: `list make`.
 pub fn page(names: &[String]) -> Result<String, Error> {

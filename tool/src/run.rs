@@ -2,7 +2,7 @@
 //! line in words beside its numbers.
 
 use std::fs::File;
-use std::io::{self, BufReader, BufWriter, IsTerminal, LineWriter, Read, Write};
+use std::io::{self, BufRead, BufReader, BufWriter, IsTerminal, LineWriter, Read, Write};
 use std::path::Path;
 use std::time::{Duration, Instant};
 
@@ -134,9 +134,28 @@ fn source(name: &Path, arguments: &ArgMatches) -> Result<(Source<impl Read>, Opt
     let (mut reader, mut length) = opened(name)?;
     if !arguments.get_flag("whole") {
         reader = Box::new(reader.take(LIMIT));
+        if let Some(length) = length.filter(|&length| length > LIMIT) {
+            let note =
+                format!("has {length} bytes; the first {LIMIT} are read, as the run program does; --whole reads all");
+            let _ = writeln!(io::stderr(), "tillerclover: {}: {note}", crate::error::name(name));
+        }
         length = length.map(|length| length.min(LIMIT));
     }
-    Ok((Source::Bytes(Input { reader: BufReader::new(reader), at: 0 }), length))
+    let mut reader = BufReader::new(reader);
+    if is_text(reader.fill_buf().map_err(|error| unreadable(name, &error))?) {
+        return Err(Error::of(
+            name,
+            "is a text, and no run of clocks, lengths and records; --lines reads one record to a line",
+        ));
+    }
+    Ok((Source::Bytes(Input { reader, at: 0 }), length))
+}
+
+/// Whether a run begins as a text does. The first byte of a run is that of a clock.
+fn is_text(begin: &[u8]) -> bool {
+    let begin = &begin[..begin.len().min(256)];
+    let letter = |byte: &u8| byte.is_ascii_graphic() || byte.is_ascii_whitespace();
+    begin.len() >= 12 && begin.iter().all(letter)
 }
 
 /// A file or standard input, with its length where that is known.

@@ -4,6 +4,7 @@ use std::env;
 use std::io::{self, IsTerminal};
 use std::time::SystemTime;
 
+use crate::system::columns_of_output;
 pub use crate::system::output_is_closed;
 
 /// Whether there are colours: `always`, `never`, or `auto` where a terminal shows the output and NO_COLOR is not set.
@@ -15,6 +16,12 @@ pub fn colours(when: &str) -> bool {
         "never" => false,
         _ => io::stdout().is_terminal() && !plain && !dumb,
     }
+}
+
+/// How many letters a line of the screen has, where a screen shows the output.
+pub fn width() -> Option<usize> {
+    let columns = io::stdout().is_terminal().then(columns_of_output).flatten();
+    columns.map(usize::from).filter(|&columns| columns >= 40)
 }
 
 /// The system's clock, where it is a second that a terminal's clock has.

@@ -55,6 +55,14 @@ extern "C" fn look_at_output() {
     OUTPUT_CLOSED.store(!open, Ordering::Relaxed);
 }
 
+/// How many columns the screen has that shows standard output.
+pub fn columns_of_output() -> Option<u16> {
+    let mut size = libc::winsize { ws_row: 0, ws_col: 0, ws_xpixel: 0, ws_ypixel: 0 };
+    // The structure lives through the call, which writes it.
+    let done = unsafe { libc::ioctl(libc::STDOUT_FILENO, libc::TIOCGWINSZ, &raw mut size) };
+    (done == 0 && size.ws_col > 0).then_some(size.ws_col)
+}
+
 /// Whether standard output was closed when the command began: what is written to it is then seen by nobody.
 pub fn output_is_closed() -> bool {
     OUTPUT_CLOSED.load(Ordering::Relaxed)

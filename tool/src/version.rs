@@ -2,6 +2,7 @@
 
 use std::sync::OnceLock;
 
+use serde_json::{json, Value};
 use tillerclover::{FORMAT, INTERFACE_MAJOR, INTERFACE_MINOR};
 
 /// The SHA-256 of the archive that is linked.
@@ -18,6 +19,17 @@ pub fn long() -> &'static str {
              toolchain          {TOOLCHAIN}\nlibterminal.a      sha256 {ARCHIVE}",
             env!("CARGO_PKG_VERSION")
         )
+    })
+}
+
+/// The same for programs.
+pub fn json() -> Value {
+    json!({
+        "version": env!("CARGO_PKG_VERSION"),
+        "interface": format!("{INTERFACE_MAJOR}.{INTERFACE_MINOR}"),
+        "format": FORMAT,
+        "toolchain": TOOLCHAIN,
+        "archive": ARCHIVE,
     })
 }
 
