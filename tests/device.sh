@@ -13,7 +13,7 @@ build_device() {
 part_device() {
     option=-e
     file=$work/eeprom
-    device_starts && device_yard && device_memory
+    device_starts && device_yard && device_gone && device_memory
     device_cuts
     rm -f "$work/lives"
     "$work/device" "$work/lives" || fault "lives of a terminal on a device"
@@ -60,6 +60,23 @@ device_yard() {
     finish
     grep -q "stored 1 times, by 0 bytes$" "$work/log" || fault "a tare: $(tail -n 1 "$work/log")"
     [ "$(cksum <"$file")" = "$before" ] || fault "what changes no table has written"
+}
+
+# A device whose file is removed, or replaced, while the terminal runs is no device any more: no answer rests on it.
+device_gone() {
+    local way
+    program=$work/terminal
+    for way in removed replaced; do
+        rm -f "$file"
+        launch || return
+        cp "$file" "$work/another"
+        [ $way = removed ] && rm "$file" || mv "$work/another" "$file"
+        PATIENCE=1 expect none 0 post /oic/sec/cred "$(cred 7 "$(uuid 07)")"
+        wait "$pid"
+        same "a device that is $way" "1 1" "$? $(grep -c "eeprom cannot be written: it was removed" "$work/errors")"
+        pid=
+    done
+    program=$work/terminal-sanitized
 }
 
 # New memory holds tables that are not sound; the button gives fresh ones.

@@ -97,6 +97,8 @@ static void misbehave(int kind, bool secure)
         }
         break;
     case 14:
+        /* the first of them is too short for a message */
+        send(FRONT_SOCKET, bytes, 3, 0);
         for (int i = 0; i < 2000; i++) {
             send(FRONT_SOCKET, bytes + rand() % 1000, (size_t)(rand() % 300), MSG_DONTWAIT | MSG_NOSIGNAL);
         }
@@ -139,8 +141,13 @@ int front_main(const char *name, const char *address, const char *port)
     }
     srand((unsigned)time(NULL) ^ (unsigned)getpid());
     say(MESSAGE_ALIVE, 0, NULL, 0);
-    if (turn >= 0) {
-        misbehave((secure ? SECURE : CLEAR)[turn % TURNS], secure);
+    if (turn >= 0 && turn < TURNS) {
+        misbehave((secure ? SECURE : CLEAR)[turn], secure);
+    }
+    /* through: so each thing is said once */
+    while (turn >= TURNS) {
+        poll(NULL, 0, 500);
+        say(MESSAGE_ALIVE, 0, NULL, 0);
     }
     /* the first one only waits, so that the core starts */
     poll(NULL, 0, turn < 0 ? 300 : 50);

@@ -101,7 +101,8 @@ static struct answer yard(unsigned verb, uint64_t set)
     size_t length = 0;
     for (size_t i = 0; i < DIRECTORY_LENGTH; i++) {
         if (set & TILLERCLOVER_SET_BIT(DIRECTORY[i].number)) {
-            length += (size_t)sprintf(links + length, "%s<%s>", length ? "," : "", DIRECTORY[i].path);
+            int more = snprintf(links + length, sizeof links - length, "%s<%s>", length ? "," : "", DIRECTORY[i].path);
+            length = more > 0 && (size_t)more < sizeof links - length ? length + (size_t)more : length;
         }
     }
     return permitted(verb, LINK_FORMAT, links, length);

@@ -7,12 +7,14 @@
 #include "log.h"
 
 enum {
-    /* Messages of each front that are read before the next round. Reading is cheap beside a round with its store. */
-    MESSAGES = 64,
     /* Milliseconds from a store to the next. Meanwhile records that may change the tables gather, so that memory is
      * written at most 40 times a second, whatever is sent; others are not kept waiting. */
     BETWEEN_STORES = 25
 };
+
+/* Messages of each front that are read before the next round. Reading is cheap beside a round with its store. The front
+ * in clear speaks for one sender, so what it says without end takes little from the others. */
+static const int MESSAGES[FRONTS] = {[FRONT_CLEAR] = 4, [FRONT_SECURE] = 64};
 
 /* ---- The log */
 
@@ -166,6 +168,21 @@ static void refuse(struct core *c, const struct client *from, unsigned number)
     report(c, from->record.bytes, from->record.length, number, refusal.code);
 }
 
+/* Whether the record asserts a role. */
+static bool asserts(const uint8_t *record)
+{
+    return tillerclover_record_verb(record) == TILLERCLOVER_UPDATE &&
+           tillerclover_record_resource(record) == TILLERCLOVER_ROLES;
+}
+
+/* A partner that asserts roles without end. */
+static void refuse_assertion(struct core *c, const struct client *from)
+{
+    struct answer refusal = answer_words(503, "as many roles as a partner may assert in a day");
+    refusal.max_age = 24 * 60 * 60 / ASSERTIONS_EACH_DAY;
+    fronts_say(&c->fronts, from->front, MESSAGE_ANSWER, from->ticket, &refusal, answer_size(&refusal));
+}
+
 /* Whether the record may change the tables. */
 static bool may_store(const tillerclover_record *r)
 {
@@ -267,6 +284,8 @@ static bool take(struct core *c, int front, struct message *m)
             memcpy(from.record.bytes, m->body, m->length);
             if (c->unconfirmed[from.sender] > 0) {
                 refuse(c, &from, TILLERCLOVER_NOTHING_WAITING);
+            } else if (asserts(from.record.bytes) && !assertions_left(&c->assertions, from.sender)) {
+                refuse_assertion(c, &from);
             } else {
                 take_record(c, &from);
             }
@@ -287,7 +306,7 @@ void core_read(struct core *c)
     static struct message m;
     forget_lives_before(c);
     for (int front = 0; front < FRONTS; front++) {
-        for (int i = 0; i < MESSAGES && fronts_take(&c->fronts, front, &m); i++) {
+        for (int i = 0; i < MESSAGES[front] && fronts_take(&c->fronts, front, &m); i++) {
             if (!take(c, front, &m)) {
                 fronts_end(&c->fronts, front, "said what no front says");
             }
@@ -309,6 +328,9 @@ static void serve(struct core *c)
         struct client *client = find(c, tillerclover_record_sender(t->record));
         if (client != NULL) {
             answer(c, client, &a);
+        }
+        if (asserts(t->record) && t->outcome.answer == TILLERCLOVER_PERMITTED) {
+            assertions_count(&c->assertions, tillerclover_record_sender(t->record));
         }
         report(c, t->record, t->record_length, t->outcome.answer, a.code);
     }

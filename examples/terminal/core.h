@@ -3,6 +3,7 @@
 #define CORE_H
 
 #include "answer.h"
+#include "assertions.h"
 #include "fronts.h"
 #include "terminal.h"
 
@@ -38,6 +39,7 @@ struct core {
      * of the front that is about. */
     uint16_t unconfirmed[UINT16_MAX + 1];
     unsigned life;
+    struct assertions assertions;
     /* whether the keys were read again, and the front has not confirmed it */
     bool keys_asked;
 };

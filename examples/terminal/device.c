@@ -123,5 +123,7 @@ void device_write(struct device *d, const tillerclover_terminal *state)
     }
     if (d->file.descriptor < 0) {
         file_replace(&d->file, d->bytes, DEVICE_LENGTH);
+    } else if (!file_is_there(&d->file)) {
+        fail_to(d, "written", "it was removed, or another file has its name");
     }
 }

@@ -65,6 +65,11 @@ void file_open(struct file *f, const char *path, int flags)
     *f = (struct file){.path = path, .flags = flags, .descriptor = open_locked(path, flags)};
 }
 
+bool file_is_there(const struct file *f)
+{
+    return still_at(f->path, f->descriptor);
+}
+
 /* ---- Reading */
 
 size_t file_read(const struct file *f, void *bytes, size_t room)
@@ -111,6 +116,11 @@ static bool sync_folder(const char *path)
  * be making the file at this moment. */
 static void remove_stale(const struct file *f, const char *next)
 {
+    struct stat found;
+    if (lstat(next, &found) != 0 || found.st_uid != geteuid()) {
+        /* It is somebody else's. */
+        return;
+    }
     if (f->descriptor < 0) {
         int file = open(next, O_RDWR | O_NOFOLLOW | O_CLOEXEC);
         if (file >= 0 && !lock(file)) {
@@ -164,7 +174,9 @@ static int replace(const struct file *f, const void *bytes, size_t length)
         return sync_folder(f->path) ? file : -1;
     }
     int error = errno;
-    unlink(next);
+    if (still_at(next, file)) {
+        unlink(next);
+    }
     errno = error;
     return -1;
 }

@@ -2,6 +2,7 @@
 #ifndef FILE_H
 #define FILE_H
 
+#include <stdbool.h>
 #include <stddef.h>
 
 /* Open and locked: others see by the lock which process has it. */
@@ -16,6 +17,9 @@ struct file {
 /* Opens and locks the file, where there is one. A file that cannot be opened, or that another process has locked, ends
  * the program. */
 void file_open(struct file *f, const char *path, int flags);
+
+/* Whether the path still names the file that is open. */
+bool file_is_there(const struct file *f);
 
 /* Reads the next bytes: as many as there are, and `room` at most. A file that cannot be read ends the program. */
 size_t file_read(const struct file *f, void *bytes, size_t room);

@@ -16,6 +16,7 @@
 #include <unistd.h>
 
 #include "clock.h"
+#include "confine.h"
 #include "core.h"
 #include "fail.h"
 #include "front.h"
@@ -187,8 +188,7 @@ static void start(struct program *p)
     terminal_open(&c->terminal, path, o->device != NULL, o->make);
     fronts_open(&c->fronts, o->address, o->port, o->secure_port, &p->keys);
     if (!terminal_start(&c->terminal, clock)) {
-        fprintf(stderr, "terminal: %s is damaged: every record is answered with 1 until kill -USR1 %d clears it\n",
-                path, (int)getpid());
+        fail_line("%s is damaged: every record is answered with 1 until kill -USR1 %d clears it", path, (int)getpid());
     }
     log_say("%s, coap port %s, coaps port %s", o->address, o->port, o->secure_port);
 }
@@ -233,6 +233,7 @@ int main(int count, char **words)
         return front_main(words[2], words[3], words[4]);
     }
     open_standard();
+    confine_memory();
     if (!tillerclover_identified()) {
         fail("the archive and tillerclover.h are not of one build");
     }

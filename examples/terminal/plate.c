@@ -119,11 +119,14 @@ static enum done print_ticket(struct plate *p, uint32_t clock, const char *body)
 
 static enum done set_lamp(struct plate *p, const char *body)
 {
-    if (strcmp(body, "off") != 0 && strcmp(body, "red") != 0 && strcmp(body, "green") != 0) {
-        return PLATE_BAD_BODY;
+    static const char LAMPS[][sizeof p->lamp] = {"off", "red", "green"};
+    for (size_t i = 0; i < sizeof LAMPS / sizeof *LAMPS; i++) {
+        if (strcmp(body, LAMPS[i]) == 0) {
+            memcpy(p->lamp, LAMPS[i], sizeof p->lamp);
+            return PLATE_DONE;
+        }
     }
-    strcpy(p->lamp, body);
-    return PLATE_DONE;
+    return PLATE_BAD_BODY;
 }
 
 static enum done set_span(struct plate *p, const char *body)
@@ -150,7 +153,7 @@ static enum done update(struct plate *p, uint32_t clock, unsigned resource, cons
     case TILLERCLOVER_CALIB:
         return set_span(p, body);
     case TILLERCLOVER_DISPLAY:
-        strcpy(p->display, body);
+        snprintf(p->display, sizeof p->display, "%s", body);
         return PLATE_DONE;
     default:
         return PLATE_NOT_OFFERED;

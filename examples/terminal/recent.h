@@ -6,12 +6,13 @@
 #include <coap3/coap.h>
 
 #include "answer.h"
+#include "keys.h"
 #include "tillerclover_records.h"
 
-/* For each credential, or in clear for all together, the latest ones. */
+/* For each credential the latest ones, with room for as many credentials as can have a key; or in clear for all together. */
 enum {
-    RECENT = 256,
     RECENT_EACH_SECURE = 8,
+    RECENT = RECENT_EACH_SECURE * KEYS_MOST,
     RECENT_EACH_CLEAR = RECENT
 };
 
