@@ -8,7 +8,8 @@ LOG is what the prover said to an edit, target/must-fail/CRATE/EDIT/.log. Exit s
     an error is of the edit's form: a name, a field, a constructor, a clause, a plain type or a number of arguments that does
     not fit, or a text that cannot be read;
     the first error is that a callee's `requires` is not met: what the function itself promises is not looked at there;
-    a function is proved that the edit names as refused, in a line 'refused: CRATE::FUNCTION..' of its comment;
+    a function or a law is proved that the edit names as refused, in a line 'refused: CRATE::FUNCTION..' or 'refused: FILE.LAW..'
+    of its comment, where FILE is one of the crate's proofs/;
     the edit adds a function whose contract does not say what its result is: the right body would then be refused too.
 """
 import os
@@ -65,7 +66,7 @@ def edit_of(path):
 
 
 def named(edit):
-    """The functions that an edit names as refused."""
+    """The functions and laws that an edit names as refused."""
     return [name for words in re.findall(r"^refused: (.*)$", edit, re.M) for name in words.split()]
 
 
@@ -78,6 +79,14 @@ def loose(edit):
                 yield re.match(r"\w+", function).group()
 
 
+def refuses(line, name):
+    """Whether the line says that the function, or the law of a file of proofs/, is refused itself."""
+    if "::" in name:
+        return re.match(rf"fn {name}: not proved$", line)
+    file, law = name.split(".")
+    return re.search(rf"/proofs/{file}\.antt:\d+:\d+: error: `{law}`(?!.*was not admitted)", line)
+
+
 def fault(path):
     """What is wrong with a refusal, or None."""
     with open(path, encoding="utf-8", errors="replace") as file:
@@ -88,9 +97,9 @@ def fault(path):
     edit = edit_of(path)
     for function in loose(edit):
         return f"adds `{function}`, whose contract does not say what its result is", ""
-    for function in named(edit):
-        if not any(re.match(rf"fn {function}: not proved$", line) for line in lines):
-            return f"leaves {function} proved, or not proved for another", ""
+    for name in named(edit):
+        if not any(refuses(line, name) for line in lines):
+            return f"leaves {name} proved, or not proved for another", ""
     first = first_of(lines)
     if NAMED.search(first) or NOTE.search(first) or answers_a_callee(first):
         return "is refused first for what a callee asks for", first
