@@ -1,5 +1,5 @@
 -- What a decision that passes says of the record: it passed every check, so the outcome is its effect.
-use Rattle.rows.proofs.Prelude.{_≡_, refl, sym, ap, ap₂, _∙_, Bool, true, false, not, List, [], _∷_, _++_, ℕ, _≤_, length, ltb-false}
+use Rattle.rows.proofs.Prelude.{_≡_, refl, sym, ap, ap₂, _∙_, Bool, true, false, not, _&&_, cond, and-false, List, [], _∷_, _++_, ℕ, _≤_, length, eqb, ltb-false}
 use Rattle.rows.specs.Rows.{Row}
 use Rattle.text.specs.Buffer.{Puts}
 use Rattle.text.proofs.Buffers.{written-start}
@@ -10,14 +10,15 @@ use Rattle.rules.specs.declared.Decision.{Decision}
 use Rattle.rules.specs.declared.Caller.{Caller}
 use Rattle.rules.specs.declared.StoreRange.{StoreRange}
 use Rattle.rules.specs.declared.Links.{Links}
-use Rattle.rules.specs.Record.{Request, headerOf, body, payloadOf, sender}
+use Rattle.rules.specs.Record.{Request, headerOf, body, payloadOf, sender, retrieve}
 use Rattle.rules.specs.Tables.{rows, headOf, sound}
 use Rattle.rules.specs.Defaults.{Defaults}
 use Rattle.rules.specs.Permission.{permission, senderRow}
-use Rattle.rules.specs.Action.{action}
+use Rattle.rules.specs.declared.Action.the-variants.{Serve}
+use Rattle.rules.specs.Action.{action, actionOf, securityAction}
 use Rattle.rules.specs.StoreRange.{storeRangeOf}
 use Rattle.rules.specs.Links.{linksOf}
-use Rattle.rules.specs.Reading.{replyTo, replyOf, tooShort, filled}
+use Rattle.rules.specs.Reading.{contents, reads, replyTo, replyOf, tooShort, filled}
 use Rattle.rules.specs.Checks.{verdict, checks}
 use Rattle.rules.specs.Groups.{senderChecks, formChecks, requestChecks, stateChecks, rowChecks, actionChecks, capacityChecks}
 use Rattle.rules.specs.Callers.{callerOf, callerRow}
@@ -65,6 +66,22 @@ module _ (t : Tables) (q : Request) (g : Decision) (is : g ≡ decided t q) (pas
 
   pub action-is : g .action ≡ action (q .bytes)
   action-is = ap (λ (x : Decision). x .action) granted-is
+
+  -- a record for an application resource is served, and has no reply
+  module _ (e : g .caller .header .resource .configuration ≡ false) where
+    plain : headerOf (q .bytes) .resource .configuration ≡ false
+    plain = sym (ap (λ (k : Caller). k .header .resource .configuration) caller-is) ∙ e
+
+    pub serves : g .action ≡ Serve
+    unfolding actionOf
+    serves = let h = headerOf (q .bytes) in
+        action-is ∙ ap (λ (b : Bool). cond b (securityAction (h .verb) (h .connection) (h .resource .number) (body (q .bytes))) Serve) plain
+
+    pub no-reply : replyOf (q .clock) t (q .bytes) ≡ []
+    unfolding replyTo reads
+    no-reply = let h = headerOf (q .bytes) in
+        ap (λ (b : Bool). cond (eqb (h .verb) retrieve && b) (contents (q .clock) t (senderRow t (sender (q .bytes))) (h .resource .number)) []) plain
+        ∙ rw and-false
 
   pub length-is : g .reply ≡ length (replyOf (q .clock) t (q .bytes))
   length-is = ap (λ (x : Decision). x .reply) granted-is

@@ -12,6 +12,7 @@ use rules::Check;
 use rules::Decision;
 use rules::Head;
 use rules::Judgement;
+use rules::StoreRange;
 use rules_waiting::QUEUE;
 ghost use mathlib.Core.Path.{_≡_};
 ghost use mathlib.Core.Bool.{true};
@@ -153,7 +154,7 @@ fn execute_changing(
     j
 }
 
-// A permitted record beside what waits: an application record leaves the tables and the memory as they are.
+// A permitted record beside what waits: one for an application resource has no reply, and leaves the tables and the memory as they are.
 // Rules out: a record that outlives its credential row; a byte of the memory changed by a read; a RESET that keeps what waits.
 pub fn execute_queued(
     h: Head,
@@ -184,8 +185,10 @@ pub fn execute_queued(
         (received clock (was rec) (length (was reply)))
         (roundOf (was queue)) (waiting (was queue)) ⌝ }
 {
-    let a = d.action;
-    let Action::Serve = a else {
+    let caller = d.caller;
+    let header = caller.header;
+    let resource = header.resource;
+    if resource.configuration {
         return execute_changing(
             h,
             creds,
@@ -198,16 +201,16 @@ pub fn execute_queued(
             rec,
             reply,
         );
-    };
-    execute(
-        h,
-        creds,
-        aces,
-        default_creds,
-        default_aces,
-        clock,
-        d,
-        rec,
-        reply,
-    )
+    }
+    let links = links_of(clock, h, creds, aces, caller);
+    let passed_on = payload(d, rec);
+    Judgement {
+        answer: 0,
+        permission: d.permission,
+        payload: passed_on.len(),
+        reply: d.reply,
+        places: StoreRange::none(),
+        links: links,
+        head: h,
+    }
 }
