@@ -11,6 +11,7 @@ use crate::error::{name, Error};
 use crate::list::{not_storable, refusal, rows, warning};
 use crate::report::{many, Report, Status};
 use crate::stored::without_mark;
+use crate::why::explain;
 use crate::{colour, csv, office, parse, service, words};
 
 /// Rows that were read, and how many have a season by the extension of the office's JSON.
@@ -127,8 +128,9 @@ impl Load<'_> {
                 notes: service::notes(&before, terminal),
             }),
             Err(refused) => {
+                let notes = explain(terminal, self.clock, &refused.record).notes;
                 *terminal = before;
-                Err(not_loaded(tables, refused))
+                Err(not_loaded(tables, refused, &notes))
             }
         }
     }
@@ -162,11 +164,12 @@ struct Refused {
     answer: Answer,
 }
 
-fn not_loaded(tables: &Path, refused: Refused) -> Report {
+fn not_loaded(tables: &Path, refused: Refused, notes: &[String]) -> Report {
     let Refused { record, answer } = refused;
     let refused = colour::verdict(false, "refused");
+    let lines: String = notes.iter().map(|note| format!("  {note}\n")).collect();
     let text = format!(
-        "{refused}, {} {answer}: {}\n{}: unchanged; 'why' says more\n",
+        "{refused}, {} {answer}: {}\n{lines}{}: unchanged; 'why' says more\n",
         answer.number(),
         words::record(&record),
         name(tables)
@@ -175,6 +178,7 @@ fn not_loaded(tables: &Path, refused: Refused) -> Report {
         "file": tables.display().to_string(),
         "answer": words::answer_json(answer),
         "words": words::record(&record),
+        "notes": notes,
         "written": false,
     });
     Report::new(text, json, Status::No)

@@ -54,7 +54,10 @@ impl Place {
 
     /// In words.
     pub fn words(self) -> String {
-        let days = |seconds: u32| many((seconds / DAY) as usize, "day");
+        let days = |seconds: u32| match seconds / DAY {
+            0 => "less than a day".into(),
+            days => many(days as usize, "day"),
+        };
         match self {
             Place::Over(past) => format!("over since {}", days(past)),
             Place::Now(Some(left)) => format!("ends in {}", days(left)),
@@ -140,5 +143,6 @@ mod tests {
         assert_eq!(of(10, u32::MAX, 21), Place::Now(None));
         assert!(of(10, 20, 20).ends_within(1) && !of(10, 20, 10).ends_within(10) && !of(10, 20, 21).ends_within(99));
         assert_eq!(Place::Now(Some(2 * DAY + 5)).words(), "ends in 2 days");
+        assert_eq!(Place::Over(5).words(), "over since less than a day");
     }
 }

@@ -23,7 +23,7 @@ pub struct Explanation {
     /// Permission, where the checks got as far as that.
     pub rights: Option<Rights>,
     /// What was wrong, and what would be right.
-    notes: Vec<String>,
+    pub notes: Vec<String>,
 }
 
 /// Explains what a record gets. Nothing changes.

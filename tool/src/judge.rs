@@ -1,6 +1,8 @@
 //! `judge`, `hand-in` and `take`: steps done on the tables of a file, which is
 //! then written back.
 
+use std::path::Path;
+
 use answers::judge::Judged;
 use answers::report::{Report, Status};
 use answers::service;
@@ -77,20 +79,24 @@ fn on_file(arguments: &ArgMatches, clock: u32, steps: Vec<Step>) -> Result<Repor
         (true, false) => "not written, since this is a dry run".into(),
     };
     let notes = if changed { service::notes(&before, &stored.terminal) } else { Vec::new() };
-    let lines = [last].into_iter().chain(notes.iter().cloned()).map(|line| format!("{}: {line}\n", name(path)));
-    let report = Report::new(
-        judged.iter().map(Judged::text).chain(lines).collect::<String>(),
-        json!({
-            "file": path.display().to_string(),
-            "clock": clock,
-            "records": judged.iter().map(Judged::json).collect::<Vec<_>>(),
-            "changed": changed,
-            "notes": notes,
-            "written": written,
-        }),
-        Status::of(permitted),
-    );
+    let report = report(path, clock, &judged, [changed, written], &last, &notes);
     Ok(if written { report.after_change(path) } else { report })
+}
+
+fn report(path: &Path, clock: u32, judged: &[Judged], file: [bool; 2], last: &str, notes: &[String]) -> Report {
+    let [changed, written] = file;
+    let said = [last].into_iter().chain(notes.iter().map(String::as_str));
+    let lines = said.map(|line| format!("{}: {line}\n", name(path)));
+    let json = json!({
+        "file": path.display().to_string(),
+        "clock": clock,
+        "records": judged.iter().map(Judged::json).collect::<Vec<_>>(),
+        "changed": changed,
+        "notes": notes,
+        "written": written,
+    });
+    let text = judged.iter().map(Judged::text).chain(lines).collect();
+    Report::new(text, json, Status::of(judged.iter().all(Judged::permitted)))
 }
 
 /// What is said where one of all was refused.
