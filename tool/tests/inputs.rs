@@ -2,15 +2,22 @@
 
 #![forbid(unsafe_code)]
 
+use answers::names::Names;
 use answers::steps::{self, Act};
+use answers::stored::Stored;
 use answers::times::{self, Day, Zone};
-use answers::{hex, office, parse};
+use answers::{csv, hex, list, office, parse};
+use tillerclover::{Given, Terminal};
 use tool::expect::Suite;
 
 const OFFICE: &str = r#"{"aclist2":[{"aceid":1,"subject":{"authority":"2","role":"7"},"resources":[{"href":"/tare"},{"wc":"+"}],"permission":6,"first":"2026-07-01","last":1790812799},{"aceid":2,"subject":{"uuid":"22222222-2222-2222-2222-222222222222"},"resources":[],"permission":31},{"aceid":3,"subject":{"conntype":"auth-crypt"},"resources":[{"href":"/weight"}],"permission":2}]}"#;
 const RECORD: &str = "UPDATE /oic/sec/acl2 as 5 number=1 subject=role:7@2 permission=RU resources=/tare,+ first=2026-07-01 last=2026-09-30T23:59:59+02:00";
 const LINES: &str = "# day\nat 2026-08-03T06:00 hand-in UPDATE /ticket as 7 # turn\ntake\n52400007\nhex:52 40 0007\n";
 const SUITE: &str = "tables = \"a\"\nclock = 2026-08-03T06:00:00Z\n[[expect]]\nname = \"x\"\nrecord = \"UPDATE /tare as 7\"\nanswer = 0\npermission = \"RU\"\n";
+
+const NAMES: &str =
+    "# yard\n5 11111111-1111-1111-1111-111111111111 Yard Office\n7 Northfield Haulage # n\nrole 7@2 foreman\n";
+const CSV: &str = "number,subject,name,permission,resources,first,last\n1,role:7@2,foreman,RU,\"/tare /zero\",2026-07-01,2026-09-30\n";
 
 /// A generator without a pattern.
 struct Random(u64);
@@ -49,7 +56,7 @@ fn spoilt(text: &str, random: &mut Random) -> String {
 #[test]
 fn no_text_is_too_odd() {
     let mut random = Random(1);
-    let mut taken = [0; 4];
+    let mut taken = [0; 6];
     for _ in 0..6000 {
         taken[0] += usize::from(office::read(&spoilt(OFFICE, &mut random)).is_ok());
         taken[1] += usize::from(parse::one(&spoilt(RECORD, &mut random)).is_ok());
@@ -59,8 +66,38 @@ fn no_text_is_too_odd() {
         let _ = spoilt("+02:00", &mut random).parse::<Zone>();
         let _ = hex::read(&spoilt("52 40 0007", &mut random));
         let _ = parse::access_row(&spoilt(&RECORD[26..], &mut random));
+        let _ = times::duration(&spoilt("30d", &mut random));
+        taken[4] += usize::from(Names::read(&spoilt(NAMES, &mut random)).is_ok());
+        taken[5] += usize::from(csv::rows(&spoilt(CSV, &mut random)).is_ok());
     }
     assert!(taken.iter().all(|&count| count > 10 && count < 5000), "{taken:?} were taken");
+}
+
+/// Whatever bytes a file has, they are read or are none, and what is read is written back as it was.
+#[test]
+fn no_file_is_too_odd() {
+    let mut random = Random(3);
+    let mut read = 0;
+    for _ in 0..400 {
+        let form = answers::stored::Form::ALL[random.below(5)];
+        let mut bytes = Stored::new(form, Terminal::new()).bytes();
+        for _ in 0..random.below(4) {
+            let (place, value) = (random.below(bytes.len()), random.below(256) as u8);
+            bytes[place] = value;
+        }
+        match random.below(4) {
+            0 => bytes.truncate(random.below(bytes.len())),
+            1 => bytes.extend(vec![[0, 0xff, 7][random.below(3)]; random.below(9000)]),
+            _ => {}
+        }
+        let _ = list::check(std::path::Path::new("a"), &bytes);
+        let Ok(stored) = Stored::of(&bytes, Given::default()) else { continue };
+        read += 1;
+        assert!(stored.start() + 2172 <= bytes.len());
+        assert!(stored.damage.is_some() || stored.bytes() == bytes, "{form:?}");
+        let _ = answers::fresh::look(std::path::Path::new("a"), &bytes, &Given::default());
+    }
+    assert!(read > 200, "{read}");
 }
 
 /// A text that is taken although it was spoilt has the rows that the library writes back as that text.
