@@ -13,6 +13,8 @@ LIBRARIES ?= target/lib
 # The command that a release holds; the example terminal, of which it says what it is linked with ('-': of none). CARGOFLAGS: where cargo finds the crates; DEBFLAGS: for dpkg-deb.
 TOOL ?= tool/target/release/tillerclover
 TERMINAL ?= target/terminal
+# The page that a release holds; it is released if it is there ('-': never).
+PAGE ?= target/page/tillerclover.html
 CARGOFLAGS ?=
 DEBFLAGS ?=
 INSTALL ?= install
@@ -47,7 +49,7 @@ DEBS := target/deb
 LIBRARY_DEB := $(DEBS)/libtillerclover-dev
 TOOL_DEB := $(DEBS)/tillerclover
 
-.PHONY: sample test lib targets sums install install-tool uninstall dist deb help
+.PHONY: sample test lib targets page sums install install-tool uninstall dist deb help
 
 sample: ## proves the decision, builds the run program and tries it on a sample of five records (the default)
 	@echo "Proving: every record, on any tables, gets exactly the outcome of the rules (crates/rules/specs)."
@@ -61,15 +63,22 @@ test: ## the gate: proves everything from nothing, tries every must-fail edit, r
 
 lib: target/staticlib/libterminal.a ## proves the library and writes its archive, target/staticlib/libterminal.a
 
-sums: lib ## writes the kit's identity and the archive's sum to packaging/KIT
+sums: lib ## writes the kit's identity and the sums of archive and page to packaging/KIT
 	packaging/kit.sh --write
 
 targets: target/staticlib/libterminal.a ## compiles the library for all processors of docs/TARGETS.md, into target/lib
 	targets/build.sh
 
-# Where both are asked for at once, the archives come first.
+page: target/staticlib/libterminal.a ## builds the page, target/page/tillerclover.html, in which the library answers in a browser (docs/PAGE.md)
+	page/build.sh
+
+# If both are asked for at once, archives and page come first.
 ifneq ($(filter targets,$(MAKECMDGOALS)),)
 install dist: | targets
+page: | $(filter targets,$(MAKECMDGOALS))
+endif
+ifneq ($(filter page,$(MAKECMDGOALS)),)
+dist deb: | page
 endif
 
 # only where it is missing or older than a source
@@ -114,6 +123,7 @@ dist: $(ARCHIVE) $(TOOL) $(filter-out -,$(TERMINAL)) ## writes target/dist/tille
 	@$(MAKE) -s -o $(ARCHIVE) install DESTDIR=$(DIST) PREFIX= ARCHIVE=$(ARCHIVE) LIBRARIES=$(LIBRARIES)
 	@[ -d $(DIST)/lib/tillerclover ] || echo "dist: for x86-64 alone; for all processors, make targets comes before"
 	@packaging/install-tool.sh $(TOOL) $(DIST)
+	@if [ -f $(PAGE) ]; then $(INSTALL) -m 644 $(PAGE) $(DIST)/tillerclover.html; else echo "dist: without the page; make page comes before"; fi
 	@sed -i -e 's|^prefix=.*|prefix=$${pcfiledir}/../..|' -e 's|^libdir=.*|libdir=$${prefix}/lib|' \
 	    -e 's|^includedir=.*|includedir=$${prefix}/include|' $(DIST)/lib/pkgconfig/*.pc
 	@tar -ch --exclude=target bindings/rust | tar -x -C $(DIST)
@@ -140,6 +150,7 @@ deb: $(ARCHIVE) $(TOOL) ## writes the Debian packages libtillerclover-dev and ti
 	rm -rf $(DEBS)
 	@$(MAKE) -s -o $(ARCHIVE) install DESTDIR=$(LIBRARY_DEB) PREFIX=/usr LIBDIR=/usr/lib/x86_64-linux-gnu ARCHIVE=$(ARCHIVE) LIBRARIES=-
 	@packaging/install-tool.sh $(TOOL) $(TOOL_DEB)/usr
+	@[ ! -f $(PAGE) ] || $(INSTALL) -D -m 644 $(PAGE) $(TOOL_DEB)/usr/share/tillerclover/tillerclover.html
 	@$(INSTALL) -d $(TOOL_DEB)/usr/share/doc/tillerclover
 	@CARGOFLAGS="$(CARGOFLAGS)" packaging/sbom.py $(MAJOR).$(MINOR) $(ARCHIVE) $(TOOL) - >$(TOOL_DEB)/usr/share/doc/tillerclover/sbom.json
 	$(call package,$(LIBRARY_DEB),packaging/control.in,packaging/copyright)

@@ -42,6 +42,7 @@ COMMANDS = [
     ("who", ["who", "DELETE", "/oic/sec/doxm", "a"], ""),
     ("rights", ["rights", "a"], ""),
     ("rights --html", ["rights", "a", "--html", "page", "--force"], ""),
+    ("page", ["page", "a", "-o", "enclosed", "--page", "release", "--force"], ""),
     ("isolated", ["isolated", "a", "7,8"], ""),
     ("isolated", ["isolated", "a", "clear,77,5", "--absent"], ""),
     ("isolated", ["isolated", "d", "77", "--absent"], ""),
@@ -109,6 +110,8 @@ def check(objects, name, value, where):
 
 
 def prepare(program):
+    with open("release", "w", encoding="utf-8") as file:
+        file.write('<script type="text/plain" id="tables"></script>')
     with open("a", "rb") as file:
         tables = file.read()
     with open("c", "wb") as file:

@@ -9,7 +9,7 @@
 set -uo pipefail
 cd "$(dirname "$0")/.." || exit 2
 
-ALL=(packages layout model crates clippy binding tool compare runs example interface store same install refuse documents vectors inputs targets terminal)
+ALL=(packages layout model crates clippy binding tool page compare runs example interface store same install refuse documents vectors inputs targets terminal)
 root=$PWD
 work=$(mktemp -d) || exit 2
 trap 'rm -rf "$work"' EXIT
@@ -107,6 +107,7 @@ in_model() { (cd model && "$@"); }
 in_binding() { (cd bindings/rust && "$@"); }
 in_answers() { (cd answers && "$@"); }
 in_tool() { (cd tool && "$@"); }
+in_page() { (cd page && "$@"); }
 # in_package COMMAND..: in the binding as it is packaged, with nothing of the repository but the archive
 packaged=$root/bindings/rust/target/packaged
 in_package() { (cd "$packaged/tillerclover-0.1.0" && TILLERCLOVER_LIB=$root/target/staticlib CARGO_TARGET_DIR=$packaged/target "$@"); }
@@ -118,7 +119,7 @@ tool_cargo() { (cd tool && rm -f Cargo.lock && cargo "$1" --config ../tests/debi
 # ---- the tests
 
 # The C files.
-c_files() { find include bench tests targets examples -name '*.[ch]' | sort; }
+c_files() { find include bench tests targets examples page -name '*.[ch]' | sort; }
 
 # Every file is in its layout: Rattle by rt, Rust by rustfmt.toml, C by .clang-format; scripts are clean by shellcheck.
 test_layout() {
@@ -129,9 +130,10 @@ test_layout() {
     log in_binding cargo fmt --check || failed=1
     log in_answers cargo fmt --check || failed=1
     log in_tool cargo fmt --check || failed=1
+    log in_page cargo fmt --check || failed=1
     mapfile -t files < <(c_files)
     log clang-format --dry-run --Werror "${files[@]}" || failed=1
-    log shellcheck .ci/run tests/*.sh targets/*.sh bench/*.sh examples/terminal/*.sh packaging/*.sh || failed=1
+    log shellcheck .ci/run tests/*.sh targets/*.sh page/*.sh bench/*.sh examples/terminal/*.sh packaging/*.sh || failed=1
     return "$failed"
 }
 
@@ -181,6 +183,20 @@ test_crates() {
 # The answers and the command tillerclover: their own tests, their words compared with what the library decides, and as people use it.
 test_tool() {
     need_crates && need python3 python3 && library && log tool_cargo test --workspace && log tool_cargo build && log tests/tool.sh tool/target/debug/tillerclover
+}
+
+# The page's crate on this machine: random questions, whose answers are the command's; its scripts are scripts. tests/page.sh builds the
+# page itself and tries it under node and in a browser.
+test_page() {
+    need_crates && need python3 python3 && need node nodejs && library || return 1
+    local script
+    for script in page/web/*.js targets/*.mjs tests/page/*.mjs; do
+        log node --check "$script" || return 1
+    done
+    log tool_cargo build --workspace --bins --examples &&
+        log tests/page/questions.py make tool/target/debug/tillerclover 300 "$RANDOM" "$work/questions.json" &&
+        tool/target/debug/examples/answer "$work/questions.json" >"$work/answers.json" &&
+        log tests/page/questions.py compare "$work/questions.json" "$work/answers.json" && cat "$work/log"
 }
 
 # The library and the model give the same for 300,000 records, and for as many questions of isolation as `yards` asks.
@@ -309,7 +325,7 @@ by_target() {
         mkdir -p "$work/libraries/$triple/O3" && cp "$1" "$work/libraries/$triple/O3/" || return 1
     done
     mkdir -p "$work/libraries/wasm32-unknown-unknown/O3" && echo "a module" >"$work/libraries/wasm32-unknown-unknown/O3/terminal.wasm" || return 1
-    echo "a file of the build" >"$work/libraries/module.bc"
+    echo "a file of the build" >"$work/libraries/module.bc" && echo "the page" >"$work/page.html"
 }
 
 # staged ARCHIVE: a staged installation keeps its prefix, has the archives by target, and leaves none after `make uninstall`; archives
@@ -332,7 +348,7 @@ tool_of() { ([ -z "${INSTALL_ARCHIVE-}" ] || { TILLERCLOVER_LIB=$(realpath "$1")
 
 # make_release TARGET ARCHIVE: with the tool as the tests have it, and packages that are not compressed
 make_release() {
-    log make "$1" ARCHIVE="$2" LIBRARIES="$work/libraries" TOOL=tool/target/debug/tillerclover CARGOFLAGS="--offline --config ../tests/debian.toml" DEBFLAGS=-Znone
+    log make "$1" ARCHIVE="$2" LIBRARIES="$work/libraries" PAGE="$work/page.html" TOOL=tool/target/debug/tillerclover CARGOFLAGS="--offline --config ../tests/debian.toml" DEBFLAGS=-Znone
 }
 
 # of_one_build TOOL ARCHIVE: the command prints the sum of the archive
@@ -349,6 +365,7 @@ released() {
         (cd "$release" && log sha256sum --quiet --check SHA256SUMS) && log outside_c "$release/lib" "$2" &&
         log cmp "$1" "$release/lib/tillerclover/thumbv7em-none-eabi/O3/libtillerclover.a" && [ ! -e "$release/lib/module.bc" ] &&
         log cmp "$release/include/tillerclover.h" "$release/bindings/rust/include/tillerclover.h" &&
+        log cmp "$work/page.html" "$release/tillerclover.html" &&
         of_one_build "$release/bin/tillerclover" "$release/lib/libtillerclover.a" && bill_of "$release/sbom.json" &&
         log make -C "$release/examples/terminal" INCLUDE=../../include ARCHIVE=../../lib/libtillerclover.a OUT="$work" CFLAGS=-O0
 }
@@ -384,7 +401,7 @@ packaged_deb() {
         of_one_build "$usr/bin/tillerclover" "$usr/lib/x86_64-linux-gnu/libtillerclover.a" &&
         log "$usr/bin/tillerclover" new "$work/yard.tables" && log bash -n "$usr/share/bash-completion/completions/tillerclover" &&
         gzip -dc "$usr/share/man/man1/tillerclover-why.1.gz" | grep -q '^\.TH TILLERCLOVER-WHY 1' &&
-        log packaging/sbom.py --check "$usr/share/doc/tillerclover/sbom.json" &&
+        log packaging/sbom.py --check "$usr/share/doc/tillerclover/sbom.json" && log cmp "$work/page.html" "$usr/share/tillerclover/tillerclover.html" &&
         log "${dpkg[@]}" --purge libtillerclover-dev tillerclover && [ -z "$(find "$usr" -type f 2>/dev/null)" ]
 }
 

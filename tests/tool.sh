@@ -13,7 +13,7 @@ root=$PWD
 program=$(realpath "$1") || exit 2
 shift
 
-ALL=(documents keys tables store images records faults silences names boxing many locks backups questions yards page lists office runs lines expectations everyday habits bad hostile crowd disk kills)
+ALL=(documents keys tables store images records faults silences names boxing many locks backups questions yards page enclosed lists office runs lines expectations everyday habits bad hostile crowd disk kills)
 work=$(mktemp -d) || exit 2
 small=$work/small
 trap 'umount "$small" 2>/dev/null; rm -rf "$work"' EXIT
@@ -744,6 +744,28 @@ part_yards() {
     tillerclover new --form tables c >/dev/null && bytes 09 | dd of=c bs=1 conv=notrunc status=none
     gives 1 "c: NOT SOUND" isolated c 7
     gives 1 "c: NOT SOUND" yards c a=7
+}
+
+# The release's page with tables in it: the bytes come back, and whatever is no page, no tables or there already is refused.
+part_enclosed() {
+    local room='<script type="text/plain" id="tables">'
+    tillerclover new e.tables >/dev/null && echo "<p>$room</script></p>" >release.html || return
+    gives 0 "e.html: written, with e.tables in it; it is a copy" page e.tables -o e.html --page release.html
+    sed -n '2s/<.*//p' e.html | base64 -d | cmp -s - e.tables || fault "the tables in the page are others"
+    [ "$(head -n 1 e.html)" = "<p>${room}e.tables" ] || fault "the name in the page is another"
+    gives 2 "is there already" page e.tables -o e.html --page release.html
+    gives 2 "is no page of this release" page e.tables -o f.html --page e.html
+    gives 2 "is not beside the command" page e.tables -o f.html
+    mkdir -p "$work/share/tillerclover" && cp release.html "$work/share/tillerclover/tillerclover.html"
+    gives 0 "written" page e.tables -o f.html
+    cmp -s e.html f.html || fault "the page beside the command gives another"
+    echo "7 Northfield Haulage" >e.names
+    gives 0 "written" page e.tables -o h.html
+    sed -n '3s/<.*//p' h.html | base64 -d | cmp -s - e.names || fault "the names in the page are others"
+    rm e.names && head -c 100 e.tables >cut.tables
+    gives 2 "ends at byte 100" page cut.tables -o g.html
+    [ ! -e g.html ] || fault "a page of no tables was written"
+    rm -r "$work/share"
 }
 
 # The page says what the table says, needs nothing else, and stays within its rules.

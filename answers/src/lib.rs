@@ -34,6 +34,7 @@ pub mod service;
 pub mod sheet;
 pub mod show;
 pub mod soundness;
+pub mod when;
 pub mod who;
 pub mod why;
 pub mod yards;

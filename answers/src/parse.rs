@@ -207,6 +207,22 @@ pub fn are_words(bytes: &[u8]) -> bool {
     first.is_some_and(|line| line.contains("number="))
 }
 
+/// The names of the fields that a body of the verb and the resource may have; other bodies are bytes or a text.
+pub fn fields(verb: Verb, resource: Resource) -> &'static [&'static str] {
+    match (verb, resource) {
+        (Verb::UPDATE, Resource::DOXM) => &["owner", "row-owner"],
+        (Verb::UPDATE, Resource::PSTAT) => &["state", "row-owner"],
+        (Verb::UPDATE, Resource::CRED) => &["number", "subject", "role", "type", "row-owner"],
+        (Verb::UPDATE, Resource::ACL2) => {
+            &["number", "subject", "permission", "resources", "first", "last", "row-owner"]
+        }
+        (Verb::UPDATE, Resource::ROLES) => &["role", "last"],
+        (Verb::DELETE, Resource::CRED) => &["number", "subject"],
+        (Verb::DELETE, Resource::ACL2) => &["number"],
+        _ => &[],
+    }
+}
+
 /// The fields of a body that were not asked for yet.
 struct Fields<'a>(BTreeMap<&'a str, &'a str>);
 
@@ -387,6 +403,46 @@ mod tests {
             "UPDATE /tare as 7 hex:00ff",
         ] {
             assert_eq!(crate::words::record(&one(text).unwrap()), text);
+        }
+    }
+
+    #[test]
+    fn fields_are_those_that_bodies_take() {
+        let values = [
+            ("owner", "none"),
+            ("row-owner", "none"),
+            ("state", "RFPRO"),
+            ("number", "7"),
+            ("subject", "22222222-2222-2222-2222-222222222222"),
+            ("role", "7@2"),
+            ("type", "1"),
+            ("permission", "RU"),
+            ("resources", "/tare"),
+            ("first", "5"),
+            ("last", "9"),
+        ];
+        // A field is of a body where some body of these fields has it.
+        let sets = || (1usize..1 << values.len()).filter(|set| set.count_ones() <= 6);
+        for (verb, resource) in Verb::ALL.iter().flat_map(|verb| Resource::ALL.iter().map(move |one| (*verb, *one))) {
+            let mut taken = 0;
+            for set in sets() {
+                let words: Vec<String> = (0..values.len())
+                    .filter(|place| set >> place & 1 == 1)
+                    .map(|place| format!("{}={}", values[place].0, values[place].1))
+                    .collect();
+                let words: Vec<&str> = words.iter().map(String::as_str).collect();
+                taken |= if body(verb, resource, &words).is_ok() { set } else { 0 };
+            }
+            let names: Vec<&str> =
+                (0..values.len()).filter(|place| taken >> place & 1 == 1).map(|place| values[place].0).collect();
+            let mut listed = fields(verb, resource).to_vec();
+            listed.retain(|name| Resource::WITH_ROW_OWNER.contains(&resource) || *name != "row-owner");
+            let same = |one: &[&str], other: &[&str]| one.iter().all(|name| other.contains(name));
+            let names: Vec<&str> = names
+                .into_iter()
+                .filter(|name| Resource::WITH_ROW_OWNER.contains(&resource) || *name != "row-owner")
+                .collect();
+            assert!(same(&names, &listed) && same(&listed, &names), "{verb} {resource}: {names:?}, {listed:?}");
         }
     }
 

@@ -50,7 +50,7 @@ pub fn command() -> Command {
                 .display_order(904),
         )
         .subcommands([new(), judge(), hand_in(), take(), undo(), fresh(), clear()])
-        .subcommands([show(), seasons(), who(), rights(), why(), isolated(), yards(), diff()])
+        .subcommands([show(), seasons(), who(), rights(), why(), page(), isolated(), yards(), diff()])
         .subcommand(
             Command::new("list")
                 .about("Test, make, convert and load lists of access rows, write the office's text")
@@ -172,6 +172,23 @@ fn rights() -> Command {
             .arg(option("html", "PAGE", html).value_parser(value_parser!(PathBuf)))
             .arg(option("yard", "NAME=LIST", yard).action(ArgAction::Append).requires("html"))
             .arg(absent().requires("yard"))
+            .arg(force()),
+    )
+}
+
+fn page() -> Command {
+    let page = "Another page than the one of the release, beside the command";
+    changes(
+        Command::new("page")
+            .about("Write the release's page with a copy of these tables in it, to be opened in a browser")
+            .arg(file())
+            .arg(
+                option("output", "PAGE", "The page to write")
+                    .short('o')
+                    .required(true)
+                    .value_parser(value_parser!(PathBuf)),
+            )
+            .arg(option("page", "PAGE", page).value_parser(value_parser!(PathBuf)))
             .arg(force()),
     )
 }

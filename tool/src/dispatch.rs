@@ -17,7 +17,7 @@ use crate::error::{name, Error};
 use crate::files::{self, Sum};
 use crate::records::word;
 use crate::store::{self, Care};
-use crate::{boxing, expect, judge, list, manual, names, new, run, undo, version, watch, wire, yards};
+use crate::{boxing, expect, judge, list, manual, names, new, page, run, undo, version, watch, wire, yards};
 
 /// What a command leaves to do.
 pub enum Done {
@@ -67,6 +67,7 @@ fn report(name: &str, arguments: &ArgMatches) -> Result<Report, Error> {
         "who" => who(arguments),
         "rights" => rights(arguments),
         "why" => explain(arguments),
+        "page" => page::page(arguments),
         "isolated" => yards::isolated(arguments),
         "yards" => yards::yards(arguments),
         "test" => test(arguments),

@@ -23,6 +23,7 @@ pub mod judge;
 pub mod list;
 pub mod nesting;
 pub mod new;
+pub mod page;
 pub mod run;
 pub mod undo;
 pub mod watch;

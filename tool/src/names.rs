@@ -20,10 +20,7 @@ pub fn choose(arguments: &ArgMatches) -> Result<(), Error> {
 
 /// Chooses the names of a file, or of the one beside the tables where there is one.
 pub fn choose_for(given: Option<&Path>, tables: Option<&Path>) -> Result<(), Error> {
-    let beside = tables.filter(|tables| !store::is_standard(tables)).map(|tables| tables.with_extension("names"));
-    let file =
-        given.map(PathBuf::from).or_else(|| beside.filter(|file| Some(file.as_path()) != tables && file.exists()));
-    let Some(file) = file else {
+    let Some(file) = file_for(given, tables) else {
         Names::default().choose();
         return Ok(());
     };
@@ -33,6 +30,12 @@ pub fn choose_for(given: Option<&Path>, tables: Option<&Path>) -> Result<(), Err
         None => names.choose(),
     }
     Ok(())
+}
+
+/// The file of the names: the given one, or the one beside the tables where there is one.
+pub fn file_for(given: Option<&Path>, tables: Option<&Path>) -> Option<PathBuf> {
+    let beside = tables.filter(|tables| !store::is_standard(tables)).map(|tables| tables.with_extension("names"));
+    given.map(PathBuf::from).or_else(|| beside.filter(|file| Some(file.as_path()) != tables && file.exists()))
 }
 
 /// The tables of a file, where they can be read: what is wrong with them is said by the command itself.
