@@ -6,21 +6,24 @@ use Rattle.rules_typed.specs.Lists.{Maybe, when, distinct, none, just}
 use Rattle.rows.specs.Rows.{Row, every, rowsOf, distinctNumbers, allZero}
 use Rattle.rules_typed.proofs.ListLaws.{Each}
 use Rattle.rules_typed.specs.Reading.{readAll, readCredential, credentialAs, readAccess, accessOf, readRows, tablesOf, readFresh, stateOf, ownerOf}
-use Rattle.rules_typed.specs.Tables.{isBytes, sameCredential, sameAccess, defaultCredentials, defaultAccesses, freshTables}
+use Rattle.rules_typed.specs.Reading.{readTables}
+use Rattle.rules_typed.specs.Tables.{isBytes, sameCredential, sameAccess, defaultCredentials, defaultAccesses, freshTables, cleared}
 use Rattle.rules_typed.proofs.ByteLaws.{bytes-take, bytes-drop, Good}
 use Rattle.rules.specs.Roles.{credHeld, unasserted}
 use Rattle.rules_typed.proofs.ActionRead.{cred-body, stored-read}
 use Rattle.rules.specs.Bodies.{aceStorable, nil as nilBytes}
 use Rattle.rules_typed.proofs.RowExact.{access-exact}
 use Rattle.rows.proofs.Laws.{mul-front, length-rowsOf}
-use Rattle.rules_typed.proofs.SoundExact.{distinct-read, same-credential, good-each, same-access}
+use Rattle.rules_typed.proofs.SoundExact.{distinct-read, same-credential, good-each, same-access, read-is}
 use Rattle.rules_typed.proofs.RowsRead.{bytes-join, zero-bytes}
-use Rattle.rules.specs.Defaults.{Defaults, defaultRows, goodList, fresh as freshBytes}
+use Rattle.rules.specs.Defaults.{Defaults, defaultRows, goodList, fresh as freshBytes, cleared as clearedBytes}
 use Rattle.rules_typed.specs.Struct.{DefaultBytes}
 use Rattle.rules.specs.declared.Table.the-variants.{Creds, Aces}
 use Rattle.rules.specs.Tables.{empty, withRows}
-use Rattle.rules.proofs.SoundKept.{default-sound}
+use Rattle.rules.proofs.SoundKept.{default-sound, fresh-sound}
 use Rattle.rules.proofs.TableLaws.{rows-with}
+use Rattle.rules.specs.declared.Tables.{Tables as ByteTables}
+use Rattle.rules_typed.proofs.StructKept.{fresh-struct}
 
 -- ---- a list whose rows are all read
 
@@ -156,3 +159,8 @@ module _ (d : Defaults) (e : DefaultBytes d) where
       (ap (map credentialAs) (rows-with Creds empty (defaultRows Creds (d .creds)) (c .few) (c .stores)) ∙ sym creds-are)
       (ap (map accessOf) (rows-with Aces (withRows Creds empty (defaultRows Creds (d .creds))) (defaultRows Aces (d .aces)) (a .few) (a .stores))
       ∙ sym aces-are)
+
+  -- the clear button: the fresh tables are sound, and are read as such
+  pub clear-read : (t : ByteTables) → readTables (clearedBytes d t) ≡ just (cleared (readFresh d) (readTables t))
+  unfolding clearedBytes when
+  clear-read t = read-is (freshBytes d) (fresh-struct d e) ∙ rw (fresh-sound d, fresh-read)

@@ -104,3 +104,7 @@ defaultAccesses (just xs) = cond (leb (length xs) 2 && distinct sameAccess xs) x
 
 abbrev pub fresh : Maybe (List Credential) → Maybe (List Access) → Tables
 fresh cs xs = freshTables (defaultCredentials cs) (defaultAccesses xs)
+
+-- the clear button takes tables of any content and gives the fresh ones
+abbrev pub cleared : Tables → Maybe Tables → Tables
+cleared fresh tables = fresh
