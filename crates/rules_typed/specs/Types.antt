@@ -9,7 +9,7 @@ use Rattle.rules_typed.specs.Lists.{Maybe}
 abbrev pub Bytes : Type 0
 Bytes = List ℕ
 
--- sixteen bytes, not all zero: where the paper has the nil UUID, `none` stands here
+-- sixteen bytes, not all zero: the paper's nil UUID is `none` here
 abbrev pub Uuid : Type 0
 Uuid = List ℕ
 

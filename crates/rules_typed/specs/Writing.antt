@@ -108,7 +108,7 @@ accessBytes a =
     ++ be32 (a .first)
     ++ be32 (a .last)
 
--- ---- the tables: rows stand in order, and unused rows are all zero
+-- ---- the tables: rows in order of arrival, and zeros in all unused ones
 
 -- a credential row, 39 bytes: its body, and two places for asserted roles
 unfoldable pub credentialRow : Credential → Bytes
