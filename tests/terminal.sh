@@ -125,24 +125,27 @@ part_starts() {
     chmod 640 "$keys"
     refuses "can be read by others" -f "$file" -k "$keys"
     chmod 600 "$keys"
+    refuses "is no file" -f "$file" -k "$work"
+    head -c 65537 /dev/zero >"$keys"
+    refuses "is too long" -f "$file" -k "$keys"
     local line
     for line in "7" "0 long-enough-for-a-key" "65536 long-enough-for-a-key" "7 short" "x long-enough-for-a-key" \
         "7 long-enough-for-a-key and more" "7 $(printf 'x%.0s' {1..65})" "+7 long-enough-for-a-key" \
         " 7 long-enough-for-a-key" "07 long-enough-for-a-key" "7long-enough-for-a-key" "7  long-enough-for-a-key" \
         $'7\tlong-enough-for-a-key' "7 long-enough-for-a-key " $'7 long-enough-for-a-key\r'; do
         echo "$line" >"$keys"
-        refuses "line 1" -f "$file" -k "$keys"
+        refuses "line 1" -f "$file" "${good[@]}" -k "$keys"
     done
     # Nothing hides behind a zero byte, and a comment ends with its line.
     printf '7 long-enough-for-a-key\0\n' >"$keys"
-    refuses "line 1" -f "$file" -k "$keys"
+    refuses "line 1" -f "$file" "${good[@]}" -k "$keys"
     printf '#%254s7 long-enough-for-a-key\n7 long-enough-for-a-key\n7\n' "" >"$keys"
-    refuses "line 3: not a credential" -f "$file" -k "$keys"
+    refuses "line 3: not a credential" -f "$file" "${good[@]}" -k "$keys"
     printf '# two keys\n7 long-enough-for-a-key\n7 long-enough-for-a-key\n' >"$keys"
-    refuses "line 3: credential 7 has a key already" -f "$file" -k "$keys"
+    refuses "line 3: credential 7 has a key already" -f "$file" "${good[@]}" -k "$keys"
     refuses "cannot be written" -f "$work/no-folder/tables" "${good[@]}"
     refuses "cannot be read" -f "$work" "${good[@]}"
-    refuses "port 99999" -f "$file" -k "$KEYS" -p 99999 --new
+    refuses "port 99999" -f "$file" -k "$KEYS" -p 99999 -s "$SECURE_PORT" --new
     refuses "nowhere port" -f "$file" -k "$KEYS" -a nowhere --new
     # A file is made by --new, and by nothing else: a terminal without an owner is the first comer's.
     refuses "tables: there is no such file" -f "$file" -k "$KEYS" -p "$PORT" -s "$SECURE_PORT"

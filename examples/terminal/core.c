@@ -40,16 +40,6 @@ static void report(const struct core *c, const uint8_t *record, size_t size, uns
     }
 }
 
-/* A line of a front. It is text of the network's, so what could confuse a reader of the log is left out. */
-static void report_note(const struct core *c, int front, struct message *m)
-{
-    for (size_t i = 0; i < m->length; i++) {
-        m->body[i] = isprint(m->body[i]) ? m->body[i] : '?';
-    }
-    log_note(front, "%s: %.*s", c->fronts.list[front].name, (int)(m->length < 200 ? m->length : 200),
-             (const char *)m->body);
-}
-
 /* ---- Clients that wait */
 
 static struct client *find(struct core *c, unsigned sender)
@@ -137,26 +127,42 @@ static bool take_ended(struct core *c, int front, const struct message *m)
     return true;
 }
 
-/* The front has the keys, and has ended the sessions of these credentials. */
+/* The front has the keys, and has ended the sessions of these credentials: what is held of them came in those. */
 static bool take_keys(struct core *c, int front, const struct message *m)
 {
-    if (front != FRONT_SECURE || m->length % 2 != 0) {
+    if (front != FRONT_SECURE || c->fronts.new_keys < 0 || m->length % 2 != 0) {
         return false;
     }
     for (size_t i = 0; i < m->length; i += 2) {
         drop_held(c, (unsigned)m->body[i] << 8 | m->body[i + 1]);
     }
-    if (c->keys_asked) {
-        log_say("%u keys read", m->number);
-    }
-    c->keys_asked = false;
+    fronts_settle_keys(&c->fronts, true);
+    log_say("%u keys read", m->number);
     return true;
 }
 
-void core_keys(struct core *c, const struct keys *keys)
+/* Text of a front's, without what could confuse a reader of the log. */
+static const char *text_of(struct message *m)
 {
-    c->keys_asked = true;
-    fronts_say(&c->fronts, FRONT_SECURE, MESSAGE_KEYS, 0, keys, sizeof *keys);
+    enum {
+        LONGEST = 200
+    };
+    size_t length = m->length < LONGEST ? m->length : LONGEST;
+    for (size_t i = 0; i < length; i++) {
+        m->body[i] = isprint(m->body[i]) ? m->body[i] : '?';
+    }
+    m->body[length] = 0;
+    return (const char *)m->body;
+}
+
+static bool take_no_keys(struct core *c, int front, struct message *m)
+{
+    if (front != FRONT_SECURE || c->fronts.new_keys < 0) {
+        return false;
+    }
+    fronts_settle_keys(&c->fronts, false);
+    log_say("%s; the keys stay as they were", text_of(m));
+    return true;
 }
 
 /* ---- Hand-ins */
@@ -274,7 +280,7 @@ static bool take(struct core *c, int front, struct message *m)
         fronts_say(&c->fronts, front, MESSAGE_ALIVE, 0, NULL, 0);
         return m->length == 0;
     case MESSAGE_NOTE:
-        report_note(c, front, m);
+        log_note(front, "%s: %s", c->fronts.list[front].name, text_of(m));
         return true;
     case MESSAGE_RECORD:
         if (is_record_of(front, m)) {
@@ -296,6 +302,8 @@ static bool take(struct core *c, int front, struct message *m)
         return take_ended(c, front, m);
     case MESSAGE_KEYS:
         return take_keys(c, front, m);
+    case MESSAGE_NO_KEYS:
+        return take_no_keys(c, front, m);
     default:
         return false;
     }

@@ -40,8 +40,6 @@ struct core {
     uint16_t unconfirmed[UINT16_MAX + 1];
     unsigned life;
     struct assertions assertions;
-    /* whether the keys were read again, and the front has not confirmed it */
-    bool keys_asked;
 };
 
 /* Reads what the fronts say, and answers what is refused at once. */
@@ -53,8 +51,5 @@ int core_round(struct core *c);
 
 /* The clear button. */
 void core_clear(struct core *c);
-
-/* The keys were read again: the secure front gets them. */
-void core_keys(struct core *c, const struct keys *keys);
 
 #endif

@@ -41,7 +41,7 @@ int front_main(const char *name, const char *address, const char *port)
         fail("a front cannot be named");
     }
     confine_user(secure);
-    server_open(&s, FRONT_SOCKET, secure, address, port);
+    server_open(&s, FRONT_SOCKET, secure ? FRONT_KEYS : -1, address, port);
     confine_process();
     if (!message_send(s.core, MESSAGE_ALIVE, 0, NULL, 0)) {
         fail("the program itself starts its fronts");

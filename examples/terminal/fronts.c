@@ -45,10 +45,11 @@ enum {
 
 /* ---- The child */
 
-/* The new process has its socket, standard error for the line that says why it cannot start, and nothing else of the
- * core: it is this program anew, with a memory of its own. */
-static _Noreturn void become_front(const struct fronts *f, const struct front *front, int socket)
+/* The new process has its socket, for DTLS the key file, standard error for the line that says why it cannot start, and
+ * nothing else of the core: it is this program again, with a memory of its own. */
+static _Noreturn void become_front(const struct fronts *f, const struct front *front, int socket, int keys)
 {
+    bool secure = front == &f->list[FRONT_SECURE];
     char *const words[] = {"terminal",
                            FRONT_OPTION,
                            (char *)(uintptr_t)front->name,
@@ -57,7 +58,8 @@ static _Noreturn void become_front(const struct fronts *f, const struct front *f
                            NULL};
     int nothing = open("/dev/null", O_RDWR);
     if (nothing >= 0 && dup2(socket, FRONT_SOCKET) >= 0 && dup2(nothing, STDIN_FILENO) >= 0 &&
-        dup2(nothing, STDOUT_FILENO) >= 0 && close_range(FRONT_SOCKET + 1, ~0u, 0) == 0) {
+        dup2(nothing, STDOUT_FILENO) >= 0 && (!secure || dup2(keys, FRONT_KEYS) >= 0) &&
+        close_range(secure ? FRONT_KEYS + 1 : FRONT_SOCKET + 1, ~0u, 0) == 0) {
         execve(FRONT_PROGRAM, words, FRONT_ENVIRONMENT);
     }
     fail("the front for %s cannot be started: %s", front->name, strerror(errno));
@@ -67,13 +69,14 @@ static _Noreturn void become_front(const struct fronts *f, const struct front *f
 static bool launch(struct fronts *f, struct front *front)
 {
     int pair[2];
-    if (socketpair(AF_UNIX, SOCK_SEQPACKET | SOCK_CLOEXEC, 0, pair) != 0) {
+    /* Each front reads it from its beginning. */
+    if (lseek(f->keys, 0, SEEK_SET) != 0 || socketpair(AF_UNIX, SOCK_SEQPACKET | SOCK_CLOEXEC, 0, pair) != 0) {
         return false;
     }
     pid_t pid = fork();
     if (pid == 0) {
-        /* Not a number that it is to have itself. */
-        become_front(f, front, fcntl(pair[1], F_DUPFD, FRONT_SOCKET + 1));
+        /* Not numbers that they are to have themselves. */
+        become_front(f, front, fcntl(pair[1], F_DUPFD, FRONT_KEYS + 1), fcntl(f->keys, F_DUPFD, FRONT_KEYS + 1));
     }
     close(pair[1]);
     if (pid < 0) {
@@ -84,8 +87,8 @@ static bool launch(struct fronts *f, struct front *front)
     front->lives++;
     front->socket = pair[0];
     front->started = front->heard = clock_steady();
-    if (front == &f->list[FRONT_SECURE]) {
-        message_send(front->socket, MESSAGE_KEYS, 0, f->keys, sizeof *f->keys);
+    if (front == &f->list[FRONT_SECURE] && f->new_keys >= 0) {
+        message_send_descriptor(front->socket, MESSAGE_KEYS, f->new_keys);
     }
     return true;
 }
@@ -110,7 +113,7 @@ bool fronts_take(struct fronts *f, int which, struct message *m)
     if (front->pid == 0) {
         return false;
     }
-    switch (message_take(front->socket, m)) {
+    switch (message_take(front->socket, m, false)) {
     case MESSAGE_CAME:
         front->heard = clock_steady();
         return true;
@@ -129,6 +132,25 @@ void fronts_say(struct fronts *f, int which, enum message_kind kind, uint32_t nu
     }
 }
 
+/* ---- Keys */
+
+void fronts_give_keys(struct fronts *f, int keys)
+{
+    struct front *front = &f->list[FRONT_SECURE];
+    f->new_keys = keys;
+    lseek(keys, 0, SEEK_SET);
+    if (front->pid != 0 && !message_send_descriptor(front->socket, MESSAGE_KEYS, keys)) {
+        fronts_end(f, FRONT_SECURE, "does not listen");
+    }
+}
+
+void fronts_settle_keys(struct fronts *f, bool taken)
+{
+    close(taken ? f->keys : f->new_keys);
+    f->keys = taken ? f->new_keys : f->keys;
+    f->new_keys = -1;
+}
+
 /* ---- Starting and ending */
 
 /* Waits for the first message of a front. */
@@ -136,22 +158,23 @@ static void await(struct front *front)
 {
     static struct message m;
     struct pollfd said = {.fd = front->socket, .events = POLLIN};
-    if (poll(&said, 1, PATIENCE) != 1 || message_take(front->socket, &m) != MESSAGE_CAME) {
+    if (poll(&said, 1, PATIENCE) != 1 || message_take(front->socket, &m, false) != MESSAGE_CAME) {
         /* It has said what is wrong. */
         stop(front);
         exit(1);
     }
 }
 
-void fronts_open(struct fronts *f, const char *address, const char *port, const char *secure_port,
-                 const struct keys *keys)
+void fronts_open(struct fronts *f, const char *address, const char *port, const char *secure_port, int keys)
 {
     *f = (struct fronts){
         .address = address,
         .keys = keys,
+        .new_keys = -1,
         .list = {
             [FRONT_CLEAR] = {.name = "clear", .port = port}, [FRONT_SECURE] = {.name = "secure", .port = secure_port}}};
-    for (int i = 0; i < FRONTS; i++) {
+    /* the secure one first: it says what is wrong with the keys */
+    for (int i = FRONTS; i-- > 0;) {
         if (!launch(f, &f->list[i])) {
             fail("no process for the fronts: %s", strerror(errno));
         }

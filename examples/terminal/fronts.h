@@ -5,7 +5,6 @@
 
 #include <sys/types.h>
 
-#include "keys.h"
 #include "message.h"
 
 /* One for each connection of a record: the one in clear has no key, and can speak for no credential. */
@@ -28,15 +27,21 @@ struct front {
 
 struct fronts {
     const char *address;
-    const struct keys *keys;
+    /* the key file that the secure front has, and one that it has not confirmed yet, or -1 */
+    int keys, new_keys;
     struct front list[FRONTS];
     /* steady milliseconds: when they were tended last */
     int64_t tended;
 };
 
 /* Starts both, and waits until they listen. One that cannot has said why, and ends the program with status 1. */
-void fronts_open(struct fronts *f, const char *address, const char *port, const char *secure_port,
-                 const struct keys *keys);
+void fronts_open(struct fronts *f, const char *address, const char *port, const char *secure_port, int keys);
+
+/* The secure front gets another key file. While it has not confirmed one, there is none to be given. */
+void fronts_give_keys(struct fronts *f, int keys);
+
+/* It has taken that, or has not: the next front gets the file that counts. */
+void fronts_settle_keys(struct fronts *f, bool taken);
 
 /* The next message of a front, and whether there is one. A front that is gone, or says what is no message, is ended. */
 bool fronts_take(struct fronts *f, int which, struct message *m);

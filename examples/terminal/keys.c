@@ -2,7 +2,7 @@
 #include <stdio.h>
 #include <stdlib.h>
 #include <string.h>
-#include <sys/stat.h>
+#include <unistd.h>
 
 #include "keys.h"
 
@@ -27,63 +27,64 @@ static bool parse(const char *line, struct key *key)
     return key->number <= UINT16_MAX;
 }
 
-static bool add(struct keys *keys, const char *path, const char *line, unsigned place, char error[KEYS_ERROR])
+static bool add(struct keys *keys, const char *line, unsigned place, char error[KEYS_ERROR])
 {
     struct key key = {0};
+    bool added = false;
     if (!parse(line, &key)) {
-        snprintf(error, KEYS_ERROR, "%s, line %u: not a credential number, a space and a key of %d to %d characters",
-                 path, place, KEY_LEAST, KEY_MOST);
+        snprintf(error, KEYS_ERROR,
+                 "the key file, line %u: not a credential number, a space and a key of %d to %d characters", place,
+                 KEY_LEAST, KEY_MOST);
     } else if (keys_of(keys, key.number) != NULL) {
-        snprintf(error, KEYS_ERROR, "%s, line %u: credential %u has a key already", path, place, key.number);
+        snprintf(error, KEYS_ERROR, "the key file, line %u: credential %u has a key already", place, key.number);
     } else if (keys->length == KEYS_MOST) {
-        snprintf(error, KEYS_ERROR, "%s has more than %d keys", path, KEYS_MOST);
+        snprintf(error, KEYS_ERROR, "the key file has more than %d keys", KEYS_MOST);
     } else {
         keys->list[keys->length++] = key;
-        return true;
+        added = true;
     }
-    return false;
+    explicit_bzero(&key, sizeof key);
+    return added;
 }
 
-static bool read_lines(struct keys *keys, const char *path, FILE *file, char error[KEYS_ERROR])
+/* Reads the lines of a text that ends with a zero behind its last byte. */
+static bool read_lines(struct keys *keys, char *text, size_t length, char error[KEYS_ERROR])
 {
-    char *line = NULL;
-    size_t room = 0;
-    ssize_t length;
     bool good = true;
-    for (unsigned place = 1; good && (length = getline(&line, &room, file)) >= 0; place++) {
+    unsigned place = 1;
+    for (size_t at = 0; good && at < length; place++) {
+        char *line = text + at, *end = memchr(line, '\n', length - at);
+        size_t many = end != NULL ? (size_t)(end - line) : length - at;
+        line[many] = 0;
         /* A zero byte would hide what comes after it. */
-        const char *seen = strlen(line) == (size_t)length ? line : "";
-        good = line[0] == '#' || line[0] == '\n' || add(keys, path, seen, place, error);
+        const char *seen = strlen(line) == many ? line : "?";
+        good = many == 0 || line[0] == '#' || add(keys, seen, place, error);
+        at += many + 1;
     }
-    if (good && !feof(file)) {
-        snprintf(error, KEYS_ERROR, "%s cannot be read: %s", path, strerror(errno));
-        good = false;
-    }
-    free(line);
     return good;
 }
 
-bool keys_read(struct keys *keys, const char *path, char error[KEYS_ERROR])
+bool keys_read(struct keys *keys, int file, char error[KEYS_ERROR])
 {
-    struct keys read = {0};
-    struct stat status;
-    FILE *file = fopen(path, "re");
-    if (file == NULL || fstat(fileno(file), &status) != 0) {
-        snprintf(error, KEYS_ERROR, "%s cannot be read: %s", path, strerror(errno));
-        if (file != NULL) {
-            fclose(file);
-        }
-        return false;
+    static char text[KEYS_FILE + 1];
+    static struct keys found;
+    size_t length = 0;
+    ssize_t many = 1;
+    while (many > 0 && length < KEYS_FILE) {
+        many = read(file, text + length, KEYS_FILE - length);
+        length += many > 0 ? (size_t)many : 0;
     }
-    bool good = !(status.st_mode & (S_IRWXG | S_IRWXO));
+    found = (struct keys){0};
+    bool good = many >= 0;
     if (!good) {
-        snprintf(error, KEYS_ERROR, "%s can be read by others: chmod 600 it", path);
+        snprintf(error, KEYS_ERROR, "the key file cannot be read: %s", strerror(errno));
     }
-    good = good && read_lines(&read, path, file, error);
-    fclose(file);
+    good = good && read_lines(&found, text, length, error);
     if (good) {
-        *keys = read;
+        *keys = found;
     }
+    explicit_bzero(text, sizeof text);
+    explicit_bzero(&found, sizeof found);
     return good;
 }
 

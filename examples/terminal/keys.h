@@ -10,7 +10,9 @@ enum {
     KEYS_MOST = 64,
     KEY_LEAST = 16,
     KEY_MOST = 64,
-    KEYS_ERROR = 256
+    KEYS_ERROR = 256,
+    /* bytes of a key file, at most */
+    KEYS_FILE = 1 << 16
 };
 
 struct key {
@@ -26,9 +28,9 @@ struct keys {
 };
 
 /* Reads a file with a line for each key: credential number, one space, key of 16 to 64 characters without a space.
- * Empty lines and lines that begin with # are passed over. False: others may read the file, or it has any other line;
- * `error` says what is wrong, and the keys are those from before. */
-bool keys_read(struct keys *keys, const char *path, char error[KEYS_ERROR]);
+ * Empty lines and lines that begin with # are passed over. False: it has any other line; `error` says what is wrong, and
+ * the keys are those from before. */
+bool keys_read(struct keys *keys, int file, char error[KEYS_ERROR]);
 
 /* The key of an identity, or NULL. */
 const struct key *keys_find(const struct keys *keys, const uint8_t *identity, size_t length);

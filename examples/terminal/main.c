@@ -20,6 +20,7 @@
 #include "core.h"
 #include "fail.h"
 #include "front.h"
+#include "keyfile.h"
 #include "log.h"
 
 static const char USAGE[] =
@@ -47,10 +48,10 @@ struct options {
 
 struct program {
     struct options options;
-    struct keys keys;
     struct core core;
     int signals, clock_watch;
-    bool stopped;
+    /* the keys are to be read again; the program is to end */
+    bool new_keys, stopped;
 };
 
 static struct options read_options(int count, char **words)
@@ -120,11 +121,17 @@ static int open_signals(void)
     return descriptor;
 }
 
+/* Once the front has confirmed the keys from before. */
 static void read_keys_again(struct program *p)
 {
     char error[KEYS_ERROR];
-    if (keys_read(&p->keys, p->options.keys, error)) {
-        core_keys(&p->core, &p->keys);
+    if (!p->new_keys || p->core.fronts.new_keys >= 0) {
+        return;
+    }
+    p->new_keys = false;
+    int keys = keyfile_copy(p->options.keys, error);
+    if (keys >= 0) {
+        fronts_give_keys(&p->core.fronts, keys);
     } else {
         log_say("%s; the keys stay as they were", error);
     }
@@ -140,7 +147,7 @@ static void read_signals(struct program *p)
             log_say("cleared");
             break;
         case SIGHUP:
-            read_keys_again(p);
+            p->new_keys = true;
             break;
         default:
             p->stopped = true;
@@ -181,12 +188,13 @@ static void start(struct program *p)
     uint32_t clock = clock_now(o->clock);
     const char *path = o->device != NULL ? o->device : o->file;
     *c = (struct core){.plate = plate_new(), .clock = o->clock, .verbose = o->verbose};
-    if (!keys_read(&p->keys, o->keys, error)) {
+    int keys = keyfile_copy(o->keys, error);
+    if (keys < 0) {
         fail("%s", error);
     }
     log_open(o->clock);
     terminal_open(&c->terminal, path, o->device != NULL, o->make);
-    fronts_open(&c->fronts, o->address, o->port, o->secure_port, &p->keys);
+    fronts_open(&c->fronts, o->address, o->port, o->secure_port, keys);
     if (!terminal_start(&c->terminal, clock)) {
         fail_line("%s is damaged: every record is answered with 1 until kill -USR1 %d clears it", path, (int)getpid());
     }
@@ -210,6 +218,7 @@ static void run(struct program *p)
         int tend = fronts_tend(&p->core.fronts);
         wait_for_something(p, round >= 0 && round < tend ? round : tend);
         read_signals(p);
+        read_keys_again(p);
         read_clock_watch(p);
         core_read(&p->core);
         round = core_round(&p->core);

@@ -5,9 +5,11 @@
 #include <poll.h>
 #include <stdio.h>
 #include <string.h>
+#include <unistd.h>
 
 #include "clock.h"
 #include "endpoint.h"
+#include "fail.h"
 #include "guard.h"
 #include "request.h"
 #include "server.h"
@@ -126,16 +128,17 @@ static void confirm(struct server *s, enum message_kind kind, uint32_t number, c
 }
 
 /* Sessions whose key is no more, or is another, are over. */
-static void take_keys(struct server *s, const struct message *m)
+static void take_keys(struct server *s, int file)
 {
     static struct keys before;
+    char error[KEYS_ERROR];
     uint8_t numbers[2 * KEYS_MOST];
     size_t length = 0;
-    if (m->length != sizeof s->keys) {
+    before = s->keys;
+    if (!keys_read(&s->keys, file, error)) {
+        confirm(s, MESSAGE_NO_KEYS, 0, error, strlen(error));
         return;
     }
-    before = s->keys;
-    memcpy(&s->keys, m->body, sizeof s->keys);
     s->key_changes++;
     for (size_t i = 0; i < before.length; i++) {
         unsigned number = before.list[i].number;
@@ -146,6 +149,7 @@ static void take_keys(struct server *s, const struct message *m)
             numbers[length++] = (uint8_t)number;
         }
     }
+    explicit_bzero(&before, sizeof before);
     confirm(s, MESSAGE_KEYS, (uint32_t)s->keys.length, numbers, length);
 }
 
@@ -156,7 +160,7 @@ static void obey(struct server *s, const struct message *m)
         answer_later(s, m);
         break;
     case MESSAGE_KEYS:
-        take_keys(s, m);
+        take_keys(s, m->descriptor);
         break;
     case MESSAGE_END:
         end_sessions(s, m->number);
@@ -169,6 +173,9 @@ static void obey(struct server *s, const struct message *m)
     default:
         break;
     }
+    if (m->descriptor >= 0) {
+        close(m->descriptor);
+    }
 }
 
 bool server_hear(struct server *s)
@@ -179,7 +186,7 @@ bool server_hear(struct server *s)
         obey(s, &s->held);
     }
     for (;;) {
-        switch (message_take(s->core, &m)) {
+        switch (message_take(s->core, &m, true)) {
         case MESSAGE_CAME:
             obey(s, &m);
             break;
@@ -200,7 +207,7 @@ static const struct answer *await(struct server *s, const struct waiting_client 
     static struct answer a;
     struct pollfd both[2] = {{.fd = s->core, .events = POLLIN}, {.fd = s->endpoint, .events = POLLIN}};
     if (s->holds || waiting_others(&s->waiting, w) || poll(both, 2, RECEIPT) <= 0 || both[0].revents == 0 ||
-        message_take(s->core, &s->held) != MESSAGE_CAME) {
+        message_take(s->core, &s->held, true) != MESSAGE_CAME) {
         return NULL;
     }
     if (s->held.kind == MESSAGE_ANSWER && s->held.number == w->ticket && read_answer(&s->held, &a)) {
@@ -417,9 +424,17 @@ void server_tend(struct server *s)
 
 /* ---- Opening */
 
-void server_open(struct server *s, int core, bool secure, const char *address, const char *port)
+void server_open(struct server *s, int core, int keys, const char *address, const char *port)
 {
+    char error[KEYS_ERROR];
+    bool secure = keys >= 0;
     *s = (struct server){.secure = secure, .core = core, .pulse = clock_steady(), .notes = NOTES};
+    if (secure && !keys_read(&s->keys, keys, error)) {
+        fail("%s", error);
+    }
+    if (secure) {
+        close(keys);
+    }
     s->recent.each = secure ? RECENT_EACH_SECURE : RECENT_EACH_CLEAR;
     coap_startup();
     coap_prng(&s->ticket, sizeof s->ticket);

@@ -36,8 +36,9 @@ struct server {
     int notes;
 };
 
-/* Opens the endpoint. A port that is in use ends the program. */
-void server_open(struct server *s, int core, bool secure, const char *address, const char *port);
+/* Reads the key file and opens the endpoint over DTLS, or in clear where there is none, -1. A file that is no key file
+ * and a port that is in use end the program. */
+void server_open(struct server *s, int core, int keys, const char *address, const char *port);
 
 /* Hears what the core has said, and sends the answers. False: the core is gone, or does not listen. */
 bool server_hear(struct server *s);
