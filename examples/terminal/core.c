@@ -91,7 +91,7 @@ static void answer_lost(struct core *c)
 static void drop_held(struct core *c, unsigned sender)
 {
     struct client *client = find(c, sender);
-    if (client != NULL) {
+    if (client != NULL && client->held) {
         answer_dropped(c, client);
     }
 }
@@ -137,7 +137,8 @@ static bool take_keys(struct core *c, int front, const struct message *m)
         drop_held(c, (unsigned)m->body[i] << 8 | m->body[i + 1]);
     }
     fronts_settle_keys(&c->fronts, true);
-    log_say("%u keys read", m->number);
+    c->has_keys = true;
+    c->keys = m->number;
     return true;
 }
 
@@ -187,6 +188,9 @@ static void refuse_assertion(struct core *c, const struct client *from)
     struct answer refusal = answer_words(503, "as many roles as a partner may assert in a day");
     refusal.max_age = 24 * 60 * 60 / ASSERTIONS_EACH_DAY;
     fronts_say(&c->fronts, from->front, MESSAGE_ANSWER, from->ticket, &refusal, answer_size(&refusal));
+    if (c->verbose) {
+        log_record(from->sender, LOG_READ, "%u UPDATE /oic/sec/roles: as many as a day has, 5.03", from->sender);
+    }
 }
 
 /* Whether the record may change the tables. */
@@ -400,6 +404,11 @@ int core_round(struct core *c)
     if (c->terminal.stores > stores) {
         c->next_store = clock_steady() + BETWEEN_STORES;
     }
+    /* By now all that was handed in before is judged. */
+    if (c->has_keys) {
+        log_say("%u keys read", c->keys);
+    }
+    c->has_keys = false;
     return until_due(c);
 }
 

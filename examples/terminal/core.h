@@ -40,6 +40,9 @@ struct core {
     uint16_t unconfirmed[UINT16_MAX + 1];
     unsigned life;
     struct assertions assertions;
+    /* the front has confirmed new keys, and how many; the log does not say so yet */
+    bool has_keys;
+    unsigned keys;
 };
 
 /* Reads what the fronts say, and answers what is refused at once. */

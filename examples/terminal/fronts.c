@@ -87,7 +87,8 @@ static bool launch(struct fronts *f, struct front *front)
     front->lives++;
     front->socket = pair[0];
     front->started = front->heard = clock_steady();
-    if (front == &f->list[FRONT_SECURE] && f->new_keys >= 0) {
+    /* The one before may have read it, and not have said so. */
+    if (front == &f->list[FRONT_SECURE] && f->new_keys >= 0 && lseek(f->new_keys, 0, SEEK_SET) == 0) {
         message_send_descriptor(front->socket, MESSAGE_KEYS, f->new_keys);
     }
     return true;

@@ -136,6 +136,7 @@ static void take_keys(struct server *s, int file)
     size_t length = 0;
     before = s->keys;
     if (!keys_read(&s->keys, file, error)) {
+        explicit_bzero(&before, sizeof before);
         confirm(s, MESSAGE_NO_KEYS, 0, error, strlen(error));
         return;
     }
