@@ -22,16 +22,17 @@ ALONE = [
     ("test", "low-byte"), ("convert", "UUIDs"), ("convert", "anybody"),
 ]
 GROWING = ["serve", "acl2", "text"]
-# What was aimed at, by the ratio to C by hand.
+# What was aimed at, by the ratio to C by hand: instructions, and time.
 AIMS = [
-    ("serve, at each fill", 1.15, [("serve", fill) for fill in FILLS]),
-    ("a hand-in, nothing waits and 24 wait", 1.2, [("hand-in0", "full"), ("hand-in24", "full")]),
-    ("a take, 1 and 25 wait", 1.2, [("take1", "full"), ("take25", "full")]),
-    ("RETRIEVE cred, full tables", 1.4, [("cred", "full")]),
-    ("RETRIEVE acl2, full tables", 1.4, [("acl2", "full")]),
-    ("conversion to 32 rows", 2.5, [("convert", "UUIDs"), ("convert", "anybody")]),
-    ("office text, full tables", 2.5, [("text", "full")]),
-    ("poll, at each fill", 1.5, [("poll", fill) for fill in FILLS]),
+    ("serve, at each fill", 1.15, 1.3, [("serve", fill) for fill in FILLS]),
+    ("a hand-in, nothing waits and 24 wait", 1.15, 1.3, [("hand-in0", "full"), ("hand-in24", "full")]),
+    ("a take, 1 and 25 wait", 1.15, 1.3, [("take1", "full"), ("take25", "full")]),
+    ("store, full tables", 1.15, 1.3, [("store", "full")]),
+    ("remove, full tables", 1.15, 1.3, [("remove", "full")]),
+    ("RETRIEVE acl2, full tables", 1.15, 1.3, [("acl2", "full")]),
+    ("RETRIEVE cred, full tables", 1.3, 1.5, [("cred", "full")]),
+    ("poll, at each fill", 1.5, 1.7, [("poll", fill) for fill in FILLS]),
+    ("office text, full tables", 1.8, 2.0, [("text", "full")]),
 ]
 KILO = 1024
 
@@ -109,20 +110,17 @@ def growth(counted):
     return table(head, rows + [["for each row more"] + more])
 
 
-def aims(counted, same, sizes):
-    """Beside C by hand of the usual compiler, and of the library's own."""
+def aims(counted, same, timed):
+    """Instructions beside C by hand of the usual compiler and of the library's own, and time beside the usual one's."""
     rows = []
-    for what, most, cases in AIMS:
-        row = [what, f"{most:.2f}"]
-        for measured in (counted, same):
+    for what, most, longest, cases in AIMS:
+        row = [what]
+        for measured, limit in ((counted, most), (same, most), (timed, longest)):
             worst = max(measured[case][0] / measured[case][1] for case in cases)
-            row += [", ".join(ratio(measured[case]) for case in cases), verdict(worst, most)]
+            row += [f"{limit:.2f}", ", ".join(ratio(measured[case]) for case in cases), verdict(worst, limit)]
         rows.append(row)
-    bytes_of_stack = max(max(numbers[:-1]) for numbers in sizes.values())
-    rows.append(["stack of any call, on any target", f"{6 * KILO:,} bytes", f"{bytes_of_stack:,}", verdict(bytes_of_stack, 6 * KILO), "", ""])
-    code = sizes["x86_64-unknown-linux-gnu", "O3"][-1]
-    rows.append(["code at -O3, x86-64", f"{40 * KILO:,} bytes", f"{code:,}", verdict(code, 40 * KILO), "", ""])
-    return table(["what", "at most", "today", "", "C by hand by the kit's clang", ""], rows)
+    head = ["what", "instructions, at most", "C by hand by gcc", "", "at most", "by the kit's clang", "", "time, at most", "by gcc", ""]
+    return table(head, rows)
 
 
 def verdict(worst, most):
@@ -146,12 +144,11 @@ def by_target(sizes):
 
 
 def hand(text):
-    numbers = [int(number) for number in re.search(STACK, text).groups()]
-    code = int(re.search(r"size: (\d+)", text).group(1))
-    return table(
-        ["", "code", "decision", "hand-in", "take", "office text", "test of a list", "conversion"],
-        [["by hand, x86-64, gcc -O3", f"{code:,}"] + [f"{number:,}" for number in numbers]],
-    )
+    rows = []
+    for name, numbers in zip(("by hand, gcc -O3", "library, -O3"), re.findall(STACK + r"\nsize: (\d+)", text)):
+        *stack, code = (int(number) for number in numbers)
+        rows.append([name, f"{code:,}"] + [f"{number:,}" for number in stack])
+    return table(["on x86-64", "code", "decision", "hand-in", "take", "office text", "test of a list", "conversion"], rows)
 
 
 def engine(text, timed):
@@ -188,8 +185,8 @@ def blocks(files):
     if counted:
         made.update(instructions=by_fill(counted, ""), growth=growth(counted), where=where(counted, functions(files["counts"])))
     same = pairs(files.get("same_compiler", ""))
-    if counted and same and sizes:
-        made["aims"] = aims(counted, same, sizes)
+    if counted and same and timed:
+        made["aims"] = aims(counted, same, timed)
     if timed:
         made.update(times=by_fill(timed, ", ns"), compared=compared(files["times"]))
         made["mixed"] = "\n".join(

@@ -9,7 +9,7 @@
 # counts          bench/callgrind.sh: instructions                           valgrind, cargo, cc
 # times           bench: the comparison, then time                           cargo, cc, an idle machine
 # targets         targets/test.sh: size and stack                            Debian's cross compilers and emulators, which it installs
-# by_hand         size and stack of C by hand on x86-64                      cc
+# by_hand         size and stack on x86-64, of C by hand and of the library  cc
 # casbin          bench/casbin.sh: another engine                            Go and casbin (bench/casbin.sh --install); left out without them
 set -euo pipefail
 cd "$(dirname "$0")/.."
@@ -44,7 +44,7 @@ times() { (cd model && cargo run --quiet --release --features yardstick --bin be
 
 targets() { targets/test.sh; }
 
-# The same program as on each target, with C by hand in the library's place.
+# The same program as on each target: with C by hand in the library's place, and with the library.
 by_hand() {
     local name names=() object=$out/yardstick.o
     for name in judge hand_in take access_list test_list convert_list; do
@@ -54,6 +54,9 @@ by_hand() {
     cc -static -std=c11 -O1 -Iinclude "${names[@]}" targets/stack.c "$object" -o "$out/stack"
     "$out/stack"
     echo "size: $(size "$object" | awk 'END { print $1 }') bytes of code"
+    cc -static -std=c11 -O1 -Iinclude targets/stack.c target/staticlib/libterminal.a -o "$out/stack"
+    "$out/stack"
+    echo "size: $(size -t target/staticlib/libterminal.a | awk 'END { print $1 }') bytes of code"
 }
 
 casbin() { bench/casbin.sh; }
