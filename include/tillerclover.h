@@ -84,10 +84,10 @@ enum {
     TILLERCLOVER_PSTAT_LENGTH = 1,
     /* the body that stores a credential row; one of 21 bytes, without the authority, also stores a row */
     TILLERCLOVER_CRED_LENGTH = 23,
-    /* the body that asserts a role, and its place in the credential row; a row has two */
+    /* the body that asserts a role, and its slot in the credential row; a row has two */
     TILLERCLOVER_ROLE_LENGTH = 8,
     TILLERCLOVER_ROLE_CAPACITY = 2,
-    /* a credential row: its body and the places of asserted roles */
+    /* a credential row: its body and the slots of asserted roles */
     TILLERCLOVER_CRED_ROW_LENGTH = 39,
     /* an access row, and the body that stores it; one of 28 bytes, without the period, also stores a row */
     TILLERCLOVER_ACE_LENGTH = 36,
@@ -213,7 +213,7 @@ enum {
     TILLERCLOVER_CRED_TYPE_AT = 22,
     TILLERCLOVER_CRED_TYPE_SHIFT = 2,
     TILLERCLOVER_CRED_ROLES_AT = 23,
-    /* an asserted role, in its body and in its place */
+    /* an asserted role, in its body and in its slot */
     TILLERCLOVER_ASSERTED_AUTHORITY_AT = 0,
     TILLERCLOVER_ASSERTED_ROLE_AT = 2,
     TILLERCLOVER_ASSERTED_LAST_AT = 4,
@@ -373,13 +373,13 @@ typedef struct tillerclover_tables {
     /* the row owners of doxm, pstat, cred and acl2, each a UUID or nil */
     uint8_t rowners[TILLERCLOVER_ROW_OWNERS * TILLERCLOVER_UUID_LENGTH];
     /* Rows in order of arrival, zeros after the last. A credential row: number (16 bits), subject (128),
-     * role (16), the role's authority (16), type (6), two zero bits, and two places for asserted roles. A
+     * role (16), the role's authority (16), type (6), two zero bits, and two slots for asserted roles. A
      * body without the authority stores authority 0, the works' own. Role 0 is none and has authority 0.
      *
-     * A place: authority (16), role (16), last second (32), or zeros. The partner asserts a role by an
+     * A slot: authority (16), role (16), last second (32), or zeros. The partner asserts a role by an
      * UPDATE of TILLERCLOVER_ROLES with these eight bytes, and has it from then on as if it were stored, up
      * to its last second and with it. An assertion first takes those of the row away whose last second is
-     * before the clock; an equal role, of the same authority, gets the new last second in its place, any
+     * before the clock; an equal role, of the same authority, gets the new last second in its slot, any
      * other comes after it. A row that is stored again or deleted has lost its asserted roles, and fresh
      * tables hold none. */
     uint8_t creds[TILLERCLOVER_CRED_CAPACITY * TILLERCLOVER_CRED_ROW_LENGTH];
@@ -400,7 +400,7 @@ typedef struct tillerclover_tables {
  * All zero is fresh: nothing waits. Any content is allowed; bytes that are not sound with these tables get
  * TILLERCLOVER_NOT_SOUND, and tillerclover_clear takes them. They are sound when
  * - at most 25 records wait, in the first slots, with zeros in all others. The order of the slots is free.
- * - the round is zeros, or 1 and any number. 1 0 0 names the place of the unauthenticated. A number that no credential row
+ * - the round is zeros, or 1 and any number. 1 0 0 names the seat of the unauthenticated. A number that no credential row
  *   has means what zeros mean: turns go round from the start.
  * - each record passes the checks 2 to 7 on these tables, and its slot has its own sender's number, no two the same.
  */
@@ -433,7 +433,7 @@ typedef struct tillerclover_defaults {
     size_t aces_length;
 } tillerclover_defaults;
 
-/* The table that places to store are in. */
+/* The table that the rows to store are in. */
 enum tillerclover_table {
     TILLERCLOVER_NO_TABLE = 0,
     TILLERCLOVER_CREDS = 1,
@@ -453,8 +453,8 @@ typedef struct tillerclover_outcome {
     /* The reply is the first `reply_length` bytes of the caller's own buffer; see tillerclover_judge. 0 for
      * every record but a permitted RETRIEVE of a security resource. */
     size_t reply_length;
-    /* The places that a DELETE leaves to store, for memory that wears: `store_count` rows of the table from
-     * place `store_first` on, counted from 0. They go from the first deleted row to the last one held before;
+    /* The rows that a DELETE leaves to store, for memory that wears: `store_count` rows of the table from
+     * row `store_first` on, counted from 0. They go from the first deleted row to the last one held before;
      * each holds another row number than before, 0 when unused, and no other place does. The count, ncreds or
      * naces, changes as well. All three are 0 for every other record, and for a DELETE that finds no rows. */
     enum tillerclover_table store_table;
@@ -580,7 +580,7 @@ TILLERCLOVER_RESULT TILLERCLOVER_NONNULL static inline tillerclover_outcome
 tillerclover_judge(tillerclover_terminal *terminal, const tillerclover_defaults *defaults, uint32_t clock,
                    const uint8_t *record, size_t length, uint8_t *reply, size_t capacity);
 
-/* Hands a record of `length` bytes in: it waits in its sender's place, byte for byte, until its turn comes.
+/* Hands a record of `length` bytes in: it waits in its sender's seat, byte for byte, until its turn comes.
  * TILLERCLOVER_KEPT says no more than that; whether the record may pass is decided at its take. The
  * outcome's other fields are 0. A sender whose record waits gets TILLERCLOVER_OCCUPIED. The tables stay, and on a refusal
  * the waiting records too, byte for byte.
@@ -589,7 +589,7 @@ TILLERCLOVER_RESULT TILLERCLOVER_NONNULL static inline tillerclover_outcome
 tillerclover_hand_in(tillerclover_terminal *terminal, const uint8_t *record, size_t length);
 
 /* Takes the record whose turn it is, and judges it as tillerclover_judge does, at this clock. Turns go round
- * from the unauthenticated senders' place through the credential rows in table order, starting after the last
+ * from the unauthenticated senders' seat through the credential rows in table order, starting after the last
  * place taken, so that in sound tables a record waits for 25 takes at most while no credential row is added or
  * removed and the tables are not cleared. The place is emptied also where the record is refused. With
  * TILLERCLOVER_NOTHING_WAITING, and where the terminal is not sound, nothing changes.

@@ -591,7 +591,7 @@ def check_glossary():
     words = [cells[0].replace("`", "") for cells in rows_of(page)[1:]]
     if words != sorted(words, key=str.lower):
         fault("GLOSSARY.md: the words are not in their order")
-    sources = "\n".join(read(path) for path in glob.glob("crates/*/specs/*.antt") + glob.glob("crates/*/src/**/*.rt", recursive=True))
+    sources = "\n".join(read(path) for path in glob.glob("crates/*/specs/**/*.antt", recursive=True) + glob.glob("crates/*/src/**/*.rt", recursive=True))
     known = set(re.findall(r"\w+", sources))
     for name in set(re.findall(r"`(\w+)`", page)) - known:
         fault(f"GLOSSARY.md: there is no {name} in the sources")

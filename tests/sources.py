@@ -55,10 +55,10 @@ SPECS = {
         "States": "rules/specs/States",
         "Tables": "rules/specs/Tables",
         "Old": "rules_legacy/specs/OldList",
-        "Slots": "rules_waiting/specs/Slots",
-        "Waiting": "rules_waiting/specs/Terminal",
+        "Slots": "rules_terminal/specs/Slots",
+        "Waiting": "rules_terminal/specs/Terminal",
         "Checks": "rules/specs/Checks",
-        "Groups": "rules/specs/Groups",
+        "Groups": "rules/specs/Contracts/Groups",
         "Directory": "rules/specs/Directory",
     }.items()
 }
@@ -119,7 +119,8 @@ def functions_of(path):
 def exports(path, name):
     """Whether an .antt file exports the name with a statement, or as a record or data type, and its crate exports the file."""
     folder, file = os.path.split(path)
-    if not re.search(rf"^pub mod {file[:-5]}$", read(f"{folder}/Lib.antt"), re.M):
+    node = f"{folder}/Lib.antt" if os.path.basename(folder) in ("specs", "proofs") else f"{folder}.antt"
+    if not re.search(rf"^pub mod {file[:-5]}$", read(node), re.M):
         return False
     word = re.escape(name)
     return bool(re.search(rf"^ *(?:(?:unfoldable|abbrev) )?pub (?:{word} :|(?:record|data) {word}\s)", read(path), re.M))

@@ -1,2 +1,2 @@
 -- Laws for the proofs of this crate.
-mod PlaceBytes
+mod SlotBytes

@@ -5,9 +5,9 @@ use row_body::ace_row;
 use row_body::cred_row;
 use row_format::capacity_of;
 use row_lookup::count_of;
+use row_lookup::index_by_key;
 use row_lookup::may_be_none;
 use row_lookup::picked;
-use row_lookup::place;
 use rows::Found;
 use rows::part;
 use rules::ACE_ROWS;
@@ -18,31 +18,31 @@ use rules::Head;
 use rules::Table;
 ghost use mathlib.Core.Path.{_≡_};
 ghost use Rattle.rows.specs.Rows.{numberedAs};
-ghost use Rattle.rows.specs.Contracts.{placeOf};
+ghost use Rattle.rows.specs.Contracts.{indexOf};
 ghost use Rattle.rules.specs.Roles.{rolesInForce};
 ghost use Rattle.rules.specs.Tables.{rowOf, rows};
 ghost use Rattle.rules.specs.Checks.{refuseIf, verdict, missing, full, rolesFull};
-ghost use Rattle.rules.specs.Groups.{rowChecks};
-ghost use Rattle.rules.specs.Words.{was, before};
+ghost use Rattle.rules.specs.Contracts.Groups.{rowChecks};
+ghost use Rattle.rules.specs.Contracts.Words.{was, before};
 
 // Where the table holds the number of the row that the body stores.
-fn numbered_place<'a>(
+fn numbered_index<'a>(
     h: Head,
     creds: &'a [u8; CRED_ROWS],
     aces: &'a [u8; ACE_ROWS],
     table: Table,
     b: &[u8],
 ) -> Found
-    ensures { λ r. ⌜ r ≡ placeOf (numberedAs (rowOf table (was b))) (rows table (before h creds aces)) ⌝ }
+    ensures { λ r. ⌜ r ≡ indexOf (numberedAs (rowOf table (was b))) (rows table (before h creds aces)) ⌝ }
 {
     match table {
         Table::Creds => {
             let row = cred_row(b);
-            place(h, creds, aces, table, 0, part(&row, 0, 2))
+            index_by_key(h, creds, aces, table, 0, part(&row, 0, 2))
         }
         Table::Aces => {
             let row = ace_row(b);
-            place(h, creds, aces, table, 0, part(&row, 0, 2))
+            index_by_key(h, creds, aces, table, 0, part(&row, 0, 2))
         }
     }
 }
@@ -84,13 +84,13 @@ fn check_full<'a>(
     if count_of(h, table) < capacity_of(table) {
         return Check::Pass;
     }
-    let Found::At(_) = numbered_place(h, creds, aces, table, b) else {
+    let Found::At(_) = numbered_index(h, creds, aces, table, b) else {
         return Check::Refuse(14);
     };
     Check::Pass
 }
 
-// Check 22: both places of the sender's own row hold other roles in force.
+// Check 22: both slots of the sender's own row have other roles in force.
 fn check_roles(clock: u32, cred: &[u8], a: Action, b: &[u8]) -> Check
     ensures { λ c. ⌜ c ≡ refuseIf 22 (rolesFull (rolesInForce clock (was cred)) (was b) a) ⌝ }
 {

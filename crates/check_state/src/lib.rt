@@ -9,7 +9,7 @@ ghost use mathlib.Core.Bool.{not};
 ghost use Prim.Native.Nat.{_≤_};
 ghost use Rattle.rules.specs.States.{writeAllowed, moveListed, stateAllows};
 ghost use Rattle.rules.specs.Checks.{refuseIf, verdict, badTarget};
-ghost use Rattle.rules.specs.Groups.{stateChecks};
+ghost use Rattle.rules.specs.Contracts.Groups.{stateChecks};
 
 // State by kind of write: doxm, row owners, rows, target.
 const WRITES: [[bool; 4]; 5] = [

@@ -1,7 +1,7 @@
 // Whether tables are sound.
 // The head, then each table: room for its rows, zeros after them, each row storable, distinct numbers.
-use row_format::aces_held;
-use row_format::creds_held;
+use row_format::all_aces_storable;
+use row_format::all_creds_sound;
 use row_format::is_nil;
 use row_format::stride_of;
 use rules::ACE_ROW;
@@ -19,7 +19,7 @@ ghost use lib.ListN.{length};
 ghost use Rattle.rows.specs.Rows.{rowsOf, every};
 ghost use Rattle.rules.specs.declared.Table.the-variants.{Creds, Aces};
 ghost use Rattle.rules.specs.Tables.{stride, storable, capacity, rowsSound, headSound, sound, tablesOf, tableSize};
-ghost use Rattle.rules.specs.Words.{was, before};
+ghost use Rattle.rules.specs.Contracts.Words.{was, before};
 
 // Whether each of `count` rows is one that a body could store, where all of them are there.
 fn each_storable(table: Table, rows: &[u8], count: usize) -> bool
@@ -27,8 +27,8 @@ fn each_storable(table: Table, rows: &[u8], count: usize) -> bool
     ensures { λ r. ⌜ r ≡ every (storable table) (rowsOf (stride table) count (was rows)) ⌝ }
 {
     match table {
-        Table::Creds => creds_held(rows, count),
-        Table::Aces => aces_held(rows, count),
+        Table::Creds => all_creds_sound(rows, count),
+        Table::Aces => all_aces_storable(rows, count),
     }
 }
 
@@ -53,7 +53,7 @@ fn creds_sound(count: usize, bytes: &[u8]) -> bool
         return false;
     }
     let end = count * CRED_ROW;
-    if !creds_held(bytes, count) {
+    if !all_creds_sound(bytes, count) {
         return false;
     }
     if !rows::all_zero(bytes, end) {
@@ -71,7 +71,7 @@ fn aces_sound(count: usize, bytes: &[u8]) -> bool
         return false;
     }
     let end = count * ACE_ROW;
-    if !aces_held(bytes, count) {
+    if !all_aces_storable(bytes, count) {
         return false;
     }
     if !rows::all_zero(bytes, end) {

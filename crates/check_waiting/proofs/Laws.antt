@@ -7,10 +7,10 @@ use mathlib.Core.Bool.{and-assoc}
 use native.Mathlib.Numerals.{add-four}
 use Rattle.rows.specs.Rows.{Row, same, hasKey, allZero, every, some, distinctNumbers, rowsOf}
 use Rattle.rows.proofs.Zeros.{zeros-part}
-use Rattle.rows.proofs.Laws.{take-rest, some-append, from-row, isAt, some-place}
+use Rattle.rows.proofs.Laws.{take-rest, some-append, from-row, isAt, some-index}
 use Rattle.rows.specs.declared.Found.{Found}
 use Rattle.rows.specs.declared.Found.the-variants.{At, Nothing}
-use Rattle.rows.specs.Contracts.{placeFrom}
+use Rattle.rows.specs.Contracts.{indexFrom}
 use Rattle.rules.specs.declared.Table.the-variants.{Creds}
 use Rattle.rules.specs.Tables.{rowsIn}
 use Rattle.rules.specs.Bits.{bits, be16}
@@ -22,15 +22,15 @@ use Rattle.rules.specs.Record.{headerOf, sender, credential}
 use Rattle.rules.specs.Directory.{known, resourceOf}
 use Rattle.rules.specs.Permission.{connectionOf}
 use Rattle.rules.specs.Checks.{verdict, noRow, noCredential}
-use Rattle.rules.specs.Callers.{lacksRow}
-use Rattle.rules.specs.Groups.{senderChecks}
+use Rattle.rules.specs.Contracts.Callers.{lacksRow}
+use Rattle.rules.specs.Contracts.Groups.{senderChecks}
 use Rattle.rules.proofs.RecordLaws.{key-is}
 use Rattle.check_header.specs.Fields.{Has}
 use Rattle.rules.proofs.BitLaws.{bits-part, bits-small, bits-word, word-is}
 use Rattle.rules.proofs.Answers.{passed, long-enough}
-use Rattle.rules_waiting.specs.Slots.{seatOf, padded, slotOf, recordOf, roundBytes, roundOf, waiting, queueSize, slotSize}
-use Rattle.rules_waiting.specs.Terminal.{slotSound, queueSound}
-use Rattle.rules_waiting.proofs.SlotLaws.{short-record}
+use Rattle.rules_terminal.specs.Slots.{seatOf, padded, slotOf, recordOf, roundBytes, roundOf, waiting, queueSize, slotSize}
+use Rattle.rules_terminal.specs.Terminal.{slotSound, queueSound}
+use Rattle.rules_terminal.proofs.SlotLaws.{short-record}
 use Rattle.rules.specs.Sizes.{credRowSize}
 
 -- the round's bytes: zeros, or 1 and a seat
@@ -168,10 +168,10 @@ module _ (n count : ℕ) (b key : List ℕ) (few : count ≡ min n 24) where
   unfolding rowsIn
   near i h l e t = sym (ap (λ (k : ℕ). some (hasKey 0 key) (rowsOf credRowSize k b)) (sym few) ∙ some-at (hasKey 0 key) credRowSize count i b l (sym e ∙ t))
 
-  pub searched : (p : Found) → p ≡ placeFrom 0 (hasKey 0 key) (rowsOf credRowSize count b) → isAt p ≡ some (hasKey 0 key) (rowsIn Creds n b)
+  pub searched : (p : Found) → p ≡ indexFrom 0 (hasKey 0 key) (rowsOf credRowSize count b) → isAt p ≡ some (hasKey 0 key) (rowsIn Creds n b)
   unfolding rowsIn
   searched p e =
-      ap isAt e ∙ sym (some-place 0 (hasKey 0 key) (rowsOf credRowSize count b)) ∙ ap (λ (k : ℕ). some (hasKey 0 key) (rowsOf credRowSize k b)) few
+      ap isAt e ∙ sym (some-index 0 (hasKey 0 key) (rowsOf credRowSize count b)) ∙ ap (λ (k : ℕ). some (hasKey 0 key) (rowsOf credRowSize k b)) few
 
 -- what a place says of a partner's row
 pub lacks : (n : ℕ) (p : Found) → lacksRow (Partner n) p ≡ not (isAt p)
@@ -196,7 +196,7 @@ module _ (ws : List Row) (w r : List ℕ) (is : r ≡ recordOf w) (c : Check) (t
   unfolding slotSound
   kept-is e b s = s ∙ rw (← is, ← told, e, and-true)
 
--- ---- the memory
+-- ---- the queue
 
 pub too-many : (ws : List Row) (m : List ℕ) → 25 < getD m 0 0 → false ≡ queueSound ws m
 unfolding queueSound

@@ -8,12 +8,12 @@ use Rattle.rules.specs.declared.Check.the-variants.{Pass, Refuse}
 use Rattle.rules.specs.declared.Decision.{Decision}
 use Rattle.rules.specs.Record.{Request}
 use Rattle.rules.specs.Checks.{verdict}
-use Rattle.rules.specs.Callers.{callerRow}
-use Rattle.rules.specs.Decision.{grantChecks, decisionChecks, nothingGranted, decisionBy, granted, decided}
+use Rattle.rules.specs.Contracts.Callers.{callerRow}
+use Rattle.rules.specs.Contracts.Decision.{laterChecks, decisionChecks, nothingPermitted, decisionBy, decidedBy, decided}
 
 -- a refusal of these checks
-pub turned : (k : Caller) (p l : ℕ) (a : Action) (c v : Check) (n : ℕ) (d : Decision) → c ≡ v → c ≡ Refuse n → d ≡ nothingGranted k c → d ≡ decisionBy k p a l v
-turned k p l a c v n d e r f = f ∙ ap (nothingGranted k) r ∙ ap (decisionBy k p a l) (sym r ∙ e)
+pub turned : (k : Caller) (p l : ℕ) (a : Action) (c v : Check) (n : ℕ) (d : Decision) → c ≡ v → c ≡ Refuse n → d ≡ nothingPermitted k c → d ≡ decisionBy k p a l v
+turned k p l a c v n d e r f = f ∙ ap (nothingPermitted k) r ∙ ap (decisionBy k p a l) (sym r ∙ e)
 
 -- a pass
 pub let-through : (k : Caller) (p q l m : ℕ) (a b : Action) (c v : Check) → c ≡ Pass → c ≡ v → p ≡ q → a ≡ b → l ≡ m
@@ -25,10 +25,10 @@ check-by k p l a Pass = refl
 check-by k p l a (Refuse n) = refl
 
 -- the check of a decision is the verdict on its list
-pub check-granted : (clock : ℕ) (t : Tables) (k : Caller) (b : List ℕ) (capacity : ℕ)
-    → granted clock t k b capacity .check ≡ verdict (grantChecks clock t (callerRow t k) (k .header) b capacity)
-unfolding granted
-check-granted clock t k b capacity = check-by k _ _ _ (verdict (grantChecks clock t (callerRow t k) (k .header) b capacity))
+pub check-later : (clock : ℕ) (t : Tables) (k : Caller) (b : List ℕ) (capacity : ℕ)
+    → decidedBy clock t k b capacity .check ≡ verdict (laterChecks clock t (callerRow t k) (k .header) b capacity)
+unfolding decidedBy
+check-later clock t k b capacity = check-by k _ _ _ (verdict (laterChecks clock t (callerRow t k) (k .header) b capacity))
 
 pub check-decided : (t : Tables) (q : Request) → decided t q .check ≡ verdict (decisionChecks t q)
 unfolding decided

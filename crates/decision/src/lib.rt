@@ -1,5 +1,5 @@
 // The decision on a record beside sound tables: the checks after 1 in their order and, where none applies, what is permitted.
-// The caller is found once, for all checks and for the permission. Check 1 is another's, since it covers the memory of waiting records too.
+// The caller is found once, for all checks and for the permission. Check 1 is in check_waiting: it covers the queue too.
 use action::action_of;
 use caller::caller_of;
 use caller::check_caller;
@@ -20,12 +20,12 @@ use rules::Decision;
 use rules::Head;
 ghost use mathlib.Core.Path.{_≡_};
 ghost use Rattle.rules.specs.Record.{received};
-ghost use Rattle.rules.specs.Decision.{nothingGranted, granted, decided};
-ghost use Rattle.rules.specs.Words.{was, before};
+ghost use Rattle.rules.specs.Contracts.Decision.{nothingPermitted, decidedBy, decided};
+ghost use Rattle.rules.specs.Contracts.Words.{was, before};
 
-// A record that is turned away is permitted nothing.
+// A record that is refused is permitted nothing.
 fn turned_away(caller: Caller, c: Check) -> Decision
-    ensures { λ r. ⌜ r ≡ nothingGranted caller c ⌝ }
+    ensures { λ r. ⌜ r ≡ nothingPermitted caller c ⌝ }
 {
     Decision {
         check: c,
@@ -38,7 +38,7 @@ fn turned_away(caller: Caller, c: Check) -> Decision
 
 // The decision on a record that passes 2 to 7, by its caller and its body, where the reply buffer has this capacity.
 // Rules out: the body judged before the permission; another clock for the rows; a reply that does not fit permitted.
-pub fn grant<'a>(
+pub fn decide_request<'a>(
     clock: u32,
     h: Head,
     creds: &'a [u8; CRED_ROWS],
@@ -47,11 +47,11 @@ pub fn grant<'a>(
     b: &[u8],
     capacity: usize,
 ) -> Decision
-    ensures { λ r. ⌜ r ≡ granted clock (before h creds aces) caller (was b) capacity ⌝ }
+    ensures { λ r. ⌜ r ≡ decidedBy clock (before h creds aces) caller (was b) capacity ⌝ }
 {
     let header = caller.header;
-    let place = caller.row;
-    let cred = row_of(h.ncreds, creds, place);
+    let found = caller.row;
+    let cred = row_of(h.ncreds, creds, found);
     let permission = effective(clock, h, aces, cred, header);
     let a = action_of(header, b);
     let c = check_request(permission, header, a);
@@ -97,5 +97,5 @@ pub fn decide<'a>(
     let Check::Pass = c else {
         return turned_away(caller, c);
     };
-    grant(clock, h, creds, aces, caller, body_of(rec), capacity)
+    decide_request(clock, h, creds, aces, caller, body_of(rec), capacity)
 }

@@ -11,16 +11,16 @@ use Rattle.rules.specs.Record.{headerOf, sender, body}
 use Rattle.rules.specs.Permission.{senderRow}
 use Rattle.rules.specs.Links.{asksLinks, ownRecord, permits, linkSet, linksOf}
 use Rattle.rules.specs.Checks.{verdict, isPass, badLength, noVerb, zeroBitSet, mismatch, unknownResource, noRow, noCredential}
-use Rattle.rules.specs.Groups.{formChecks}
+use Rattle.rules.specs.Contracts.Groups.{formChecks}
 use Rattle.rows.specs.Rows.{Row}
-use Rattle.rules.specs.Callers.{callerOf}
-use Rattle.rules.specs.Decision.{grantChecks}
+use Rattle.rules.specs.Contracts.Callers.{callerOf}
+use Rattle.rules.specs.Contracts.Decision.{laterChecks}
 use Rattle.rules.proofs.CallerLaws.{caller-row}
 use Rattle.rules.proofs.CheckLaws.{skip-at, skip-all}
 use Rattle.rules.proofs.Answers.{passed, long-enough}
 use Rattle.rules.proofs.LinkLaws.{own}
-use Rattle.decision.proofs.Laws.{check-granted}
-use Rattle.decision_links.specs.Linked.{linkHeader, linked, linkGranted, grantedSet, grantedLinks}
+use Rattle.decision.proofs.Laws.{check-later}
+use Rattle.decision_links.specs.Linked.{linkHeader, linked, linkPermitted, permittedSet, permittedLinks}
 use Rattle.decision_links.proofs.Halves.{link-known, set-same}
 use Rattle.rules.specs.Tables.{rows}
 use Rattle.rules.specs.declared.Table.the-variants.{Creds}
@@ -55,16 +55,16 @@ module _ (t : Tables) (r : List ℕ) (p : verdict (formChecks t r) ≡ Pass) whe
       let z = eqb-true (headerOf r .zeros) 0 (not-false _ (by 4)) in
       rw (o .verb-same, o .connection-same, o .resource-is, o .zeros, z, o .credential-same, o .sender-same)
 
-  grants-permits : (clock n : ℕ) → n < 64 → known n ≡ true → linkGranted clock t (callerOf (rows Creds t) r) n ≡ permits clock t (ownRecord r n)
-  unfolding linkGranted permits ownRecord be16
+  grants-permits : (clock n : ℕ) → n < 64 → known n ≡ true → linkPermitted clock t (callerOf (rows Creds t) r) n ≡ permits clock t (ownRecord r n)
+  unfolding linkPermitted permits ownRecord be16
   grants-permits clock n h k =
-      ap isPass (check-granted clock t (linked (callerOf (rows Creds t) r) n) [] 0
-      ∙ ap (λ (w : Row). verdict (grantChecks clock t w (linkHeader (headerOf r) n) [] 0)) (caller-row t r)
-      ∙ ap (λ (g : Header). verdict (grantChecks clock t (senderRow t (g .sender)) g [] 0)) (sym (own-header n h))
+      ap isPass (check-later clock t (linked (callerOf (rows Creds t) r) n) [] 0
+      ∙ ap (λ (w : Row). verdict (laterChecks clock t w (linkHeader (headerOf r) n) [] 0)) (caller-row t r)
+      ∙ ap (λ (g : Header). verdict (laterChecks clock t (senderRow t (g .sender)) g [] 0)) (sym (own-header n h))
       ∙ skip-all (formChecks t (ownRecord r n)) _ refl (own-passes n h k) refl)
 
-  pub links-are : (clock : ℕ) → grantedLinks clock t (callerOf (rows Creds t) r) ≡ linksOf clock t r
-  unfolding grantedSet linkSet
+  pub links-are : (clock : ℕ) → permittedLinks clock t (callerOf (rows Creds t) r) ≡ linksOf clock t r
+  unfolding permittedSet linkSet
   links-are clock =
       ap (λ (m : ℕ). let set = cond (asksLinks (headerOf r)) m 0 in record { set = set; size = ones set })
       (set-same _ _ (λ n low high. grants-permits clock n (omega arith) (link-known n low high)))

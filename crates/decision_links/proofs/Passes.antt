@@ -12,11 +12,11 @@ use Rattle.rules.specs.Permission.{connectionOf, effectiveOf, permissionOf}
 use Rattle.rules.specs.Action.{actionOf}
 use Rattle.rules.specs.Reading.{reads, replyTo, tooShort}
 use Rattle.rules.specs.Checks.{verdict, isPass}
-use Rattle.rules.specs.Callers.{callerRow}
+use Rattle.rules.specs.Contracts.Callers.{callerRow}
 use Rattle.rules.specs.Links.{setOf}
 use Rattle.permission_row.specs.ByLink.{byLink, ofLink}
-use Rattle.decision.proofs.Laws.{check-granted}
-use Rattle.decision_links.specs.Linked.{linkHeader, linked, linkPasses, linkGranted}
+use Rattle.decision.proofs.Laws.{check-later}
+use Rattle.decision_links.specs.Linked.{linkHeader, linked, linkPasses, linkPermitted}
 use Rattle.decision_links.proofs.Halves.{link-plain, set-same}
 
 module _ (clock : ℕ) (t : Tables) (k : Caller) where
@@ -32,14 +32,14 @@ module _ (clock : ℕ) (t : Tables) (k : Caller) where
     unfolding replyTo reads
     no-reply = rw (plain, and-false)
 
-    passes-granted : linkPasses (headOf t) (k .header) (allowed n) n ≡ linkGranted clock t k n
-    unfolding linkPasses linkGranted verdict tooShort
-    passes-granted = sym (ap isPass (check-granted clock t (linked k n) [] 0) ∙ rw (serves, no-reply))
+    passes-decided : linkPasses (headOf t) (k .header) (allowed n) n ≡ linkPermitted clock t k n
+    unfolding linkPasses linkPermitted verdict tooShort
+    passes-decided = sym (ap isPass (check-later clock t (linked k n) [] 0) ∙ rw (serves, no-reply))
 
   pub set-is : (w : Row) (connection : ℕ) (ps : List ℕ) → w ≡ callerRow t k → connection ≡ connectionOf (k .header .sender)
       → ps ≡ byLink (λ n. effectiveOf clock (headOf t) (rows Aces t) w connection (resourceOf n))
-      → setOf (λ n. linkPasses (headOf t) (k .header) (ofLink ps n) n) links ≡ setOf (linkGranted clock t k) links
+      → setOf (λ n. linkPasses (headOf t) (k .header) (ofLink ps n) n) links ≡ setOf (linkPermitted clock t k) links
   unfolding byLink setOf permissionOf
   set-is w connection ps ew ec ep =
       rw (ep, ew, ec)
-      (set-same (λ n. linkPasses (headOf t) (k .header) (allowed n) n) (linkGranted clock t k) (λ n low high. passes-granted n (link-plain n low high)))
+      (set-same (λ n. linkPasses (headOf t) (k .header) (allowed n) n) (linkPermitted clock t k) (λ n low high. passes-decided n (link-plain n low high)))

@@ -11,8 +11,8 @@ use Rattle.rules.specs.declared.Caller.{Caller}
 use Rattle.rules.specs.declared.Links.{Links}
 use Rattle.rules.specs.Directory.{resourceOf, links}
 use Rattle.rules.specs.Checks.{verdict, isPass}
-use Rattle.rules.specs.Groups.{requestChecks, stateChecks}
-use Rattle.rules.specs.Decision.{granted}
+use Rattle.rules.specs.Contracts.Groups.{requestChecks, stateChecks}
+use Rattle.rules.specs.Contracts.Decision.{decidedBy}
 use Rattle.rules.specs.Links.{setOf, asksLinks}
 use Rattle.rules.specs.Types.{Clock, Permission, ResourceNumber, ResourceSet}
 
@@ -36,11 +36,11 @@ unfoldable pub linkPasses : Head → Header → Permission → ResourceNumber �
 linkPasses head header p n = isPass (verdict (requestChecks p (linkHeader header n) Serve ++ stateChecks head Serve))
 
 -- the link n is permitted
-unfoldable pub linkGranted : Clock → Tables → Caller → ResourceNumber → Bool
-linkGranted clock t caller n = isPass (granted clock t (linked caller n) [] 0 .check)
+unfoldable pub linkPermitted : Clock → Tables → Caller → ResourceNumber → Bool
+linkPermitted clock t caller n = isPass (decidedBy clock t (linked caller n) [] 0 .check)
 
-unfoldable pub grantedSet : Clock → Tables → Caller → ResourceSet
-grantedSet clock t caller = cond (asksLinks (caller .header)) (setOf (linkGranted clock t caller) links) 0
+unfoldable pub permittedSet : Clock → Tables → Caller → ResourceSet
+permittedSet clock t caller = cond (asksLinks (caller .header)) (setOf (linkPermitted clock t caller) links) 0
 
-abbrev pub grantedLinks : Clock → Tables → Caller → Links
-grantedLinks clock t caller = record { set = grantedSet clock t caller; size = ones (grantedSet clock t caller) }
+abbrev pub permittedLinks : Clock → Tables → Caller → Links
+permittedLinks clock t caller = record { set = permittedSet clock t caller; size = ones (permittedSet clock t caller) }

@@ -22,9 +22,9 @@ ghost use mathlib.Core.Bool.{cond};
 ghost use Prim.Native.Nat.{_≤_};
 ghost use Rattle.rules.specs.Directory.{links};
 ghost use Rattle.rules.specs.Links.{setOf, asksLinks};
-ghost use Rattle.rules.specs.Words.{before};
+ghost use Rattle.rules.specs.Contracts.Words.{before};
 ghost use Rattle.permission_row.specs.ByLink.{ofLink};
-ghost use Rattle.decision_links.specs.Linked.{linkHeader, linkPasses, linkGranted, grantedLinks};
+ghost use Rattle.decision_links.specs.Linked.{linkHeader, linkPasses, linkPermitted, permittedLinks};
 
 // The header with another resource.
 fn link_header(header: Header, n: u16) -> Header
@@ -84,12 +84,12 @@ fn link_set<'a>(
     aces: &'a [u8; ACE_ROWS],
     caller: Caller,
 ) -> u64
-    ensures { λ r. ⌜ r ≡ setOf (linkGranted clock (before h creds aces) caller) links ⌝ }
+    ensures { λ r. ⌜ r ≡ setOf (linkPermitted clock (before h creds aces) caller) links ⌝ }
 {
     let header = caller.header;
-    let place = caller.row;
+    let found = caller.row;
     let who = header.sender;
-    let cred = row_of(h.ncreds, creds, place);
+    let cred = row_of(h.ncreds, creds, found);
     let permissions = effective_links(clock, h, aces, cred, connection_of(who));
     bits_sum(h, header, permissions)
 }
@@ -107,7 +107,7 @@ fn asks_links(h: Header) -> bool
     }
 }
 
-// What a permitted record with this caller is told of the links of /yard.
+// The links of /yard in the response to a permitted record of this caller.
 // Rules out: a link without an endpoint for the connection; a link out of its season; the links for OBSERVE.
 pub fn links_of<'a>(
     clock: u32,
@@ -116,7 +116,7 @@ pub fn links_of<'a>(
     aces: &'a [u8; ACE_ROWS],
     caller: Caller,
 ) -> Links
-    ensures { λ r. ⌜ r ≡ grantedLinks clock (before h creds aces) caller ⌝ }
+    ensures { λ r. ⌜ r ≡ permittedLinks clock (before h creds aces) caller ⌝ }
 {
     let header = caller.header;
     if !asks_links(header) {

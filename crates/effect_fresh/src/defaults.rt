@@ -14,6 +14,7 @@ use text::put;
 ghost use mathlib.Core.Path.{_≡_};
 ghost use Prim.Native.Nat.{_*_, _≤_};
 ghost use lib.ListN.{length, replicate};
+ghost use Rattle.rows.specs.Words.{was, became};
 ghost use Rattle.text.specs.Buffer.{written, Puts};
 ghost use Rattle.rows.specs.Rows.{joined, packed};
 ghost use Rattle.rules.specs.Tables.{tablesOf, longest, rowFrom, tableSize};
@@ -29,12 +30,12 @@ fn longest_of(table: Table) -> usize
     }
 }
 
-// What stands behind a body in a row: places without a role.
+// What follows a body in a row: slots without a role.
 const NO_ROLES: [u8; 16] = [0; 16];
 
 // Writes the row that a body of the longest form is.
 fn put_listed_row(table: Table, out: &mut [u8], at: usize, body: &[u8]) -> usize
-    ensures { λ r. ⌜ Puts (now (out .entry)) at (rowFrom table (now (body .entry))) (now (out .exit)) r ⌝ }
+    ensures { λ r. ⌜ Puts (was out) at (rowFrom table (was body)) (became out) r ⌝ }
 {
     let p = put(out, at, body);
     let more = stride_of(table) - longest_of(table);
@@ -43,7 +44,7 @@ fn put_listed_row(table: Table, out: &mut [u8], at: usize, body: &[u8]) -> usize
 
 // Writes the rows of a list, in the form of the tables.
 fn put_listed(table: Table, out: &mut [u8], list: &[u8]) -> usize
-    ensures { λ r. ⌜ Puts (now (out .entry)) 0 (joined (listed table (now (list .entry)))) (now (out .exit)) r ⌝ }
+    ensures { λ r. ⌜ Puts (was out) 0 (joined (listed table (was list))) (became out) r ⌝ }
 {
     let long = longest_of(table);
     let mut p = 0;
@@ -60,7 +61,7 @@ fn put_listed(table: Table, out: &mut [u8], list: &[u8]) -> usize
 // Whether the list, with these rows over a table of zeros, is one that counts.
 fn good_list(table: Table, list: &[u8], rows: &[u8]) -> bool
     requires { ⌜ now rows ≡ written (replicate (tableSize table) 0) 0 (joined (listed table (now list))) ⌝ }
-    ensures { λ r. ⌜ r ≡ goodList table (now (list .entry)) ⌝ }
+    ensures { λ r. ⌜ r ≡ goodList table (was list) ⌝ }
 {
     let long = longest_of(table);
     let n = list.len() / long;
@@ -75,8 +76,8 @@ fn good_list(table: Table, list: &[u8], rows: &[u8]) -> bool
 // Puts the default rows of a list into an empty table, and says how many they are.
 fn put_defaults(table: Table, out: &mut [u8], list: &[u8]) -> usize
     requires { ⌜ now out ≡ replicate (tableSize table) 0 ⌝ }
-    ensures { λ r. ⌜ (r ≡ length (defaultRows table (now (list .entry)))) × (r ≤ 2) ⌝ }
-    ensures { λ _. ⌜ now (out .exit) ≡ packed (tableSize table) (defaultRows table (now (list .entry))) ⌝ }
+    ensures { λ r. ⌜ (r ≡ length (defaultRows table (was list))) × (r ≤ 2) ⌝ }
+    ensures { λ _. ⌜ became out ≡ packed (tableSize table) (defaultRows table (was list)) ⌝ }
 {
     put_listed(table, out, list);
     if good_list(table, list, out) {
@@ -94,7 +95,7 @@ pub fn fresh_in(
     default_creds: &[u8],
     default_aces: &[u8],
 ) -> Head
-    ensures { λ r. ⌜ tablesOf r (now (creds .exit)) (now (aces .exit)) ≡ fresh (defaults (now («default_creds» .entry)) (now («default_aces» .entry))) ⌝ }
+    ensures { λ r. ⌜ tablesOf r (became creds) (became aces) ≡ fresh (defaults (was «default_creds») (was «default_aces»)) ⌝ }
 {
     let empty = Tables::empty();
     let no_creds = empty.creds;
@@ -112,7 +113,7 @@ pub fn fresh_in(
 // The tables of a new terminal of a build with these lists of default rows.
 // Rules out: the rows of one list in the other's table.
 pub fn fresh(creds: &[u8], aces: &[u8]) -> Tables
-    ensures { λ r. ⌜ r ≡ fresh (defaults (now (creds .entry)) (now (aces .entry))) ⌝ }
+    ensures { λ r. ⌜ r ≡ fresh (defaults (was creds) (was aces)) ⌝ }
 {
     let mut cred_rows = [0; CRED_ROWS];
     let mut ace_rows = [0; ACE_ROWS];

@@ -20,15 +20,16 @@ use Rattle.rules.specs.StoreRange.{storeRangeOf}
 use Rattle.rules.specs.Links.{linksOf}
 use Rattle.rules.specs.Reading.{contents, reads, replyTo, replyOf, tooShort, filled}
 use Rattle.rules.specs.Checks.{verdict, checks}
-use Rattle.rules.specs.Groups.{senderChecks, formChecks, requestChecks, stateChecks, rowChecks, actionChecks, capacityChecks}
-use Rattle.rules.specs.Callers.{callerOf, callerRow}
-use Rattle.rules.specs.Decision.{grantChecks, decisionChecks, decisionBy, decided}
-use Rattle.rules.specs.Outcome.{Outcome, outcomeOf, outcomeAt, outcome, responseTo, judgementOf, effectBy}
+use Rattle.rules.specs.Contracts.Groups.{senderChecks, formChecks, requestChecks, stateChecks, rowChecks, actionChecks, capacityChecks}
+use Rattle.rules.specs.Contracts.Callers.{callerOf, callerRow}
+use Rattle.rules.specs.Contracts.Decision.{laterChecks, decisionChecks, decisionBy, decided}
+use Rattle.rules.specs.Outcome.{Outcome, outcomeOf, outcomeAt, outcome, responseTo, effectBy}
+use Rattle.rules.specs.Contracts.Results.{resultOf}
 use Rattle.rules.proofs.CheckLaws.{skip-at, rest-passes}
 use Rattle.rules.proofs.Answers.{passed}
 use Rattle.rules.proofs.CallerLaws.{caller-row}
 use Rattle.decision.proofs.Laws.{check-decided}
-use Rattle.decision_links.specs.Linked.{grantedLinks}
+use Rattle.decision_links.specs.Linked.{permittedLinks}
 use Rattle.decision_links.proofs.OwnForm.{links-are}
 use Rattle.rules.specs.declared.Table.the-variants.{Creds}
 use Rattle.execute.specs.Executed.{payloadBy}
@@ -47,12 +48,12 @@ module _ (t : Tables) (q : Request) (g : Decision) (is : g ≡ decided t q) (pas
   all-pass : verdict (decisionChecks t q) ≡ Pass
   all-pass = sym (ap (λ (x : Decision). x .check) is ∙ check-decided t q) ∙ pass
 
-  granted-is : g ≡ decisionBy (callerOf (rows Creds t) (q .bytes)) (permission (q .clock) t (q .bytes)) (action (q .bytes)) (length (replyOf (q .clock) t (q .bytes))) Pass
+  decided-is : g ≡ decisionBy (callerOf (rows Creds t) (q .bytes)) (permission (q .clock) t (q .bytes)) (action (q .bytes)) (length (replyOf (q .clock) t (q .bytes))) Pass
   unfolding decided
-  granted-is = is ∙ ap (decisionBy _ _ _ _) all-pass
+  decided-is = is ∙ ap (decisionBy _ _ _ _) all-pass
 
   pub caller-is : g .caller ≡ callerOf (rows Creds t) (q .bytes)
-  caller-is = ap (λ (x : Decision). x .caller) granted-is
+  caller-is = ap (λ (x : Decision). x .caller) decided-is
 
   pub row-is : callerRow t (g .caller) ≡ senderRow t (sender (q .bytes))
   row-is = ap (callerRow t) caller-is ∙ caller-row t (q .bytes)
@@ -65,7 +66,7 @@ module _ (t : Tables) (q : Request) (g : Decision) (is : g ≡ decided t q) (pas
   payload-as = ap₂ (λ (c : Check) (k : Caller). payloadBy c (k .header) (q .bytes)) pass caller-is
 
   pub action-is : g .action ≡ action (q .bytes)
-  action-is = ap (λ (x : Decision). x .action) granted-is
+  action-is = ap (λ (x : Decision). x .action) decided-is
 
   -- a record for an application resource is served, and has no reply
   module _ (e : g .caller .header .resource .configuration ≡ false) where
@@ -84,16 +85,16 @@ module _ (t : Tables) (q : Request) (g : Decision) (is : g ≡ decided t q) (pas
         ∙ rw and-false
 
   pub length-is : g .reply ≡ length (replyOf (q .clock) t (q .bytes))
-  length-is = ap (λ (x : Decision). x .reply) granted-is
+  length-is = ap (λ (x : Decision). x .reply) decided-is
 
   abbrev own : Row
   own = senderRow t (sender (q .bytes))
 
   abbrev behind : List (ℕ × Bool)
-  behind = grantChecks (q .clock) t own (headerOf (q .bytes)) (body (q .bytes)) (q .capacity)
+  behind = laterChecks (q .clock) t own (headerOf (q .bytes)) (body (q .bytes)) (q .capacity)
 
-  grant-passes : verdict behind ≡ Pass
-  grant-passes = rest-passes (senderChecks (rows Creds t) (q .bytes)) behind all-pass
+  request-passes : verdict behind ≡ Pass
+  request-passes = rest-passes (senderChecks (rows Creds t) (q .bytes)) behind all-pass
 
   abbrev first-checks : List (ℕ × Bool)
   first-checks =
@@ -107,12 +108,12 @@ module _ (t : Tables) (q : Request) (g : Decision) (is : g ≡ decided t q) (pas
   rows-pass =
       rw action-is
       (rest-passes (requestChecks (permission (q .clock) t (q .bytes)) (headerOf (q .bytes)) (action (q .bytes)))
-      _ (front-passes first-checks capacity-checks grant-passes))
+      _ (front-passes first-checks capacity-checks request-passes))
 
   -- the reply fits
   pub reply-fits : length (replyOf (q .clock) t (q .bytes)) ≤ q .capacity
   unfolding tooShort
-  reply-fits = ltb-false _ _ (passed capacity-checks (rest-passes first-checks capacity-checks grant-passes) 15)
+  reply-fits = ltb-false _ _ (passed capacity-checks (rest-passes first-checks capacity-checks request-passes) 15)
 
   module _ (h : sound t ≡ true) where
     pub form-passes : verdict (formChecks t (q .bytes)) ≡ Pass
@@ -121,15 +122,15 @@ module _ (t : Tables) (q : Request) (g : Decision) (is : g ≡ decided t q) (pas
     whole : Pass ≡ verdict (checks t (permission (q .clock) t (q .bytes)) q)
     whole = skip-at 1 (not (sound t)) (decisionChecks t q) (ap not h) (sym all-pass)
 
-    pub links-as : grantedLinks (q .clock) t (g .caller) ≡ linksOf (q .clock) t (q .bytes)
-    links-as = ap (grantedLinks (q .clock) t) caller-is ∙ links-are t (q .bytes) form-passes (q .clock)
+    pub links-as : permittedLinks (q .clock) t (g .caller) ≡ linksOf (q .clock) t (q .bytes)
+    links-as = ap (permittedLinks (q .clock) t) caller-is ∙ links-are t (q .bytes) form-passes (q .clock)
 
     -- what is said, with the tables afterwards, and the buffer
     pub says : (d : Defaults) (n : ℕ) (p : StoreRange) (k : Links) (next : Tables) → n ≡ length (payloadOf (q .bytes)) → p ≡ storeRangeOf t (body (q .bytes)) (g .action) → k ≡ linksOf (q .clock) t (q .bytes)
         → next ≡ effectBy d t q (g .action)
-        → record { answer = 0; permission = g .permission; payload = n; reply = g .reply; places = p; links = k; tables = next } ≡ judgementOf (outcome d t q)
+        → record { answer = 0; permission = g .permission; payload = n; reply = g .reply; store = p; links = k; tables = next } ≡ resultOf (outcome d t q)
     unfolding outcome outcomeAt
-    says d n p k next o e f i = rw (← whole, o, e, f, i, granted-is)
+    says d n p k next o e f i = rw (← whole, o, e, f, i, decided-is)
 
     pub passes : (d : Defaults) → outcomeOf d t (permission (q .clock) t (q .bytes)) q Pass ≡ outcome d t q
     unfolding outcome outcomeAt

@@ -10,12 +10,12 @@ use Rattle.rules.specs.Record.{Request}
 use Rattle.rules.specs.Tables.{sound}
 use Rattle.rules.specs.Defaults.{Defaults}
 use Rattle.rules.specs.Action.{action}
-use Rattle.rules.specs.Decision.{decided}
+use Rattle.rules.specs.Contracts.Decision.{decided}
 use Rattle.rules.specs.Outcome.{Outcome, tablesAfter, effectBy}
-use Rattle.rules_waiting.specs.Slots.{Round, queueOf, emptyQueue}
-use Rattle.rules_waiting.specs.Round.{seats, sameSeats, orphaned, heldRound, sameCount}
-use Rattle.rules_waiting.specs.Terminal.{isReset, clears, queueAfter}
-use Rattle.rules_waiting.proofs.RowsMoved.{count-tells}
+use Rattle.rules_terminal.specs.Slots.{Round, queueOf, emptyQueue}
+use Rattle.rules_terminal.specs.Round.{seats, sameSeats, orphaned, validRound, sameCount}
+use Rattle.rules_terminal.specs.Terminal.{isReset, clears, queueAfter}
+use Rattle.rules_terminal.proofs.RowsMoved.{count-tells}
 use Rattle.execute.proofs.Laws.{action-is, passes}
 
 module _ (t : Tables) (q : Request) (g : Decision) (is : g ≡ decided t q) (pass : g .check ≡ Pass) (h : sound t ≡ true) where
@@ -50,6 +50,6 @@ module _ (t : Tables) (q : Request) (g : Decision) (is : g ≡ decided t q) (pas
       same-queue n = sym (rw (stays, tells ∙ eq-eqb (t .ncreds) (u .ncreds) (sym n)))
 
       pub moved-queue : (u .ncreds ≡ t .ncreds → ⊥)
-          → queueOf (heldRound (seats u) (heldRound (seats t) k)) (without (orphaned (seats u)) ws) ≡ queueAfter d t q k ws
+          → queueOf (validRound (seats u) (validRound (seats t) k)) (without (orphaned (seats u)) ws) ≡ queueAfter d t q k ws
       unfolding queueAfter
       moved-queue n = sym (rw (stays, tells ∙ ne-eqb (t .ncreds) (u .ncreds) (λ f. n (sym f)), ← after))

@@ -1,10 +1,10 @@
-// What becomes of a decided record beside sound tables and a queue: the response, the tables in place, and what waits.
+// What becomes of a decided record with sound tables and a queue: the response, the tables changed in place, and the queue.
 // Check 1 and the decision are the caller's. Only here is put together what the sender gets.
 use decision_links::links_of;
 use effect::apply;
 use fields::record::body_of;
 use reply::put_reply;
-use row_lookup::places_of;
+use row_lookup::store_range_of;
 use rules::ACE_ROWS;
 use rules::Action;
 use rules::CRED_ROWS;
@@ -13,7 +13,7 @@ use rules::Decision;
 use rules::Head;
 use rules::Judgement;
 use rules::StoreRange;
-use rules_waiting::QUEUE;
+use rules_terminal::QUEUE;
 ghost use mathlib.Core.Path.{_≡_};
 ghost use mathlib.Core.Bool.{true};
 ghost use lib.ListN.{length};
@@ -21,12 +21,10 @@ ghost use Rattle.rules.specs.declared.Check.the-variants.{Pass};
 ghost use Rattle.rules.specs.Record.{received};
 ghost use Rattle.rules.specs.Tables.{sound};
 ghost use Rattle.rules.specs.Defaults.{defaults};
-ghost use Rattle.rules.specs.Decision.{decided};
-ghost use Rattle.execute.specs.Executed.{payloadBy, Executes};
-ghost use Rattle.rules.specs.Words.{was, became, given, before};
-ghost use Rattle.rules_waiting.specs.Slots.{roundOf, waiting, queueOf};
-ghost use Rattle.rules_waiting.specs.Terminal.{isReset, queueAfter};
-ghost use Rattle.queue.specs.Queue.{IsQueue};
+ghost use Rattle.rules.specs.Contracts.Decision.{decided};
+ghost use Rattle.execute.specs.Executed.{Decided, IsWholeQueue, LeavesQueue, payloadBy, Executes};
+ghost use Rattle.rules.specs.Contracts.Words.{was, became, given, before};
+ghost use Rattle.rules_terminal.specs.Terminal.{isReset};
 
 // The payload of a record that was decided so: for an application resource the caller's own bytes from the fifth to the last, as a part
 // of the record. It is the empty part for a security resource, and if the record is refused.
@@ -60,10 +58,7 @@ pub fn execute(
     rec: &[u8],
     reply: &mut [u8],
 ) -> Judgement
-    requires { ⌜
-        (sound (given h creds aces) ≡ true)
-        × (d ≡ decided (given h creds aces) (received clock (now rec) (length (now reply))))
-        × (d .check ≡ Pass) ⌝ }
+    requires { ⌜ Decided (given h creds aces) (received clock (now rec) (length (now reply))) d ⌝ }
     ensures { λ r. ⌜
         Executes (defaults (was «default_creds») (was «default_aces»))
         (before h creds aces)
@@ -74,7 +69,7 @@ pub fn execute(
     put_reply(reply, clock, h, creds, aces, caller);
     let b = body_of(rec);
     let a = d.action;
-    let places = places_of(h, creds, aces, a, b);
+    let range = store_range_of(h, creds, aces, a, b);
     let links = links_of(clock, h, creds, aces, caller);
     let passed_on = payload(d, rec);
     let next = apply(clock, h, creds, aces, d, rec, default_creds, default_aces);
@@ -83,7 +78,7 @@ pub fn execute(
         permission: d.permission,
         payload: passed_on.len(),
         reply: d.reply,
-        places: places,
+        store: range,
         links: links,
         head: next,
     }
@@ -112,24 +107,20 @@ fn execute_changing(
     rec: &[u8],
     reply: &mut [u8],
 ) -> Judgement
-    requires { ⌜
-        (sound (given h creds aces) ≡ true)
-        × (d ≡ decided (given h creds aces) (received clock (now rec) (length (now reply))))
-        × (d .check ≡ Pass) ⌝ }
-    requires { ⌜ (IsQueue (now queue)) × (now queue ≡ queueOf (roundOf (now queue)) (waiting (now queue))) ⌝ }
+    requires { ⌜ Decided (given h creds aces) (received clock (now rec) (length (now reply))) d ⌝ }
+    requires { ⌜ IsWholeQueue (now queue) ⌝ }
     ensures { λ r. ⌜
         Executes (defaults (was «default_creds») (was «default_aces»))
         (before h creds aces)
         (received clock (was rec) (length (was reply)))
         (was reply) r (became creds) (became aces) (became reply) ⌝ }
     ensures { λ _. ⌜
-        became queue
-        ≡ queueAfter (defaults (was «default_creds») (was «default_aces»))
+        LeavesQueue (defaults (was «default_creds») (was «default_aces»))
         (before h creds aces)
         (received clock (was rec) (length (was reply)))
-        (roundOf (was queue)) (waiting (was queue)) ⌝ }
+        (was queue) (became queue) ⌝ }
 {
-    let was_held = queue::round_held(h.ncreds, creds, queue);
+    let was_valid = queue::round_valid(h.ncreds, creds, queue);
     let a = d.action;
     let j = execute(
         h,
@@ -150,7 +141,7 @@ fn execute_changing(
     if next.ncreds == h.ncreds {
         return j;
     }
-    queue::settle(was_held, next.ncreds, creds, queue);
+    queue::settle(was_valid, next.ncreds, creds, queue);
     j
 }
 
@@ -168,22 +159,18 @@ pub fn execute_queued(
     rec: &[u8],
     reply: &mut [u8],
 ) -> Judgement
-    requires { ⌜
-        (sound (given h creds aces) ≡ true)
-        × (d ≡ decided (given h creds aces) (received clock (now rec) (length (now reply))))
-        × (d .check ≡ Pass) ⌝ }
-    requires { ⌜ (IsQueue (now queue)) × (now queue ≡ queueOf (roundOf (now queue)) (waiting (now queue))) ⌝ }
+    requires { ⌜ Decided (given h creds aces) (received clock (now rec) (length (now reply))) d ⌝ }
+    requires { ⌜ IsWholeQueue (now queue) ⌝ }
     ensures { λ r. ⌜
         Executes (defaults (was «default_creds») (was «default_aces»))
         (before h creds aces)
         (received clock (was rec) (length (was reply)))
         (was reply) r (became creds) (became aces) (became reply) ⌝ }
     ensures { λ _. ⌜
-        became queue
-        ≡ queueAfter (defaults (was «default_creds») (was «default_aces»))
+        LeavesQueue (defaults (was «default_creds») (was «default_aces»))
         (before h creds aces)
         (received clock (was rec) (length (was reply)))
-        (roundOf (was queue)) (waiting (was queue)) ⌝ }
+        (was queue) (became queue) ⌝ }
 {
     let caller = d.caller;
     let header = caller.header;
@@ -209,7 +196,7 @@ pub fn execute_queued(
         permission: d.permission,
         payload: passed_on.len(),
         reply: d.reply,
-        places: StoreRange::none(),
+        store: StoreRange::none(),
         links: links,
         head: h,
     }

@@ -3,11 +3,12 @@
 ghost use mathlib.Core.Path.{_≡_};
 ghost use Prim.Native.Nat.{_*_, _^_, _≤_, _<_};
 ghost use lib.ListN.{getD};
+ghost use Rattle.rows.specs.Words.{was};
 ghost use Rattle.rules.specs.Bits.{bit, bits};
 
 // The byte at an index, or 0.
 pub fn byte_at(s: &[u8], i: usize) -> u8
-    ensures { λ b. ⌜ b ≡ getD (now (s .entry)) i 0 ⌝ }
+    ensures { λ b. ⌜ b ≡ getD (was s) i 0 ⌝ }
 {
     if i < s.len() { s[i] } else { 0 }
 }
@@ -15,7 +16,7 @@ pub fn byte_at(s: &[u8], i: usize) -> u8
 // The number of the three bytes at an index.
 fn three_at(s: &[u8], i: usize) -> u32
     requires { ⌜ i < 4096 ⌝ }
-    ensures { λ n. ⌜ n ≡ bits (now (s .entry)) (8 * i) 24 ⌝ }
+    ensures { λ n. ⌜ n ≡ bits (was s) (8 * i) 24 ⌝ }
 {
     let a = byte_at(s, i);
     let b = byte_at(s, i + 1);
@@ -34,7 +35,7 @@ fn power(width: usize) -> u32
 // The field of `width` bits that starts at bit `start`.
 pub fn field(s: &[u8], start: usize, width: usize) -> u16
     requires { ⌜ (start < 4096) × (width ≤ 16) ⌝ }
-    ensures { λ n. ⌜ n ≡ bits (now (s .entry)) start width ⌝ }
+    ensures { λ n. ⌜ n ≡ bits (was s) start width ⌝ }
 {
     let three = three_at(s, start / 8);
     let down = 24 - (start % 8 + width);
@@ -45,7 +46,7 @@ pub fn field(s: &[u8], start: usize, width: usize) -> u16
 // The field of 32 bits that starts at bit `start`: two of 16.
 pub fn double_field(s: &[u8], start: usize) -> u32
     requires { ⌜ start < 4080 ⌝ }
-    ensures { λ n. ⌜ n ≡ bits (now (s .entry)) start 32 ⌝ }
+    ensures { λ n. ⌜ n ≡ bits (was s) start 32 ⌝ }
 {
     let high = field(s, start, 16);
     let low = field(s, start + 16, 16);
@@ -54,7 +55,7 @@ pub fn double_field(s: &[u8], start: usize) -> u32
 
 // Bit i, counted from the most significant bit of the first byte.
 pub fn bit_at(s: &[u8], i: usize) -> u8
-    ensures { λ b. ⌜ b ≡ bit (now (s .entry)) i ⌝ }
+    ensures { λ b. ⌜ b ≡ bit (was s) i ⌝ }
 {
     let down = 7 - i % 8;
     (byte_at(s, i / 8) >> down) % 2

@@ -5,8 +5,8 @@ use types.Run.{OneOf, miss}
 use denote.Enum.Declared.{tagOf}
 use Rattle.rows.specs.Rows.{rowsOf}
 use Rattle.rows.specs.declared.Found.the-variants.{At, Nothing}
-use Rattle.rows.specs.Contracts.{placeOf}
-use Rattle.rows.proofs.Laws.{take-rest, rowsOf-suc, isAt, some-place, place-before}
+use Rattle.rows.specs.Contracts.{indexOf}
+use Rattle.rows.proofs.Laws.{take-rest, rowsOf-suc, isAt, some-index, index-before}
 use Rattle.rules.specs.declared.Tables.{Tables}
 use Rattle.rules.specs.declared.Table.the-variants.{Aces}
 use Rattle.rules.specs.declared.Sender.{Sender}
@@ -16,7 +16,7 @@ use Rattle.rules.specs.Isolation.{namesOwner, mayAlter}
 use Rattle.rules_isolation.specs.declared.Isolation.{Isolation}
 use Rattle.rules_isolation.specs.declared.Isolation.the-variants.{Isolated, NamesOwner, MayAlter}
 use Rattle.rules_isolation.proofs.Isolation.{the-type}
-use Rattle.rules_isolation.specs.Question.{entries, senderOf, letsAlter, alteringPlace, entryAnswer, entriesAnswer}
+use Rattle.rules_isolation.specs.Question.{entries, senderOf, letsAlter, alteringNumber, entryAnswer, entriesAnswer}
 
 -- ---- an entry
 
@@ -30,16 +30,16 @@ module _ (t : Tables) (i : ℕ) (s : Sender) where
   names-answer e = rw e
 
   module _ (e : namesOwner t s ≡ false) where
-    pub none-answer : placeOf (letsAlter (senderRow t s) (connectionOf s)) (rows Aces t) ≡ Nothing → Isolated ≡ entryAnswer t i s Isolated
+    pub none-answer : indexOf (letsAlter (senderRow t s) (connectionOf s)) (rows Aces t) ≡ Nothing → Isolated ≡ entryAnswer t i s Isolated
     unfolding entryAnswer mayAlter
     none-answer p =
-        let none : mayAlter t s ≡ false = some-place 0 (letsAlter (senderRow t s) (connectionOf s)) (rows Aces t) ∙ ap isAt p in rw (e, none)
+        let none : mayAlter t s ≡ false = some-index 0 (letsAlter (senderRow t s) (connectionOf s)) (rows Aces t) ∙ ap isAt p in rw (e, none)
 
-    pub alters-answer : (j : ℕ) → placeOf (letsAlter (senderRow t s) (connectionOf s)) (rows Aces t) ≡ At j → MayAlter i (j + 1) ≡ entryAnswer t i s Isolated
-    unfolding entryAnswer mayAlter alteringPlace
+    pub alters-answer : (j : ℕ) → indexOf (letsAlter (senderRow t s) (connectionOf s)) (rows Aces t) ≡ At j → MayAlter i (j + 1) ≡ entryAnswer t i s Isolated
+    unfolding entryAnswer mayAlter alteringNumber
     alters-answer j p =
-        let one : mayAlter t s ≡ true = some-place 0 (letsAlter (senderRow t s) (connectionOf s)) (rows Aces t) ∙ ap isAt p in
-        let at : j + 1 ≡ alteringPlace t s = omega (arith, place-before (letsAlter (senderRow t s) (connectionOf s)) 0 j (rows Aces t) p) in
+        let one : mayAlter t s ≡ true = some-index 0 (letsAlter (senderRow t s) (connectionOf s)) (rows Aces t) ∙ ap isAt p in
+        let at : j + 1 ≡ alteringNumber t s = omega (arith, index-before (letsAlter (senderRow t s) (connectionOf s)) 0 j (rows Aces t) p) in
         rw (e, one, at)
 
   -- a reason is the answer, whatever follows
@@ -57,7 +57,7 @@ module _ (t : Tables) (i : ℕ) (s : Sender) where
       bool-cases (namesOwner t s)
       (λ f. let no : NamesOwner i ≡ Isolated = rw f at e in let z : _≡_ {A = ℕ} 0 1 = cc in absurd (omega arith))
       (λ f. bool-cases (mayAlter t s)
-      (λ g. let no : MayAlter i (alteringPlace t s) ≡ Isolated = rw (f, g) at e in let z : _≡_ {A = ℕ} 0 1 = cc in absurd (omega arith))
+      (λ g. let no : MayAlter i (alteringNumber t s) ≡ Isolated = rw (f, g) at e in let z : _≡_ {A = ℕ} 0 1 = cc in absurd (omega arith))
       (λ g. rw (f, g)))
 
 -- ---- the entries

@@ -1,13 +1,13 @@
 // Whether the senders of a list are isolated from all others: the premise of demand 3 as a question to the tables.
 // The first reason why not is returned at once. Total: any bytes are tables, and any bytes a list.
 use caller::connection_of;
-use caller::place_for;
+use caller::index_for;
 use caller::row_of;
 use check_tables::tables_sound;
 use fields::ace;
 use fields::be16;
+use fields::capped;
 use fields::cred;
-use fields::held;
 use permission::is_owner;
 use permission_row::row_alters;
 use rows::Found;
@@ -24,11 +24,11 @@ ghost use mathlib.Core.Path.{_≡_};
 ghost use Prim.Native.Nat.{_*_, _≤_, _<_};
 ghost use lib.ListN.{length};
 ghost use Rattle.rows.specs.Rows.{rowsOf};
-ghost use Rattle.rows.specs.Contracts.{placeOf};
+ghost use Rattle.rows.specs.Contracts.{indexOf};
 ghost use Rattle.rules.specs.Directory.{someSecurity};
 ghost use Rattle.rules.specs.Permission.{isOwner};
 ghost use Rattle.rules.specs.Isolation.{mayFit};
-ghost use Rattle.rules.specs.Words.{was, before};
+ghost use Rattle.rules.specs.Contracts.Words.{was, before};
 ghost use Rattle.rules_isolation.specs.declared.Isolation.the-variants.{Isolated};
 ghost use Rattle.rules_isolation.specs.Question.{entries, senderOf, letsAlter, entryAnswer, entriesAnswer, isolationOf};
 ghost use Rattle.rules.specs.Sizes.{aceRowSize};
@@ -55,10 +55,10 @@ fn lets_alter(cred: &[u8], connection: u16, ace: &[u8]) -> bool
     may_fit(cred, connection, ace) & row_alters(ace)
 }
 
-// The place of the first row that may let the sender alter a security resource, from 0.
+// The index of the first row that may let the sender alter a security resource.
 fn altering_row(aces: &[u8], count: usize, cred: &[u8], connection: u16) -> Found
     requires { ⌜ count * aceRowSize ≤ length (now aces) ⌝ }
-    ensures { λ r. ⌜ r ≡ placeOf (letsAlter (was cred) connection) (rowsOf aceRowSize count (was aces)) ⌝ }
+    ensures { λ r. ⌜ r ≡ indexOf (letsAlter (was cred) connection) (rowsOf aceRowSize count (was aces)) ⌝ }
 {
     let mut i = 0;
     while i < count {
@@ -105,11 +105,11 @@ fn entry_answer<'a>(
 ) -> Isolation
     ensures { λ r. ⌜ r ≡ entryAnswer (before h creds aces) i who Isolated ⌝ }
 {
-    let cred = row_of(h.ncreds, creds, place_for(h.ncreds, creds, who));
+    let cred = row_of(h.ncreds, creds, index_for(h.ncreds, creds, who));
     if names_owner(h, cred) {
         return Isolation::NamesOwner(i);
     }
-    let count = held(h.naces, ACES);
+    let count = capped(h.naces, ACES);
     let connection = connection_of(who);
     let Found::At(j) = altering_row(aces, count, cred, connection) else {
         return Isolation::Isolated;

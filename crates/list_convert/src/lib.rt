@@ -9,6 +9,7 @@ use rules::ACES;
 ghost use mathlib.Core.Path.{_≡_};
 ghost use Prim.Native.Nat.{_≤_};
 ghost use lib.ListN.{length};
+ghost use Rattle.rows.specs.Words.{was, became};
 ghost use Rattle.text.specs.Buffer.{Puts};
 ghost use Rattle.rows.specs.Rows.{some, joined};
 ghost use Rattle.rules.specs.Reading.{filled};
@@ -19,7 +20,7 @@ ghost use Rattle.rules_legacy.specs.Conversion.{rowsMade, conversionVerdict, co
 // Access rows that a list holds at most.
 const MOST_ROWS: usize = ACES as usize;
 
-// What the caller is told: 0, 23, 24 or 25, and how many bytes were written.
+// The result: 0, 23, 24 or 25, and how many bytes were written.
 #[repr(C)]
 pub struct Converted {
     pub answer: u8,
@@ -28,7 +29,7 @@ pub struct Converted {
 
 // Whether some row is bad.
 fn has_bad_row(file: &[u8]) -> bool
-    ensures { λ r. ⌜ r ≡ some badRow (oldRows (now (file .entry))) ⌝ }
+    ensures { λ r. ⌜ r ≡ some badRow (oldRows (was file)) ⌝ }
 {
     let mut rest = file;
     let mut left = file.len() / OLD_ROW;
@@ -43,14 +44,14 @@ fn has_bad_row(file: &[u8]) -> bool
 }
 
 fn is_bad_file(file: &[u8]) -> bool
-    ensures { λ r. ⌜ r ≡ badFile (now (file .entry)) ⌝ }
+    ensures { λ r. ⌜ r ≡ badFile (was file) ⌝ }
 {
     (file.len() % OLD_ROW != 0) | has_bad_row(file)
 }
 
 // How many rows are made.
 fn count_made(file: &[u8]) -> usize
-    ensures { λ r. ⌜ r ≡ length (rowsMade (now (file .entry))) ⌝ }
+    ensures { λ r. ⌜ r ≡ length (rowsMade (was file)) ⌝ }
 {
     let mut total = 0usize;
     let mut rest = file;
@@ -66,7 +67,7 @@ fn count_made(file: &[u8]) -> usize
 // The rows made, in a buffer that holds them.
 fn put_all(out: &mut [u8], file: &[u8]) -> usize
     requires { ⌜ (length (rowsMade (now file)) ≤ 32) × (length (joined (rowsMade (now file))) ≤ length (now out)) ⌝ }
-    ensures { λ r. ⌜ Puts (now (out .entry)) 0 (joined (rowsMade (now (file .entry)))) (now (out .exit)) r ⌝ }
+    ensures { λ r. ⌜ Puts (was out) 0 (joined (rowsMade (was file))) (became out) r ⌝ }
 {
     let mut p = 0;
     let mut number = 1u16;
@@ -85,9 +86,9 @@ fn put_all(out: &mut [u8], file: &[u8]) -> usize
 // A file of old rows as access rows: the answer, the length of the rows, and the lent buffer afterwards.
 // Rules out: a byte written on a refusal; 24 for 32 rows, or before 23; 25 where the rows just fit; anon-clear before auth-crypt.
 pub fn convert(file: &[u8], rows: &mut [u8]) -> Converted
-    ensures answer { λ r. ⌜ r .answer ≡ numberOf (conversionVerdict (now (file .entry)) (length (now (rows .entry)))) ⌝ }
-    ensures length { λ r. ⌜ r .length ≡ length (conversionReply (now (file .entry)) (length (now (rows .entry)))) ⌝ }
-    ensures buffer { λ _. ⌜ now (rows .exit) ≡ filled (now (rows .entry)) (conversionReply (now (file .entry)) (length (now (rows .entry)))) ⌝ }
+    ensures answer { λ r. ⌜ r .answer ≡ numberOf (conversionVerdict (was file) (length (was rows))) ⌝ }
+    ensures length { λ r. ⌜ r .length ≡ length (conversionReply (was file) (length (was rows))) ⌝ }
+    ensures buffer { λ _. ⌜ became rows ≡ filled (was rows) (conversionReply (was file) (length (was rows))) ⌝ }
 {
     let bad = is_bad_file(file);
     let made = count_made(file);

@@ -1,7 +1,7 @@
 // One old row: whether it is bad, how many access rows it becomes, and their bytes.
 // The tests are total: a byte past the row's end is 0. Rows are put into a buffer that holds them, from an old row of 25 bytes.
 use fields::ace;
-use fields::after;
+use fields::skip;
 use row_format::is_nil;
 use rows::part;
 use rules::ACE_ROW;
@@ -10,6 +10,7 @@ ghost use mathlib.Core.Path.{_≡_};
 ghost use mathlib.Core.List.{_++_};
 ghost use Prim.Native.Nat.{_+_, _≤_, _<_};
 ghost use lib.ListN.{length, getD};
+ghost use Rattle.rows.specs.Words.{was, became};
 ghost use Rattle.text.specs.Buffer.{Puts};
 ghost use Rattle.rows.specs.Rows.{joined};
 ghost use Rattle.rules.specs.Bits.{be16};
@@ -37,7 +38,7 @@ const EVERY_SECOND: [u8; 8] = [0, 0, 0, 0, 255, 255, 255, 255];
 
 // The byte of the permission and the three zero bits.
 fn flags(row: &[u8]) -> u8
-    ensures { λ r. ⌜ r ≡ getD (now (row .entry)) 16 0 ⌝ }
+    ensures { λ r. ⌜ r ≡ getD (was row) 16 0 ⌝ }
 {
     if FLAGS_AT < row.len() {
         row[FLAGS_AT]
@@ -49,14 +50,14 @@ fn flags(row: &[u8]) -> u8
 // Whether a zero bit is set or an unknown resource is in the set, which stands 13 bytes later than in an access row.
 // Rules out: the last zero bit ignored; a set in which only the last resource is tested.
 pub fn is_bad(row: &[u8]) -> bool
-    ensures { λ r. ⌜ r ≡ badRow (now (row .entry)) ⌝ }
+    ensures { λ r. ⌜ r ≡ badRow (was row) ⌝ }
 {
-    (flags(row) % 8 != 0) | !ace::set_known(after(row, 13))
+    (flags(row) % 8 != 0) | !ace::set_known(skip(row, 13))
 }
 
 // Whether the row is for "*".
 fn is_anybody(row: &[u8]) -> bool
-    ensures { λ r. ⌜ r ≡ isAnybody (now (row .entry)) ⌝ }
+    ensures { λ r. ⌜ r ≡ isAnybody (was row) ⌝ }
 {
     is_nil(part(row, 0, SUBJECT_BYTES))
 }
@@ -64,7 +65,7 @@ fn is_anybody(row: &[u8]) -> bool
 // How many access rows the row becomes.
 // Rules out: one for "*"; two for a UUID.
 pub fn made_count(row: &[u8]) -> u16
-    ensures { λ r. ⌜ r ≡ length (entriesOf (now (row .entry))) ⌝ }
+    ensures { λ r. ⌜ r ≡ length (entriesOf (was row)) ⌝ }
 {
     if is_anybody(row) { 2 } else { 1 }
 }
@@ -73,7 +74,7 @@ pub fn made_count(row: &[u8]) -> u16
 // The slices of a known length let the compiler copy each part at once.
 fn row_made(number: u16, kind: u8, subject: &[u8], row: &[u8]) -> [u8; ACE_ROW]
     requires { ⌜ (kind < 4) × (length (now subject) ≡ 16) × (length (now row) ≡ 25) ⌝ }
-    ensures { λ r. ⌜ r ≡ be16 number ++ entry kind (now (subject .entry)) (now (row .entry)) ⌝ }
+    ensures { λ r. ⌜ r ≡ be16 number ++ entry kind (was subject) (was row) ⌝ }
 {
     let old = &row[..OLD_ROW];
     let head = [
@@ -93,7 +94,7 @@ fn row_made(number: u16, kind: u8, subject: &[u8], row: &[u8]) -> [u8; ACE_ROW]
 // That row in the buffer, which holds it, in one copy.
 fn put_row(out: &mut [u8], at: usize, number: u16, kind: u8, subject: &[u8], row: &[u8]) -> usize
     requires { ⌜ (kind < 4) × (length (now subject) ≡ 16) × (length (now row) ≡ 25) × (at + aceRowSize ≤ length (now out)) ⌝ }
-    ensures { λ r. ⌜ Puts (now (out .entry)) at (be16 number ++ entry kind (now (subject .entry)) (now (row .entry))) (now (out .exit)) r ⌝ }
+    ensures { λ r. ⌜ Puts (was out) at (be16 number ++ entry kind (was subject) (was row)) (became out) r ⌝ }
 {
     let made = row_made(number, kind, subject, row);
     rows_change::put_row(&mut out[at..], ACE_ROW, 0, &made);
@@ -103,7 +104,7 @@ fn put_row(out: &mut [u8], at: usize, number: u16, kind: u8, subject: &[u8], row
 // An access row for a connection.
 fn put_connection(out: &mut [u8], at: usize, number: u16, connection: u8, row: &[u8]) -> usize
     requires { ⌜ (length (now row) ≡ 25) × (at + aceRowSize ≤ length (now out)) ⌝ }
-    ensures { λ r. ⌜ Puts (now (out .entry)) at (be16 number ++ connectionEntry connection (now (row .entry))) (now (out .exit)) r ⌝ }
+    ensures { λ r. ⌜ Puts (was out) at (be16 number ++ connectionEntry connection (was row)) (became out) r ⌝ }
 {
     let mut subject = [0u8; SUBJECT_BYTES];
     subject[15] = connection;
@@ -117,7 +118,7 @@ pub fn put_made(out: &mut [u8], at: usize, number: u16, row: &[u8]) -> usize
         (number < 65535)
         × (length (now row) ≡ 25)
         × (at + length (joined (numberedFrom number (entriesOf (now row)))) ≤ length (now out)) ⌝ }
-    ensures { λ r. ⌜ Puts (now (out .entry)) at (joined (numberedFrom number (entriesOf (now (row .entry))))) (now (out .exit)) r ⌝ }
+    ensures { λ r. ⌜ Puts (was out) at (joined (numberedFrom number (entriesOf (was row)))) (became out) r ⌝ }
 {
     if is_anybody(row) {
         let p = put_connection(out, at, number, 1, row);

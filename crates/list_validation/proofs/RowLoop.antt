@@ -9,7 +9,7 @@ use Rattle.rules.specs.declared.Table.the-variants.{Aces}
 use Rattle.rules.specs.Tables.{storable}
 use Rattle.rules.specs.Checks.{verdict}
 use Rattle.rules.proofs.Answers.{passed}
-use Rattle.rules_lists.specs.Lists.{unfit, excessive, said, accepted, namedOr, rowsTested}
+use Rattle.rules_lists.specs.Lists.{unfit, excessive, tested, accepted, namedOr, rowsTested}
 use Rattle.rules.specs.Sizes.{aceRowSize}
 
 -- the checks of a row as code makes them
@@ -53,7 +53,7 @@ module _ (b : List ℕ) (count repeat : ℕ) where
     unfolding rowsTested unfit
     decides = inv .tested ∙ rw (from-row aceRowSize count i b more, repeats-here, length-rowsOf, rowsOf-end aceRowSize i b)
 
-    pub row-bad : (n : ℕ) → verdict (codeChecks row (eqb i repeat)) ≡ Refuse n → said n (i + 1) ≡ rowsTested [] rows
+    pub row-bad : (n : ℕ) → verdict (codeChecks row (eqb i repeat)) ≡ Refuse n → tested n (i + 1) ≡ rowsTested [] rows
     row-bad n e = sym (decides ∙ rw (e, add-one))
 
     pub row-turn : verdict (codeChecks row (eqb i repeat)) ≡ Pass → RowInv (i + 1)

@@ -11,6 +11,7 @@ use text::put_decimal;
 ghost use mathlib.Core.Path.{_≡_};
 ghost use mathlib.Core.List.{_++_};
 ghost use Prim.Native.Nat.{_<_};
+ghost use Rattle.rows.specs.Words.{was, became};
 ghost use Rattle.text.specs.Text.{ascii, decimal};
 ghost use Rattle.text.specs.Buffer.{Puts};
 ghost use Rattle.rules_office.specs.Office.{hexDigit, dashed, dash, hexByte, uuidText, uuidSubject};
@@ -39,7 +40,7 @@ fn is_dashed(i: usize) -> bool
 }
 
 fn put_dash(out: &mut [u8], at: usize, i: usize) -> usize
-    ensures { λ r. ⌜ Puts (now (out .entry)) at (dash i) (now (out .exit)) r ⌝ }
+    ensures { λ r. ⌜ Puts (was out) at (dash i) (became out) r ⌝ }
 {
     if is_dashed(i) {
         return direct::put(out, at, b"-");
@@ -49,7 +50,7 @@ fn put_dash(out: &mut [u8], at: usize, i: usize) -> usize
 
 // Byte i of a UUID: a dash before some, and two digits.
 fn put_hex(out: &mut [u8], at: usize, i: usize, b: u8) -> usize
-    ensures { λ r. ⌜ Puts (now (out .entry)) at (hexByte i b) (now (out .exit)) r ⌝ }
+    ensures { λ r. ⌜ Puts (was out) at (hexByte i b) (became out) r ⌝ }
 {
     let p = put_dash(out, at, i);
     let p = put_byte(out, p, hex_digit(b / 16));
@@ -57,7 +58,7 @@ fn put_hex(out: &mut [u8], at: usize, i: usize, b: u8) -> usize
 }
 
 fn put_uuid(out: &mut [u8], at: usize, u: &[u8]) -> usize
-    ensures { λ r. ⌜ Puts (now (out .entry)) at (uuidText (now (u .entry))) (now (out .exit)) r ⌝ }
+    ensures { λ r. ⌜ Puts (was out) at (uuidText (was u)) (became out) r ⌝ }
 {
     let mut p = at;
     let mut i = 0;
@@ -69,7 +70,7 @@ fn put_uuid(out: &mut [u8], at: usize, u: &[u8]) -> usize
 }
 
 fn put_uuid_subject(out: &mut [u8], at: usize, row: &[u8]) -> usize
-    ensures { λ r. ⌜ Puts (now (out .entry)) at (uuidSubject (now (row .entry))) (now (out .exit)) r ⌝ }
+    ensures { λ r. ⌜ Puts (was out) at (uuidSubject (was row)) (became out) r ⌝ }
 {
     let p = direct::put(out, at, b"{\"uuid\":\"");
     let p = put_uuid(out, p, ace::subject(row));
@@ -78,14 +79,14 @@ fn put_uuid_subject(out: &mut [u8], at: usize, row: &[u8]) -> usize
 
 // A key and a number.
 fn put_number(out: &mut [u8], at: usize, key: &[u8], n: u16) -> usize
-    ensures { λ r. ⌜ Puts (now (out .entry)) at (now (key .entry) ++ decimal n) (now (out .exit)) r ⌝ }
+    ensures { λ r. ⌜ Puts (was out) at (was key ++ decimal n) (became out) r ⌝ }
 {
     let p = put(out, at, key);
     put_decimal(out, p, n as usize)
 }
 
 fn put_role_subject(out: &mut [u8], at: usize, row: &[u8]) -> usize
-    ensures { λ r. ⌜ Puts (now (out .entry)) at (roleSubject (now (row .entry))) (now (out .exit)) r ⌝ }
+    ensures { λ r. ⌜ Puts (was out) at (roleSubject (was row)) (became out) r ⌝ }
 {
     let p = put_number(out, at, b"{\"authority\":\"", ace::authority(row));
     let p = put_number(out, p, b"\",\"role\":\"", ace::role(row));
@@ -93,7 +94,7 @@ fn put_role_subject(out: &mut [u8], at: usize, row: &[u8]) -> usize
 }
 
 fn put_connection_subject(out: &mut [u8], at: usize, row: &[u8]) -> usize
-    ensures { λ r. ⌜ Puts (now (out .entry)) at (connectionSubject (now (row .entry))) (now (out .exit)) r ⌝ }
+    ensures { λ r. ⌜ Puts (was out) at (connectionSubject (was row)) (became out) r ⌝ }
 {
     if ace::connection(row) == 1 {
         return put(out, at, b"{\"conntype\":\"auth-crypt\"}");
@@ -102,7 +103,7 @@ fn put_connection_subject(out: &mut [u8], at: usize, row: &[u8]) -> usize
 }
 
 fn put_subject(out: &mut [u8], at: usize, row: &[u8]) -> usize
-    ensures { λ r. ⌜ Puts (now (out .entry)) at (subjectText (now (row .entry))) (now (out .exit)) r ⌝ }
+    ensures { λ r. ⌜ Puts (was out) at (subjectText (was row)) (became out) r ⌝ }
 {
     let kind = ace::kind(row);
     match kind {
@@ -115,7 +116,7 @@ fn put_subject(out: &mut [u8], at: usize, row: &[u8]) -> usize
 
 // A key and the subject.
 fn put_keyed_subject(out: &mut [u8], at: usize, row: &[u8]) -> usize
-    ensures { λ r. ⌜ Puts (now (out .entry)) at (ascii ",\"subject\":" ++ subjectText (now (row .entry))) (now (out .exit)) r ⌝ }
+    ensures { λ r. ⌜ Puts (was out) at (ascii ",\"subject\":" ++ subjectText (was row)) (became out) r ⌝ }
 {
     let p = direct::put(out, at, b",\"subject\":");
     put_subject(out, p, row)
@@ -123,7 +124,7 @@ fn put_keyed_subject(out: &mut [u8], at: usize, row: &[u8]) -> usize
 
 // A key and the resources.
 fn put_keyed_resources(out: &mut [u8], at: usize, row: &[u8]) -> usize
-    ensures { λ r. ⌜ Puts (now (out .entry)) at (ascii ",\"resources\":[" ++ resourcesText (now (row .entry))) (now (out .exit)) r ⌝ }
+    ensures { λ r. ⌜ Puts (was out) at (ascii ",\"resources\":[" ++ resourcesText (was row)) (became out) r ⌝ }
 {
     let p = direct::put(out, at, b",\"resources\":[");
     put_resources(out, p, row)
@@ -132,7 +133,7 @@ fn put_keyed_resources(out: &mut [u8], at: usize, row: &[u8]) -> usize
 // The text of a row.
 // Rules out: a wildcard that is lost; the UUID in upper case; the resources in another order.
 pub fn put_row(out: &mut [u8], at: usize, row: &[u8]) -> usize
-    ensures { λ r. ⌜ Puts (now (out .entry)) at (rowText (now (row .entry))) (now (out .exit)) r ⌝ }
+    ensures { λ r. ⌜ Puts (was out) at (rowText (was row)) (became out) r ⌝ }
 {
     let p = put_number(out, at, b"{\"aceid\":", be16(row));
     let p = put_keyed_subject(out, p, row);

@@ -8,7 +8,7 @@ use Rattle.rows.specs.Rows.{Row, rowsOf, without, joined}
 use Rattle.rows.proofs.Laws.{take-rest, rowsOf-suc}
 use Rattle.rules.specs.declared.Table.the-variants.{Aces}
 use Rattle.rules.specs.Tables.{rowsIn}
-use Rattle.rules_waiting.specs.Terminal.{Terminal, soundTerminal}
+use Rattle.rules_terminal.specs.Terminal.{Terminal, soundTerminal}
 use Rattle.rules.specs.Reading.{filled}
 use Rattle.rules.specs.Checks.{verdict, numberOf}
 use Rattle.rules_office.specs.Office.{comma, separated, rowText, rowsText, listText, seasonal, rowsWritten, officeText, officeVerdict, officeReply}

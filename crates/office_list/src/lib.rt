@@ -3,7 +3,7 @@
 // A buffer that fits every text needs no measuring.
 use check_waiting::terminal_sound;
 use fields::ace;
-use fields::held;
+use fields::capped;
 use office_entry::put_row;
 use office_resources::put_comma;
 use rows::part;
@@ -12,7 +12,7 @@ use rules::ACE_ROWS;
 use rules::ACES;
 use rules::CRED_ROWS;
 use rules::Head;
-use rules_waiting::QUEUE;
+use rules_terminal::QUEUE;
 use text::direct;
 use text::put;
 ghost use mathlib.Core.Path.{_≡_};
@@ -25,17 +25,17 @@ ghost use Rattle.text.specs.Buffer.{Puts};
 ghost use Rattle.rows.specs.Rows.{rowsOf};
 ghost use Rattle.rules.specs.declared.Table.the-variants.{Aces};
 ghost use Rattle.rules.specs.Tables.{rowsIn};
-ghost use Rattle.rules.specs.Words.{was, became, before};
+ghost use Rattle.rules.specs.Contracts.Words.{was, became, before};
 ghost use Rattle.rules.specs.Reading.{filled};
 ghost use Rattle.rules.specs.Checks.{numberOf};
-ghost use Rattle.rules_waiting.specs.Terminal.{terminal};
+ghost use Rattle.rules_terminal.specs.Terminal.{terminal};
 ghost use Rattle.rules_office.specs.Office.{comma, rowText, rowsText, seasonal, rowsWritten, listText, officeVerdict, officeReply};
 ghost use Rattle.rules.specs.Sizes.{aceRowSize};
 
 // Bytes that fit every text (`text-short`, rules_office/proofs/Bounds.antt).
 const TEXT_MAX: usize = 13069;
 
-// What the office is told: 0, 17 or 18, and how many bytes were written.
+// The result: 0, 17 or 18, and how many bytes were written.
 #[repr(C)]
 pub struct Listed {
     pub answer: u8,
@@ -44,14 +44,14 @@ pub struct Listed {
 
 // Whether a row holds for a shorter period than every second.
 fn is_seasonal(row: &[u8]) -> bool
-    ensures { λ r. ⌜ r ≡ seasonal (now (row .entry)) ⌝ }
+    ensures { λ r. ⌜ r ≡ seasonal (was row) ⌝ }
 {
     !((ace::first(row) == 0) & (ace::last(row) == 4294967295))
 }
 
 // A row after its comma, or nothing where the row is left out.
 fn put_entry(out: &mut [u8], at: usize, first: bool, row: &[u8]) -> usize
-    ensures { λ r. ⌜ Puts (now (out .entry)) at (cond (seasonal (now (row .entry))) [] (comma first ++ rowText (now (row .entry)))) (now (out .exit)) r ⌝ }
+    ensures { λ r. ⌜ Puts (was out) at (cond (seasonal (was row)) [] (comma first ++ rowText (was row))) (became out) r ⌝ }
 {
     if is_seasonal(row) {
         return direct::put(out, at, b"");
@@ -62,7 +62,7 @@ fn put_entry(out: &mut [u8], at: usize, first: bool, row: &[u8]) -> usize
 
 fn put_rows(out: &mut [u8], at: usize, rows: &[u8], count: usize) -> usize
     requires { ⌜ count * aceRowSize ≤ length (now rows) ⌝ }
-    ensures { λ r. ⌜ Puts (now (out .entry)) at (rowsText (rowsWritten (rowsOf aceRowSize count (now (rows .entry))))) (now (out .exit)) r ⌝ }
+    ensures { λ r. ⌜ Puts (was out) at (rowsText (rowsWritten (rowsOf aceRowSize count (was rows)))) (became out) r ⌝ }
 {
     let mut p = at;
     let mut first = true;
@@ -82,7 +82,7 @@ fn put_list(out: &mut [u8], naces: u8, aces: &[u8; ACE_ROWS]) -> usize
     ensures { λ r. ⌜ Puts (was out) 0 (listText (rowsWritten (rowsIn Aces naces (was aces)))) (became out) r ⌝ }
 {
     let p = put(out, 0, b"{\"aclist2\":[");
-    let count = held(naces, ACES);
+    let count = capped(naces, ACES);
     let p = put_rows(out, p, aces, count);
     put(out, p, b"]}")
 }

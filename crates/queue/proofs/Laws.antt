@@ -6,16 +6,16 @@ use Rattle.rows.proofs.Prelude.{contradiction}
 use lib.ListN.{replicate-append-replicate}
 use Rattle.rows.specs.declared.Found.{Found}
 use Rattle.rows.specs.Rows.{Row, rowsOf, packed, joined, allZero, same, hasKey, some, numberedAs, stored, without, withRow}
-use Rattle.rows.specs.Contracts.{placeOf, IsTable}
-use Rattle.rows.proofs.Laws.{length-rowsOf, drop-replicate, take-rest, lent-rest, some-place, isAt, zeros-replicate, packed-is, joined-rowsOf}
+use Rattle.rows.specs.Contracts.{indexOf, IsTable}
+use Rattle.rows.proofs.Laws.{length-rowsOf, drop-replicate, take-rest, lent-rest, some-index, isAt, zeros-replicate, packed-is, joined-rowsOf}
 use Rattle.rows.proofs.Kept.{long-rowsOf, rowsOf-joined, same-true, same-refl, same-sym, length-without, length-stored}
 use Rattle.rules.specs.Bits.{be16}
 use Rattle.rules.specs.declared.Table.the-variants.{Creds}
 use Rattle.rules.specs.Tables.{stride, capacity, rowsIn}
 use Rattle.rules.proofs.BitLaws.{word-is}
-use Rattle.rules_waiting.specs.Slots.{Seat, Round, after, seatOf, padded, slotOf, roundBytes, roundOf, waiting, queueOf, queueSize, slotSize}
-use Rattle.rules_waiting.specs.Round.{nobody, seatsIn, held, orphaned}
-use Rattle.rules_waiting.specs.Terminal.{withRecord}
+use Rattle.rules_terminal.specs.Slots.{Seat, Round, afterSeat, seatOf, padded, slotOf, roundBytes, roundOf, waiting, queueOf, queueSize, slotSize}
+use Rattle.rules_terminal.specs.Round.{nobody, seatsIn, isSeat, orphaned}
+use Rattle.rules_terminal.specs.Terminal.{withRecord}
 use Rattle.queue.specs.Queue.{IsQueue}
 
 -- ---- a slot
@@ -162,19 +162,19 @@ some-key p [] l = refl
 some-key p (w ∷ ws) l = ap₂ (λ (a b : Bool). a || b) (key-same p w l) (some-key p ws l)
 
 module _ (count : ℕ) (creds : List ℕ) (p : Seat) (two : length p ≡ 2) (b : Bool) (z : b ≡ allZero (drop 0 p)) where
-  pub seat-zero : b ≡ true → true ≡ held (seatsIn count creds) p
-  unfolding held some
+  pub seat-zero : b ≡ true → true ≡ isSeat (seatsIn count creds) p
+  unfolding isSeat some
   seat-zero e = sym (rw (sym (zero-seat p two b z) ∙ e))
 
-  pub seat-found : b ≡ false → (n : ℕ) → n ≡ min count (capacity Creds) → (at : Found) → at ≡ placeOf (hasKey 0 p) (rowsOf (stride Creds) n creds)
-      → isAt at ≡ held (seatsIn count creds) p
-  unfolding held some rowsIn
+  pub seat-found : b ≡ false → (n : ℕ) → n ≡ min count (capacity Creds) → (at : Found) → at ≡ indexOf (hasKey 0 p) (rowsOf (stride Creds) n creds)
+      → isAt at ≡ isSeat (seatsIn count creds) p
+  unfolding isSeat some rowsIn
   seat-found e n counted at f =
-      ap isAt f ∙ sym (some-place 0 (hasKey 0 p) (rowsOf (stride Creds) n creds)) ∙ some-key p (rowsOf (stride Creds) n creds) two
+      ap isAt f ∙ sym (some-index 0 (hasKey 0 p) (rowsOf (stride Creds) n creds)) ∙ some-key p (rowsOf (stride Creds) n creds) two
       ∙ rw (sym (zero-seat p two b z) ∙ e, counted)
 
 -- the seat of slot i
-pub seat-gone : (ps : List Seat) (i : ℕ) (b : List ℕ) (p : Seat) → p ≡ take 2 (drop (i * slotSize) b) → (h : Bool) → h ≡ held ps p
+pub seat-gone : (ps : List Seat) (i : ℕ) (b : List ℕ) (p : Seat) → p ≡ take 2 (drop (i * slotSize) b) → (h : Bool) → h ≡ isSeat ps p
     → orphaned ps (take slotSize (drop (i * slotSize) b)) ≡ not h
 unfolding orphaned
 seat-gone ps i b p is h e = rw (take-take 2 slotSize (drop (i * slotSize) b) (omega arith), ← is, e)
@@ -189,7 +189,7 @@ module _ (m : List ℕ) (q : IsQueue m) where
   seat-two = length-take-le 2 (drop 2 m) (omega (arith, length-drop 2 m, q .long))
 
 -- a seat's bytes, after 1
-pub round-bytes : (p : Seat) → length p ≡ 2 → 1 ∷ getD p 0 0 ∷ getD p 1 0 ∷ [] ≡ roundBytes (after p)
+pub round-bytes : (p : Seat) → length p ≡ 2 → 1 ∷ getD p 0 0 ∷ getD p 1 0 ∷ [] ≡ roundBytes (afterSeat p)
 round-bytes p two = ap (λ (l : List ℕ). 1 ∷ l) (two-of p (omega arith) ∙ take-all 2 p (omega arith))
 
 -- slots without some are few

@@ -3,10 +3,10 @@ use Rattle.rows.proofs.Prelude.{_≡_, _∙_, true, List, ℕ, _≤_, min, min-
 use Rattle.rows.proofs.Laws.{length-rowsOf}
 use Rattle.rows.proofs.Kept.{same-true}
 use Rattle.rules.specs.declared.Tables.{Tables}
-use Rattle.rules_waiting.specs.Slots.{waiting, queueSize, slotSize}
-use Rattle.rules_waiting.specs.Terminal.{terminal, queueSound, soundTerminal}
-use Rattle.rules_waiting.proofs.SlotLaws.{queue-parts}
-use Rattle.rules_waiting.proofs.Sound.{terminal-parts}
+use Rattle.rules_terminal.specs.Slots.{waiting, queueSize, slotSize}
+use Rattle.rules_terminal.specs.Terminal.{terminal, queueSound, soundTerminal}
+use Rattle.rules_terminal.proofs.SlotLaws.{queue-parts}
+use Rattle.rules_terminal.proofs.Sound.{terminal-parts}
 use Rattle.queue.specs.Queue.{IsQueue}
 use Rattle.rules.specs.Tables.{rows}
 use Rattle.rules.specs.declared.Table.the-variants.{Creds}

@@ -1,2 +1,2 @@
--- What the contracts of `queue` ask of the memory.
+-- What the contracts of `queue` ask of the queue's bytes.
 pub mod Queue

@@ -3,7 +3,7 @@ use mathlib.Core.Path.{_≡_}
 use Prim.Native.Nat.{_≤_}
 use lib.ListN.{length, take, drop, getD}
 use Rattle.rows.specs.Contracts.{IsTable}
-use Rattle.rules_waiting.specs.Slots.{Queue, slotSize, queueCapacity, queueSize, roundBytes, roundOf}
+use Rattle.rules_terminal.specs.Slots.{Queue, slotSize, queueCapacity, queueSize, roundBytes, roundOf}
 
 pub record IsQueue (m : Queue) : Type 0 where
   pub long : length m ≡ queueSize

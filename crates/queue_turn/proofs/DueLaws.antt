@@ -4,45 +4,45 @@ use Rattle.rows.proofs.Prelude.{drop, getD, eqb}
 use Rattle.rows.specs.declared.Found.{Found}
 use Rattle.rows.specs.declared.Found.the-variants.{At, Nothing}
 use Rattle.rows.specs.Rows.{Row, rowsOf, hasKey, some, firstRow}
-use Rattle.rows.specs.Contracts.{placeOf}
-use Rattle.rows.proofs.Laws.{some-place, isAt, place-row, found-cases}
+use Rattle.rows.specs.Contracts.{indexOf}
+use Rattle.rows.proofs.Laws.{some-index, isAt, index-row, found-cases}
 use Rattle.rows.proofs.Kept.{same-true}
 use Rattle.rules.specs.declared.Tables.{Tables}
 use Rattle.rules.specs.declared.Table.the-variants.{Creds}
 use Rattle.rules.specs.Bits.{be16}
 use Rattle.rules.specs.Tables.{rows, stride, rowsIn}
-use Rattle.rules_waiting.specs.Slots.{Seat, seatOf, padded, slotOf, recordOf, roundOf, waiting, slotSize}
-use Rattle.rules_waiting.specs.Round.{nobody, seats, held, occupied, inTurn, firstInTurn}
-use Rattle.rules_waiting.specs.Terminal.{Terminal, terminal, slotSound, soundTerminal, turn, due}
+use Rattle.rules_terminal.specs.Slots.{Seat, seatOf, padded, slotOf, recordOf, roundOf, waiting, slotSize}
+use Rattle.rules_terminal.specs.Round.{nobody, seats, isSeat, occupied, inTurn, firstInTurn}
+use Rattle.rules_terminal.specs.Terminal.{Terminal, terminal, slotSound, soundTerminal, turn, due}
 use Rattle.rules.proofs.OwnRow.{first-passes, first-every}
-use Rattle.rules_waiting.proofs.SeatLaws.{first-least, turn-in}
-use Rattle.rules_waiting.proofs.SlotLaws.{slot-parts, slot-length}
-use Rattle.rules_waiting.proofs.Sound.{terminal-parts, turn-is}
+use Rattle.rules_terminal.proofs.SeatLaws.{first-least, turn-in}
+use Rattle.rules_terminal.proofs.SlotLaws.{slot-parts, slot-length}
+use Rattle.rules_terminal.proofs.Sound.{terminal-parts, turn-is}
 use Rattle.queue.proofs.Laws.{slots-rows, two-of}
 use Rattle.queue.proofs.Queues.{sound-queue}
 use Rattle.queue_turn.specs.Turns.{slotIn, dueOf}
 
 -- ---- the slot of the first seat that is occupied
 
-slot-found : (ws : List Row) (ps : List Seat) (i : ℕ) → slotIn ws ps ≡ At i → placeOf (hasKey 0 (firstRow (occupied ws) ps)) ws ≡ At i
+slot-found : (ws : List Row) (ps : List Seat) (i : ℕ) → slotIn ws ps ≡ At i → indexOf (hasKey 0 (firstRow (occupied ws) ps)) ws ≡ At i
 unfolding slotIn firstRow occupied
 slot-found ws [] i e = absurd (true≢false (sym (ap isAt e)))
 slot-found ws (p ∷ ps) i e =
-    found-cases (placeOf (hasKey 0 p) ws)
-    (λ j f. rw (some-place 0 (hasKey 0 p) ws ∙ ap isAt f) (f ∙ rw f at e))
-    (λ f. rw (some-place 0 (hasKey 0 p) ws ∙ ap isAt f) (slot-found ws ps i (rw f at e)))
+    found-cases (indexOf (hasKey 0 p) ws)
+    (λ j f. rw (some-index 0 (hasKey 0 p) ws ∙ ap isAt f) (f ∙ rw f at e))
+    (λ f. rw (some-index 0 (hasKey 0 p) ws ∙ ap isAt f) (slot-found ws ps i (rw f at e)))
 
 slot-none : (ws : List Row) (ps : List Seat) → slotIn ws ps ≡ Nothing → some (occupied ws) ps ≡ false
 unfolding slotIn some occupied
 slot-none ws [] e = refl
 slot-none ws (p ∷ ps) e =
-    found-cases (placeOf (hasKey 0 p) ws)
+    found-cases (indexOf (hasKey 0 p) ws)
     (λ j f. absurd (true≢false (ap isAt (rw f at e))))
-    (λ f. rw (some-place 0 (hasKey 0 p) ws ∙ ap isAt f) (slot-none ws ps (rw f at e)))
+    (λ f. rw (some-index 0 (hasKey 0 p) ws ∙ ap isAt f) (slot-none ws ps (rw f at e)))
 
 turn-some : (x : Terminal) → soundTerminal x ≡ true → eqb (length (waiting (x .queue))) 0 ≡ false
     → some (occupied (waiting (x .queue))) (inTurn (roundOf (x .queue)) (seats (x .tables))) ≡ true
-unfolding held
+unfolding isSeat
 turn-some x h w =
     let u = turn-is x h w in
     first-least (occupied (waiting (x .queue))) (turn x) (inTurn (roundOf (x .queue)) (seats (x .tables)))
@@ -59,7 +59,7 @@ module _ (t : Tables) (m : List ℕ) (h : soundTerminal (terminal t m) ≡ true)
       unfolding seats rowsIn
       at-is = is ∙ rw (slots-rows m (sound-queue t m h), counted)
 
-      pub due-found : (i : ℕ) → at ≡ At i → placeOf (hasKey 0 (turn (terminal t m))) (waiting m) ≡ At i
+      pub due-found : (i : ℕ) → at ≡ At i → indexOf (hasKey 0 (turn (terminal t m))) (waiting m) ≡ At i
       unfolding turn firstInTurn
       due-found i e = slot-found (waiting m) (inTurn (roundOf m) (seats t)) i (sym at-is ∙ e)
 
@@ -69,7 +69,7 @@ module _ (t : Tables) (m : List ℕ) (h : soundTerminal (terminal t m) ≡ true)
 -- ---- the record that is due
 
 module _ (t : Tables) (m : List ℕ) (h : soundTerminal (terminal t m) ≡ true) (w : eqb (length (waiting m)) 0 ≡ false)
-    (i : ℕ) (at : placeOf (hasKey 0 (turn (terminal t m))) (waiting m) ≡ At i) where
+    (i : ℕ) (at : indexOf (hasKey 0 (turn (terminal t m))) (waiting m) ≡ At i) where
   abbrev slot : Row
   slot = take slotSize (drop (i * slotSize) (drop 4 m))
 
@@ -77,7 +77,7 @@ module _ (t : Tables) (m : List ℕ) (h : soundTerminal (terminal t m) ≡ true)
   unfolding waiting
   found-row =
       let n : min (getD m 0 0) 25 ≡ getD m 0 0 = min-eq-left (sound-queue t m h .few) in
-      let f = place-row slotSize (min (getD m 0 0) 25) i (hasKey 0 (turn (terminal t m))) (drop 4 m) at in
+      let f = index-row slotSize (min (getD m 0 0) 25) i (hasKey 0 (turn (terminal t m))) (drop 4 m) at in
       (rw n at (f .0), f .1)
 
   pub due-small : i < 25

@@ -5,23 +5,23 @@ use Rattle.rows.proofs.Prelude.{ne-eqb, cond-cases, bool-cases}
 use Rattle.rows.specs.declared.Found.{Found}
 use Rattle.rows.specs.declared.Found.the-variants.{At, Nothing}
 use Rattle.rows.specs.Rows.{Row, rowsOf, allZero, same, hasKey, some, rowsBefore}
-use Rattle.rows.specs.Contracts.{placeFrom, placeOf}
+use Rattle.rows.specs.Contracts.{indexFrom, indexOf}
 use Rattle.rows.proofs.Laws.{found-cases, take-rest, a-row, next-fits, rowsOf-suc, length-rowsOf, rowsOf-take, rowsOf-drop}
 use Rattle.rules.specs.declared.Table.the-variants.{Creds}
 use Rattle.rules.specs.Bits.{be16}
 use Rattle.rules.specs.Tables.{stride}
-use Rattle.rules_waiting.specs.Slots.{Seat, Round, anew, after, roundOf, slotSize}
-use Rattle.rules_waiting.specs.Round.{nobody, held, start, inTurn}
-use Rattle.rules_waiting.proofs.SeatLaws.{index-bound}
+use Rattle.rules_terminal.specs.Slots.{Seat, Round, anew, afterSeat, roundOf, slotSize}
+use Rattle.rules_terminal.specs.Round.{nobody, isSeat, start, inTurn}
+use Rattle.rules_terminal.proofs.SeatLaws.{index-bound}
 use Rattle.queue.proofs.Laws.{key-same, zero-seat}
-use Rattle.queue_turn.specs.Turns.{orElse, slotIn, before}
+use Rattle.queue_turn.specs.Turns.{orElse, slotIn, rowsAhead}
 
 -- ---- the loop over credential rows
 
 -- one row more
 slot-more : (ws : List Row) (left : ℕ) (rest : List ℕ) → 0 < left
     → slotIn ws (map (take 2) (rowsOf (stride Creds) left rest))
-    ≡ orElse (placeOf (hasKey 0 (take 2 rest)) ws) (slotIn ws (map (take 2) (rowsOf (stride Creds) (left - 1) (drop (stride Creds) rest))))
+    ≡ orElse (indexOf (hasKey 0 (take 2 rest)) ws) (slotIn ws (map (take 2) (rowsOf (stride Creds) (left - 1) (drop (stride Creds) rest))))
 unfolding slotIn
 slot-more ws left rest h = rw (rowsOf-suc (stride Creds) left rest h, take-take 2 (stride Creds) rest (omega arith))
 
@@ -35,7 +35,7 @@ module _ (creds slots : List ℕ) (count kept : ℕ) where
     pub row-here : (stride Creds) ≤ length rest
     row-here = a-row (stride Creds) left rest more (inv .fits)
 
-    module _ (at : Found) (is : at ≡ placeOf (hasKey 0 (take 2 rest)) (rowsOf slotSize kept slots)) where
+    module _ (at : Found) (is : at ≡ indexOf (hasKey 0 (take 2 rest)) (rowsOf slotSize kept slots)) where
       pub found : (i : ℕ) → at ≡ At i → At i ≡ slotIn (rowsOf slotSize kept slots) (map (take 2) (rowsOf (stride Creds) count creds))
       found i e = sym (inv .slot ∙ slot-more (rowsOf slotSize kept slots) left rest more ∙ rw (sym is ∙ e))
 
@@ -52,8 +52,8 @@ module _ (creds slots : List ℕ) (count kept : ℕ) where
 -- ---- where the last seat stands
 
 index-place : (k : ℕ) (p : Seat) (ws : List Row) → length p ≡ 2
-    → placeFrom k (hasKey 0 p) ws ≡ cond (some (same p) (map (take 2) ws)) (At (k + rowsBefore (same p) (map (take 2) ws))) Nothing
-unfolding placeFrom some rowsBefore
+    → indexFrom k (hasKey 0 p) ws ≡ cond (some (same p) (map (take 2) ws)) (At (k + rowsBefore (same p) (map (take 2) ws))) Nothing
+unfolding indexFrom some rowsBefore
 index-place k p [] l = refl
 index-place k p (w ∷ ws) l =
     rw (key-same p w l)
@@ -72,14 +72,14 @@ module _ (count : ℕ) (creds m : List ℕ) where
   length-numbers : length numbers ≡ count
   length-numbers = length-map (rowsOf (stride Creds) count creds) (take 2) ∙ length-rowsOf (stride Creds) count creds
 
-  pub before-anew : getD m 1 0 ≡ 0 → count ≡ before (roundOf m) numbers
-  unfolding before roundOf
+  pub before-anew : getD m 1 0 ≡ 0 → count ≡ rowsAhead (roundOf m) numbers
+  unfolding rowsAhead roundOf
   before-anew e = rw (eq-eqb (getD m 1 0) 0 e) (sym length-numbers)
 
-  pub before-bound : (k : Round) → before k numbers ≤ count
-  unfolding before held
+  pub before-bound : (k : Round) → rowsAhead k numbers ≤ count
+  unfolding rowsAhead isSeat
   before-bound anew = omega (arith, length-numbers)
-  before-bound (after p) =
+  before-bound (afterSeat p) =
       cond-cases (λ (j : ℕ). j ≤ count) (same p nobody) (λ _. omega arith)
       (λ _. cond-cases (λ (j : ℕ). j ≤ count) (some (same p) numbers)
       (λ e. omega (arith, index-bound p numbers e, length-numbers)) (λ _. omega (arith, length-numbers)))
@@ -91,17 +91,17 @@ module _ (count : ℕ) (creds m : List ℕ) where
     seat-two : length seat ≡ 2
     seat-two = length-take-le 2 (drop 2 m) (omega (arith, length-drop 2 m))
 
-    round-after : roundOf m ≡ after seat
+    round-after : roundOf m ≡ afterSeat seat
     unfolding roundOf
     round-after = rw (ne-eqb (getD m 1 0) 0 some-round)
 
-    pub before-zero : (b : Bool) → b ≡ allZero (drop 0 seat) → b ≡ true → 0 ≡ before (roundOf m) numbers
-    unfolding before
-    before-zero b e t = sym (ap (λ (k : Round). before k numbers) round-after ∙ rw (sym (zero-seat seat seat-two b e) ∙ t))
+    pub before-zero : (b : Bool) → b ≡ allZero (drop 0 seat) → b ≡ true → 0 ≡ rowsAhead (roundOf m) numbers
+    unfolding rowsAhead
+    before-zero b e t = sym (ap (λ (k : Round). rowsAhead k numbers) round-after ∙ rw (sym (zero-seat seat seat-two b e) ∙ t))
 
     pub before-else : (b : Bool) → b ≡ allZero (drop 0 seat) → b ≡ false
-        → behind count (placeOf (hasKey 0 seat) (rowsOf (stride Creds) count creds)) ≡ before (roundOf m) numbers
-    unfolding before held
+        → behind count (indexOf (hasKey 0 seat) (rowsOf (stride Creds) count creds)) ≡ rowsAhead (roundOf m) numbers
+    unfolding rowsAhead isSeat
     before-else b z f =
         rw (index-place 0 seat (rowsOf (stride Creds) count creds) seat-two, round-after, sym (zero-seat seat seat-two b z) ∙ f)
         (bool-cases (some (same seat) numbers) (λ e. rw e (omega arith)) (λ e. rw e (sym length-numbers)))
@@ -111,7 +111,7 @@ module _ (count : ℕ) (creds m : List ℕ) where
 slot-append : (ws : List Row) (xs ys : List Seat) → slotIn ws (xs ++ ys) ≡ orElse (slotIn ws xs) (slotIn ws ys)
 unfolding slotIn
 slot-append ws [] ys = refl
-slot-append ws (x ∷ xs) ys = found-cases (placeOf (hasKey 0 x) ws) (λ i e. rw e) (λ e. rw e (slot-append ws xs ys))
+slot-append ws (x ∷ xs) ys = found-cases (indexOf (hasKey 0 x) ws) (λ i e. rw e) (λ e. rw e (slot-append ws xs ys))
 
 anew-turned : (ns : List Seat) → nobody ∷ (ns ++ []) ≡ drop (length ns) ns ++ nobody ∷ take (length ns) ns
 anew-turned ns =
@@ -119,10 +119,10 @@ anew-turned ns =
     rw (drop-of-length-le ns all, take-all (length ns) ns all, append-nil ns)
 
 -- behind the last seat taken, then the unauthenticated seat, then the rows before
-turned : (k : Round) (ns : List Seat) → inTurn k (nobody ∷ ns) ≡ drop (before k ns) ns ++ nobody ∷ take (before k ns) ns
-unfolding inTurn start before held some rowsBefore
+turned : (k : Round) (ns : List Seat) → inTurn k (nobody ∷ ns) ≡ drop (rowsAhead k ns) ns ++ nobody ∷ take (rowsAhead k ns) ns
+unfolding inTurn start rowsAhead isSeat some rowsBefore
 turned anew ns = anew-turned ns
-turned (after p) ns =
+turned (afterSeat p) ns =
     bool-cases (same p nobody) (λ e. rw e)
     (λ e. bool-cases (some (same p) ns) (λ f. rw (e, f)) (λ f. rw (e, f) (anew-turned ns)))
 
@@ -138,7 +138,7 @@ map-take (suc k) (w ∷ ws) = ap (λ (l : List Seat). take 2 w ∷ l) (map-take 
 
 -- the three steps of the code
 module _ (ws : List Row) (last : Round) (count : ℕ) (creds : List ℕ) (k : ℕ)
-    (here : k ≡ before last (map (take 2) (rowsOf (stride Creds) count creds))) (fits : k ≤ count) where
+    (here : k ≡ rowsAhead last (map (take 2) (rowsOf (stride Creds) count creds))) (fits : k ≤ count) where
   abbrev whole : Found
   whole = slotIn ws (inTurn last (nobody ∷ map (take 2) (rowsOf (stride Creds) count creds)))
 
@@ -156,7 +156,7 @@ module _ (ws : List Row) (last : Round) (count : ℕ) (creds : List ℕ) (k : �
 
   steps : whole
       ≡ orElse (slotIn ws (map (take 2) (rowsOf (stride Creds) (count - k) (drop (k * stride Creds) creds))))
-      (orElse (placeOf (hasKey 0 nobody) ws) (slotIn ws (map (take 2) (rowsOf (stride Creds) k creds))))
+      (orElse (indexOf (hasKey 0 nobody) ws) (slotIn ws (map (take 2) (rowsOf (stride Creds) k creds))))
   unfolding slotIn
   steps =
       ap (slotIn ws) parts
@@ -168,7 +168,7 @@ module _ (ws : List Row) (last : Round) (count : ℕ) (creds : List ℕ) (k : �
     pub next-first : (i : ℕ) → x ≡ At i → At i ≡ whole
     next-first i e = sym (steps ∙ rw (sym (rw (take-rest (k * stride Creds) creds) at is), e))
 
-    module _ (e : x ≡ Nothing) (y : Found) (at : y ≡ placeOf (hasKey 0 (0 ∷ 0 ∷ [])) ws) where
+    module _ (e : x ≡ Nothing) (y : Found) (at : y ≡ indexOf (hasKey 0 (0 ∷ 0 ∷ [])) ws) where
       pub next-nobody : (i : ℕ) → y ≡ At i → At i ≡ whole
       unfolding be16
       next-nobody i f = sym (steps ∙ rw (sym (rw (take-rest (k * stride Creds) creds) at is), e, ← at, f))

@@ -3,7 +3,7 @@
 // One writer serves both: put into an empty buffer it only measures.
 use asserted_roles::put_roles;
 use caller::row_of;
-use fields::held;
+use fields::capped;
 use rows::Found;
 use rows::part;
 use rules::ACE_ROW;
@@ -31,10 +31,10 @@ ghost use Rattle.rows.specs.Contracts.{rowAt};
 ghost use Rattle.rules.specs.declared.Table.the-variants.{Creds};
 ghost use Rattle.rules.specs.Tables.{rows};
 ghost use Rattle.rules.specs.Checks.{refuseIf};
-ghost use Rattle.rules.specs.Callers.{callerRow};
+ghost use Rattle.rules.specs.Contracts.Callers.{callerRow};
 ghost use Rattle.rules.specs.Roles.{bodyOf};
 ghost use Rattle.rules.specs.Reading.{ownBody, rowBytes, contents, reads, replyTo, tooShort};
-ghost use Rattle.rules.specs.Words.{was, became, before};
+ghost use Rattle.rules.specs.Contracts.Words.{was, became, before};
 ghost use Rattle.rules.specs.Sizes.{credRowSize};
 
 fn put_owner(out: &mut [u8], at: usize, h: Head) -> usize
@@ -99,22 +99,22 @@ fn put_rows<'a>(
     h: Head,
     creds: &'a [u8; CRED_ROWS],
     aces: &'a [u8; ACE_ROWS],
-    place: Found,
+    found: Found,
     resource: u16,
 ) -> usize
     ensures { λ r. ⌜
-        Puts (was out) at (rowBytes clock (before h creds aces) (rowAt place (rows Creds (before h creds aces))) resource) (became out) r ⌝ }
+        Puts (was out) at (rowBytes clock (before h creds aces) (rowAt found (rows Creds (before h creds aces))) resource) (became out) r ⌝ }
 {
     match resource {
         Resource::CRED => {
-            let n = held(h.ncreds, CREDS);
+            let n = capped(h.ncreds, CREDS);
             put_creds(out, at, creds, n)
         }
         Resource::ACL2 => {
-            let n = held(h.naces, ACES) * ACE_ROW;
+            let n = capped(h.naces, ACES) * ACE_ROW;
             put(out, at, part(aces, 0, n))
         }
-        Resource::ROLES => put_roles(out, at, clock, row_of(h.ncreds, creds, place)),
+        Resource::ROLES => put_roles(out, at, clock, row_of(h.ncreds, creds, found)),
         _ => put(out, at, b""),
     }
 }
@@ -125,16 +125,16 @@ fn put_contents<'a>(
     h: Head,
     creds: &'a [u8; CRED_ROWS],
     aces: &'a [u8; ACE_ROWS],
-    place: Found,
+    found: Found,
     resource: u16,
 ) -> usize
     ensures { λ r. ⌜
-        Puts (was out) 0 (contents clock (before h creds aces) (rowAt place (rows Creds (before h creds aces))) resource) (became out) r ⌝ }
+        Puts (was out) 0 (contents clock (before h creds aces) (rowAt found (rows Creds (before h creds aces))) resource) (became out) r ⌝ }
 {
     let p = put_own(out, 0, h, resource);
     let at = resource as usize * 16;
     let p = put(out, p, part(&h.rowners, at, 16));
-    put_rows(out, p, clock, h, creds, aces, place, resource)
+    put_rows(out, p, clock, h, creds, aces, found, resource)
 }
 
 // RETRIEVE of a security resource.
@@ -166,9 +166,9 @@ pub fn put_reply<'a>(
     if !is_read(header) {
         return put(out, 0, b"");
     }
-    let place = caller.row;
+    let found = caller.row;
     let e = header.resource;
-    put_contents(out, clock, h, creds, aces, place, e.number)
+    put_contents(out, clock, h, creds, aces, found, e.number)
 }
 
 // The length of the reply to a caller.
@@ -186,10 +186,10 @@ pub fn reply_length<'a>(
     if !is_read(header) {
         return 0;
     }
-    let place = caller.row;
+    let found = caller.row;
     let e = header.resource;
     let mut none = [0u8; 0];
-    put_contents(&mut none, clock, h, creds, aces, place, e.number)
+    put_contents(&mut none, clock, h, creds, aces, found, e.number)
 }
 
 // Check 15: the reply does not fit the buffer.

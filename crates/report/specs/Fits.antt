@@ -7,7 +7,7 @@ use Rattle.report.specs.Run.{line, lines, runText}
 use Rattle.rules.specs.Types.{Answer, Bytes, Number, Permission, Size, State}
 
 abbrev pub LineFits : Number → Answer → Permission → State → Type 0
-LineFits place answer permission state = place < 100000 → length (line place answer permission state) ≤ 18
+LineFits number answer permission state = number < 100000 → length (line number answer permission state) ≤ 18
 
 abbrev pub LinesFit : Bytes → Type 0
 LinesFit input = length input ≤ 32768 → length (lines input) ≤ 131072

@@ -17,10 +17,10 @@ use Rattle.rules.specs.Types.{Answer, Bytes, Clock, Number, Permission, Size, S
 unfoldable pub header : Text
 header = ascii "n answer perm state\n"
 
--- place of the record in the run, answer, permission and the state it leaves: decimals, a space between each two
+-- number of the record in the run, answer, permission and the state it leaves: decimals, a space between each two
 unfoldable pub line : Number → Answer → Permission → State → Text
-line place answer permission state =
-    decimal place ++ ascii " " ++ decimal answer ++ ascii " " ++ decimal permission ++ ascii " " ++ decimal state ++ ascii "\n"
+line number answer permission state =
+    decimal number ++ ascii " " ++ decimal answer ++ ascii " " ++ decimal permission ++ ascii " " ++ decimal state ++ ascii "\n"
 
 -- each record is lent a buffer that fits any reply
 abbrev pub lent : Clock → Bytes → Request
@@ -28,7 +28,7 @@ lent clock r = received clock r longestReply
 
 -- of a record that is judged on the tables t
 abbrev pub lineFor : Tables → Number → Request → Text
-lineFor t place q = line place (responseTo noDefaults t q .answer) (responseTo noDefaults t q .permission) (tablesAfter noDefaults t q .state)
+lineFor t number q = line number (responseTo noDefaults t q .answer) (responseTo noDefaults t q .permission) (tablesAfter noDefaults t q .state)
 
 unfoldable pub cut : Text
 cut = ascii "cut\n"
@@ -52,11 +52,11 @@ isCut input = ltb (length input) (6 + lengthOf input)
 
 -- the lines for this input, in at most this many steps
 unfoldable pub linesFrom : ℕ → Tables → Number → Bytes → Text
-linesFrom zero t place input = []
-linesFrom (suc steps) t place input =
+linesFrom zero t number input = []
+linesFrom (suc steps) t number input =
     cond (eqb (length input) 0) []
     (cond (isCut input) cut
-    (lineFor t place (firstOf input) ++ linesFrom steps (tablesAfter noDefaults t (firstOf input)) (place + 1) (restOf input)))
+    (lineFor t number (firstOf input) ++ linesFrom steps (tablesAfter noDefaults t (firstOf input)) (number + 1) (restOf input)))
 
 -- from fresh tables; a record takes at least six bytes, so as many steps as there are bytes are enough
 unfoldable pub lines : Bytes → Text

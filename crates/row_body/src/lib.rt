@@ -7,13 +7,14 @@ use rules::CRED_BODY;
 use rules::CRED_ROW;
 use rules::CRED_SHORT;
 ghost use mathlib.Core.Path.{_≡_};
+ghost use Rattle.rows.specs.Words.{was};
 ghost use Rattle.rules.specs.declared.Table.the-variants.{Creds, Aces};
 ghost use Rattle.rules.specs.Tables.{rowOf};
 
 // The credential row that a body stores, with no role asserted; zeros for a body of another length.
 // Rules out: an authority read from the type; the type left where a body of 21 bytes has it; a role kept from the row before.
 pub fn cred_row(b: &[u8]) -> [u8; CRED_ROW]
-    ensures { λ r. ⌜ r ≡ rowOf Creds (now (b .entry)) ⌝ }
+    ensures { λ r. ⌜ r ≡ rowOf Creds (was b) ⌝ }
 {
     let mut row = [0u8; CRED_ROW];
     let length = b.len();
@@ -34,7 +35,7 @@ const LATEST: [u8; 4] = [255; 4];
 // The access row that a body stores; zeros for a body of another length.
 // Rules out: a body of 28 bytes that holds for no second but 0; the period before the subject.
 pub fn ace_row(b: &[u8]) -> [u8; ACE_ROW]
-    ensures { λ r. ⌜ r ≡ rowOf Aces (now (b .entry)) ⌝ }
+    ensures { λ r. ⌜ r ≡ rowOf Aces (was b) ⌝ }
 {
     let mut row = [0u8; ACE_ROW];
     let length = b.len();

@@ -1,6 +1,6 @@
-// Rows looked up in the tables by a key, and the places to store after a DELETE.
+// Rows looked up in the tables by a key, and the rows to store after a DELETE.
 // Every function is total: a table is read as far as it has room.
-use fields::held;
+use fields::capped;
 use rows::Found;
 use rows::part;
 use rules::ACE_ROW;
@@ -17,11 +17,12 @@ use rules::Table;
 ghost use mathlib.Core.Path.{_≡_};
 ghost use Prim.Native.Nat.{min};
 ghost use Rattle.rows.specs.Rows.{hasKey};
-ghost use Rattle.rows.specs.Contracts.{placeOf};
+ghost use Rattle.rows.specs.Contracts.{indexOf};
 ghost use Rattle.rules.specs.Tables.{capacity, count, rows};
-ghost use Rattle.rules.specs.Keys.{goes, mayBeNone, keyPlace, keyBytes};
+ghost use Rattle.rules.specs.Keys.{goes, mayBeNone};
+ghost use Rattle.rules.specs.Contracts.Keys.{keyOffset, keyBytes};
 ghost use Rattle.rules.specs.StoreRange.{gapOf, storeRangeOf};
-ghost use Rattle.rules.specs.Words.{was, before};
+ghost use Rattle.rules.specs.Contracts.Words.{was, before};
 
 // Rows counted.
 // Rules out: the other table's count; the rows that there is room for.
@@ -34,19 +35,19 @@ pub fn count_of(h: Head, table: Table) -> usize
     }
 }
 
-// Rows held.
-fn held_of(h: Head, table: Table) -> usize
+// The row count, capped at the table's capacity.
+fn capped_of(h: Head, table: Table) -> usize
     ensures { λ r. ⌜ r ≡ min (count table h) (capacity table) ⌝ }
 {
     match table {
-        Table::Creds => held(h.ncreds, CREDS),
-        Table::Aces => held(h.naces, ACES),
+        Table::Creds => capped(h.ncreds, CREDS),
+        Table::Aces => capped(h.naces, ACES),
     }
 }
 
-// The place of the first row of the table that has the key's bytes from `at` on.
+// The index of the first row of the table that has the key's bytes from `at` on.
 // Rules out: a later row; a row of the other table.
-pub fn place<'a>(
+pub fn index_by_key<'a>(
     h: Head,
     creds: &'a [u8; CRED_ROWS],
     aces: &'a [u8; ACE_ROWS],
@@ -54,15 +55,15 @@ pub fn place<'a>(
     at: usize,
     key: &[u8],
 ) -> Found
-    ensures { λ r. ⌜ r ≡ placeOf (hasKey at (was key)) (rows table (before h creds aces)) ⌝ }
+    ensures { λ r. ⌜ r ≡ indexOf (hasKey at (was key)) (rows table (before h creds aces)) ⌝ }
 {
     match table {
         Table::Creds => {
-            let count = held(h.ncreds, CREDS);
+            let count = capped(h.ncreds, CREDS);
             rows::find(creds, CRED_ROW, count, at, key)
         }
         Table::Aces => {
-            let count = held(h.naces, ACES);
+            let count = capped(h.naces, ACES);
             rows::find(aces, ACE_ROW, count, at, key)
         }
     }
@@ -82,8 +83,8 @@ pub fn may_be_none(key: Key) -> bool
 
 // Where in a row a key looks.
 // Rules out: a subject looked for in a row's number.
-pub fn key_place(key: Key) -> usize
-    ensures { λ r. ⌜ r ≡ keyPlace key ⌝ }
+pub fn key_offset(key: Key) -> usize
+    ensures { λ r. ⌜ r ≡ keyOffset key ⌝ }
 {
     match key {
         Key::All => 0,
@@ -104,7 +105,7 @@ pub fn key_bytes(key: Key, b: &[u8]) -> &[u8]
     }
 }
 
-// The place of the first row that the key, with the body, picks.
+// The index of the first row that the key, with the body, picks.
 // Rules out: a later row; a row of the other table.
 pub fn picked<'a>(
     h: Head,
@@ -114,12 +115,12 @@ pub fn picked<'a>(
     key: Key,
     b: &[u8],
 ) -> Found
-    ensures { λ r. ⌜ r ≡ placeOf (goes key (was b)) (rows table (before h creds aces)) ⌝ }
+    ensures { λ r. ⌜ r ≡ indexOf (goes key (was b)) (rows table (before h creds aces)) ⌝ }
 {
-    place(h, creds, aces, table, key_place(key), key_bytes(key, b))
+    index_by_key(h, creds, aces, table, key_offset(key), key_bytes(key, b))
 }
 
-// The places from the first row that the key picks to the last one held.
+// The rows from the first that the key picks to the last.
 fn gap<'a>(
     h: Head,
     creds: &'a [u8; CRED_ROWS],
@@ -135,13 +136,13 @@ fn gap<'a>(
     };
     StoreRange {
         first: first,
-        count: held_of(h, table) - first,
+        count: capped_of(h, table) - first,
     }
 }
 
-// The places to store after the action with this body: from the first deleted row to the last one held; everything else has none.
-// Rules out: places before the first row that goes; places for a row that is stored.
-pub fn places_of<'a>(
+// The rows to store after the action with this body: from the first deleted row to the last one before it; every other action has none.
+// Rules out: rows before the first one deleted; a range for a row that is stored.
+pub fn store_range_of<'a>(
     h: Head,
     creds: &'a [u8; CRED_ROWS],
     aces: &'a [u8; ACE_ROWS],

@@ -7,13 +7,14 @@ ghost use mathlib.Core.Path.{_≡_};
 ghost use mathlib.Core.List.{_++_};
 ghost use Prim.Native.Nat.{_+_, _*_, _≤_};
 ghost use lib.ListN.{length, drop, replicate};
+ghost use Rattle.rows.specs.Words.{was, became};
 ghost use Rattle.rows.specs.Rows.{rowsOf, packed, stored, without, withRow, hasKey};
 ghost use Rattle.rows.specs.Contracts.{withoutRow, IsTable};
 
 // Puts `row` over the first bytes of `bytes`.
 fn copy_over(bytes: &mut [u8], row: &[u8])
     requires { ⌜ length (now row) ≤ length (now bytes) ⌝ }
-    ensures { λ _. ⌜ now (bytes .exit) ≡ now (row .entry) ++ drop (length (now (row .entry))) (now (bytes .entry)) ⌝ }
+    ensures { λ _. ⌜ became bytes ≡ was row ++ drop (length (was row)) (was bytes) ⌝ }
 {
     let mut i = 0;
     while i < row.len() {
@@ -25,7 +26,7 @@ fn copy_over(bytes: &mut [u8], row: &[u8])
 // Sets each byte to 0: of a table, removes all rows.
 // Rules out: the last byte left; only the first row cleared.
 pub fn clear(bytes: &mut [u8])
-    ensures { λ _. ⌜ now (bytes .exit) ≡ replicate (length (now (bytes .entry))) 0 ⌝ }
+    ensures { λ _. ⌜ became bytes ≡ replicate (length (was bytes)) 0 ⌝ }
 {
     let mut i = 0;
     while i < bytes.len() {
@@ -37,7 +38,7 @@ pub fn clear(bytes: &mut [u8])
 // Takes the first `n` bytes out: the others move down, and `n` zeros stand at the end.
 fn shift_down(bytes: &mut [u8], n: usize)
     requires { ⌜ n ≤ length (now bytes) ⌝ }
-    ensures { λ _. ⌜ now (bytes .exit) ≡ drop n (now (bytes .entry)) ++ replicate n 0 ⌝ }
+    ensures { λ _. ⌜ became bytes ≡ drop n (was bytes) ++ replicate n 0 ⌝ }
 {
     let kept = bytes.len() - n;
     let mut i = 0;
@@ -49,35 +50,35 @@ fn shift_down(bytes: &mut [u8], n: usize)
 }
 
 // Puts `row` over row i.
-// Rules out: a byte of the next row written; a row put one place later.
+// Rules out: a byte of the next row written; a row put at the next index.
 pub fn put_row(rows: &mut [u8], stride: usize, i: usize, row: &[u8])
     requires { ⌜ (length (now row) ≡ stride) × (i * stride + stride ≤ length (now rows)) ⌝ }
-    ensures { λ _. ⌜ now (rows .exit) ≡ withRow stride i (now (row .entry)) (now (rows .entry)) ⌝ }
+    ensures { λ _. ⌜ became rows ≡ withRow stride i (was row) (was rows) ⌝ }
 {
     let at = i * stride;
     copy_over(&mut rows[at..], row);
 }
 
-// Takes row i out: the later rows move down one place.
+// Takes row i out: each later row moves down by one.
 // Rules out: the last row moved into the gap; a byte left after the rows.
 pub fn remove_row(rows: &mut [u8], stride: usize, i: usize)
     requires { ⌜ i * stride + stride ≤ length (now rows) ⌝ }
-    ensures { λ _. ⌜ now (rows .exit) ≡ withoutRow stride i (now (rows .entry)) ⌝ }
+    ensures { λ _. ⌜ became rows ≡ withoutRow stride i (was rows) ⌝ }
 {
     let at = i * stride;
     shift_down(&mut rows[at..], stride);
 }
 
-// Stores `row` in the place of the row with its number, else at the end. Returns the new count.
+// Stores `row` instead of the row with its number, else at the end. Returns the new count.
 // Rules out: a second row with the same number; a new row at the front.
 pub fn store(rows: &mut [u8], stride: usize, count: usize, row: &[u8]) -> usize
     requires { ⌜ IsTable stride count (now rows) ⌝ }
     requires { ⌜ (length (now row) ≡ stride) × (length (stored (now row) (rowsOf stride count (now rows))) * stride ≤ length (now rows)) ⌝ }
-    ensures { λ r. ⌜ r ≡ length (stored (now (row .entry)) (rowsOf stride count (now (rows .entry)))) ⌝ }
-    ensures { λ _. ⌜ now (rows .exit) ≡ packed (length (now (rows .entry))) (stored (now (row .entry)) (rowsOf stride count (now (rows .entry)))) ⌝ }
+    ensures { λ r. ⌜ r ≡ length (stored (was row) (rowsOf stride count (was rows))) ⌝ }
+    ensures { λ _. ⌜ became rows ≡ packed (length (was rows)) (stored (was row) (rowsOf stride count (was rows))) ⌝ }
 {
-    let place = find(rows, stride, count, 0, &row[..2]);
-    match place {
+    let found = find(rows, stride, count, 0, &row[..2]);
+    match found {
         Found::At(i) => {
             put_row(rows, stride, i, row);
             count
@@ -93,10 +94,10 @@ pub fn store(rows: &mut [u8], stride: usize, count: usize, row: &[u8]) -> usize
 // Rules out: the first match alone; the last row moved into the gap.
 pub fn remove(rows: &mut [u8], stride: usize, count: usize, at: usize, key: &[u8]) -> usize
     requires { ⌜ IsTable stride count (now rows) ⌝ }
-    ensures { λ r. ⌜ r ≡ length (without (hasKey at (now (key .entry))) (rowsOf stride count (now (rows .entry)))) ⌝ }
+    ensures { λ r. ⌜ r ≡ length (without (hasKey at (was key)) (rowsOf stride count (was rows))) ⌝ }
     ensures { λ _. ⌜
-        now (rows .exit)
-        ≡ packed (length (now (rows .entry))) (without (hasKey at (now (key .entry))) (rowsOf stride count (now (rows .entry)))) ⌝ }
+        became rows
+        ≡ packed (length (was rows)) (without (hasKey at (was key)) (rowsOf stride count (was rows))) ⌝ }
 {
     let mut n = count;
     let mut i = 0;

@@ -8,13 +8,14 @@ ghost use mathlib.Core.Bool.{false};
 ghost use mathlib.Core.List.{[]};
 ghost use Prim.Native.Nat.{_+_, _*_, _≤_};
 ghost use lib.ListN.{length, take, drop};
+ghost use Rattle.rows.specs.Words.{was};
 ghost use Rattle.rows.specs.Rows.{rowsOf, some, numberedAs, distinctNumbers, beforeRepeat};
 
 // Whether a row before row i has its number, where `seen` is false only if none of them has its low byte.
 fn again(seen: bool, rows: &[u8], stride: usize, i: usize) -> bool
     requires { ⌜ (2 ≤ stride) × (i * stride + stride ≤ length (now rows)) ⌝ }
     requires { ⌜ (seen ≡ false → some (numberedAs (take stride (drop (i * stride) (now rows)))) (rowsOf stride i (now rows)) ≡ false) ⌝ }
-    ensures { λ r. ⌜ r ≡ some (numberedAs (take stride (drop (i * stride) (now (rows .entry))))) (rowsOf stride i (now (rows .entry))) ⌝ }
+    ensures { λ r. ⌜ r ≡ some (numberedAs (take stride (drop (i * stride) (was rows)))) (rowsOf stride i (was rows)) ⌝ }
 {
     if !seen {
         return false;
@@ -32,7 +33,7 @@ fn again(seen: bool, rows: &[u8], stride: usize, i: usize) -> bool
 // Rules out: only neighbours compared; two numbers that share a low byte taken as one; the last of several that repeat.
 pub fn before_repeat(rows: &[u8], stride: usize, count: usize) -> usize
     requires { ⌜ (2 ≤ stride) × (count * stride ≤ length (now rows)) ⌝ }
-    ensures { λ r. ⌜ r ≡ beforeRepeat [] (rowsOf stride count (now (rows .entry))) ⌝ }
+    ensures { λ r. ⌜ r ≡ beforeRepeat [] (rowsOf stride count (was rows)) ⌝ }
 {
     let mut seen = [false; 256];
     let mut i = 0;
@@ -51,7 +52,7 @@ pub fn before_repeat(rows: &[u8], stride: usize, count: usize) -> usize
 // Rules out: a number that stands twice passed over; a table of no rows refused.
 pub fn distinct(rows: &[u8], stride: usize, count: usize) -> bool
     requires { ⌜ (2 ≤ stride) × (count * stride ≤ length (now rows)) ⌝ }
-    ensures { λ r. ⌜ r ≡ distinctNumbers (rowsOf stride count (now (rows .entry))) ⌝ }
+    ensures { λ r. ⌜ r ≡ distinctNumbers (rowsOf stride count (was rows)) ⌝ }
 {
     before_repeat(rows, stride, count) == count
 }

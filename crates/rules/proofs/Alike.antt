@@ -126,21 +126,21 @@ module _ (chosen : Sender → Bool) where
   -- ---- two tables
   module _ (s t : Tables) (e : redactedIn chosen s ≡ redactedIn chosen t) (hs : sound s ≡ true) (ht : sound t ≡ true) where
     -- what the hidden part does not change is the same in both
-    told-alike : {A : Type 0} (f g : List Row → A) → ((ws : List Row) → f (map (redacted chosen) ws) ≡ g ws) → g (rows Creds s) ≡ g (rows Creds t)
-    told-alike f g sees =
+    responses-alike : {A : Type 0} (f g : List Row → A) → ((ws : List Row) → f (map (redacted chosen) ws) ≡ g ws) → g (rows Creds s) ≡ g (rows Creds t)
+    responses-alike f g sees =
         sym (sees (rows Creds s)) ∙ ap f (sym (rows-hidden s hs) ∙ ap (rows Creds) e ∙ rows-hidden t ht) ∙ sees (rows Creds t)
 
     length-alike : length (rows Creds s) ≡ length (rows Creds t)
-    length-alike = told-alike length _ (λ ws. length-map ws (redacted chosen))
+    length-alike = responses-alike length _ (λ ws. length-map ws (redacted chosen))
 
     -- a test that sees the body alone
     module _ (p : Row → Bool) (sees : (w : Row) → p (redacted chosen w) ≡ p w) where
       some-alike : some p (rows Creds s) ≡ some p (rows Creds t)
-      some-alike = told-alike (some p) _ (some-map (redacted chosen) hidden-body p sees)
+      some-alike = responses-alike (some p) _ (some-map (redacted chosen) hidden-body p sees)
 
       gap-alike : gapOf p (rows Creds s) ≡ gapOf p (rows Creds t)
       unfolding gapOf
-      gap-alike = rw (some-alike, told-alike (rowsBefore p) _ (before-map (redacted chosen) hidden-body p sees), length-alike)
+      gap-alike = rw (some-alike, responses-alike (rowsBefore p) _ (before-map (redacted chosen) hidden-body p sees), length-alike)
 
     -- ---- what an action asks of the rows
     record ActionAlike (b : List ℕ) (a : Action) : Type 0 where
@@ -178,7 +178,7 @@ module _ (chosen : Sender → Bool) where
     module _ (r : List ℕ) (c : chosen (sender r) ≡ false) where
       own : senderRow s (sender r) ≡ senderRow t (sender r)
       own =
-          told-alike (λ ws. senderRowIn ws (sender r)) _
+          responses-alike (λ ws. senderRowIn ws (sender r)) _
           (λ ws. credential-maps (sender r) ws ∙ credential-other (sender r) (sender-small r) c ws)
 
       pub permission-alike : (clock : ℕ) → permission clock s r ≡ permission clock t r
@@ -195,7 +195,7 @@ module _ (chosen : Sender → Bool) where
       unfolding replyTo contents ownBody rowBytes rowOwner
       reply-alike =
           let r = q .bytes in
-          let bodies = told-alike (map bodyOf) (map bodyOf) (bodies-map (redacted chosen) hidden-body) in
+          let bodies = responses-alike (map bodyOf) (map bodyOf) (bodies-map (redacted chosen) hidden-body) in
           ap (λ (u : Tables). cond (reads (headerOf r)) (ownBody (headOf u) (resource r) ++ rowOwner (headOf u) (resource r) ++ rowBytes (q .clock) s (senderRow s (sender r)) (resource r)) []) e
           ∙ rw (bodies, ap (rows Aces) e, own r c)
 
@@ -225,7 +225,7 @@ module _ (chosen : Sender → Bool) where
     rows-alike f g maps x y =
         hidden-with s (g (rows Creds s)) x
         ∙ ap (λ (u : Tables). withRows Creds u (map (redacted chosen) (g (rows Creds s)))) e
-        ∙ ap (withRows Creds t) (told-alike f (λ ws. map (redacted chosen) (g ws)) (λ ws. sym (maps ws)))
+        ∙ ap (withRows Creds t) (responses-alike f (λ ws. map (redacted chosen) (g ws)) (λ ws. sym (maps ws)))
         ∙ sym (hidden-with t (g (rows Creds t)) y)
 
     stored-alike : (w : Row) → SoundRows Creds (stored w (rows Creds s)) → SoundRows Creds (stored w (rows Creds t))
@@ -273,12 +273,12 @@ module _ (chosen : Sender → Bool) where
 
     row-alike : (x : Sender) → isRow (senderRow s x) ≡ isRow (senderRow t x)
     row-alike x =
-        told-alike (λ ws. isRow (senderRowIn ws x)) _
+        responses-alike (λ ws. isRow (senderRowIn ws x)) _
         (λ ws. ap isRow (credential-maps x ws) ∙ ap (λ (n : ℕ). not (eqb n 0)) (hidden-length (senderRowIn ws x)))
 
     subject-alike : (x : Sender) → credSubject (senderRow s x) ≡ credSubject (senderRow t x)
     subject-alike x =
-        told-alike (λ ws. credSubject (senderRowIn ws x)) _
+        responses-alike (λ ws. credSubject (senderRowIn ws x)) _
         (λ ws. ap credSubject (credential-maps x ws) ∙ part-same (redacted chosen) hidden-body 2 16 (omega arith) (senderRowIn ws x))
 
     pub harmless-alike : Harmless chosen t → Harmless chosen s

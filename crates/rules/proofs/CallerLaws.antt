@@ -1,8 +1,8 @@
 -- What code finds once for a record is the record's own: the sender's row, and the checks 2 to 7.
 use Rattle.rows.proofs.Prelude.{_≡_, refl, sym, ap, _∙_, Bool, not, List, [], _∷_, _++_, ℕ, length}
 use Rattle.rows.specs.Rows.{Row}
-use Rattle.rows.specs.Contracts.{placeOf, rowAt}
-use Rattle.rows.proofs.Laws.{some-place, found-cases, first-at}
+use Rattle.rows.specs.Contracts.{indexOf, rowAt}
+use Rattle.rows.proofs.Laws.{some-index, found-cases, first-at}
 use Rattle.rules.specs.declared.Tables.{Tables}
 use Rattle.rules.specs.declared.Table.the-variants.{Creds}
 use Rattle.rules.specs.declared.Sender.{Sender}
@@ -11,11 +11,11 @@ use Rattle.rules.specs.Record.{headerOf, sender}
 use Rattle.rules.specs.Tables.{rows}
 use Rattle.rules.specs.Permission.{numbered, senderRowIn, senderRow}
 use Rattle.rules.specs.Checks.{noRow, noCredential}
-use Rattle.rules.specs.Groups.{headerChecks, senderChecks}
-use Rattle.rules.specs.Callers.{placeFor, callerOf, callerRow, lacksRow, callerChecks}
+use Rattle.rules.specs.Contracts.Groups.{headerChecks, senderChecks}
+use Rattle.rules.specs.Contracts.Callers.{indexFor, callerOf, callerRow, lacksRow, callerChecks}
 
 -- the row at the sender's place is its own
-pub row-for : (ws : List Row) (s : Sender) → rowAt (placeFor ws s) ws ≡ senderRowIn ws s
+pub row-for : (ws : List Row) (s : Sender) → rowAt (indexFor ws s) ws ≡ senderRowIn ws s
 row-for ws Unauthenticated = refl
 row-for ws (Partner n) = sym (first-at (numbered n) ws)
 
@@ -23,12 +23,12 @@ pub caller-row : (t : Tables) (r : List ℕ) → callerRow t (callerOf (rows Cre
 caller-row t r = row-for (rows Creds t) (sender r)
 
 -- a partner has a row exactly where it has a place
-no-row-lacks : (ws : List Row) (s : Sender) → lacksRow s (placeFor ws s) ≡ noRow ws s
+no-row-lacks : (ws : List Row) (s : Sender) → lacksRow s (indexFor ws s) ≡ noRow ws s
 no-row-lacks ws Unauthenticated = refl
 no-row-lacks ws (Partner n) =
-    found-cases (placeOf (numbered n) ws)
-    (λ i e. rw (e, some-place 0 (numbered n) ws, e))
-    (λ e. rw (e, some-place 0 (numbered n) ws, e))
+    found-cases (indexOf (numbered n) ws)
+    (λ i e. rw (e, some-index 0 (numbered n) ws, e))
+    (λ e. rw (e, some-index 0 (numbered n) ws, e))
 
 pub caller-checks : (ws : List Row) (r : List ℕ) → callerChecks (length r) (callerOf ws r) ≡ senderChecks ws r
 unfolding noCredential

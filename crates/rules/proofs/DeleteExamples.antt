@@ -37,17 +37,17 @@ subject-answers = refl
 
 -- ---- places (U4): of the same deletes, of one row by its number, of all rows, of all rows of an empty table, and of a row that is not there
 
-pub at-places : ℕ → ℕ → StoreRange
-at-places first count = record { first = first; count = count }
+pub store-range : ℕ → ℕ → StoreRange
+store-range first count = record { first = first; count = count }
 
-pub places-told :
-    responseTo noDefaults several (deletes (replicate 16 0x22)) .places
-    ∷ responseTo noDefaults several (deletes (0x00 ∷ 0x04 ∷ [])) .places
-    ∷ responseTo noDefaults several (deletes (0x00 ∷ 0x06 ∷ [])) .places
-    ∷ responseTo noDefaults several (deletes []) .places
-    ∷ responseTo noDefaults several (lent (0x70 ∷ 0xc0 ∷ 0x00 ∷ 0x05 ∷ [])) .places
-    ∷ responseTo noDefaults several (deletes (0x00 ∷ 0x09 ∷ [])) .places
+pub ranges-given :
+    responseTo noDefaults several (deletes (replicate 16 0x22)) .store
+    ∷ responseTo noDefaults several (deletes (0x00 ∷ 0x04 ∷ [])) .store
+    ∷ responseTo noDefaults several (deletes (0x00 ∷ 0x06 ∷ [])) .store
+    ∷ responseTo noDefaults several (deletes []) .store
+    ∷ responseTo noDefaults several (lent (0x70 ∷ 0xc0 ∷ 0x00 ∷ 0x05 ∷ [])) .store
+    ∷ responseTo noDefaults several (deletes (0x00 ∷ 0x09 ∷ [])) .store
     ∷ []
-    ≡ at-places 0 4 ∷ at-places 2 2 ∷ at-places 3 1 ∷ at-places 0 4 ∷ noRange ∷ noRange ∷ []
-unfolding samples several deletes at-places
-places-told = refl
+    ≡ store-range 0 4 ∷ store-range 2 2 ∷ store-range 3 1 ∷ store-range 0 4 ∷ noRange ∷ noRange ∷ []
+unfolding samples several deletes store-range
+ranges-given = refl

@@ -16,7 +16,8 @@ use Rattle.rules.specs.Record.{Request, verb, resource, body}
 use Rattle.rules.specs.Tables.{rows, withRows, sound}
 use Rattle.rules.specs.Defaults.{Defaults}
 use Rattle.rules.specs.Action.{deleteAction, securityAction, action, actionOf}
-use Rattle.rules.specs.StoreRange.{noRange, gapOf, storeRangeOf, deletes}
+use Rattle.rules.specs.StoreRange.{noRange, gapOf, storeRangeOf}
+use Rattle.rules.specs.Contracts.Theorems.{deletes}
 use Rattle.rules.specs.Permission.{permission}
 use Rattle.rules.specs.Checks.{checks, isMalformed, missing}
 use Rattle.rules.specs.Outcome.{Outcome, effectBy, responseTo, tablesAfter}
@@ -63,7 +64,7 @@ module _ (d : Defaults) (t : Tables) (q : Request) (k : Table) where
     pub sound : sound t ≡ true
     pub none : some (goes key (body (q .bytes))) (rows k t) ≡ false → rows k t ≡ []
     pub tables : tablesAfter d t q ≡ withRows k t (without (goes key (body (q .bytes))) (rows k t))
-    pub places : responseTo d t q .places ≡ gapOf (goes key (body (q .bytes))) (rows k t)
+    pub store : responseTo d t q .store ≡ gapOf (goes key (body (q .bytes))) (rows k t)
 
   pub deleted : deletes k (q .bytes) ≡ true → responseTo d t q .answer ≡ 0 → Deleted
   deleted h z =
@@ -80,7 +81,7 @@ module _ (d : Defaults) (t : Tables) (q : Request) (k : Table) where
         sound = not-false (sound t) (passed (checks t p q) e 1);
         none = found k (m .0) t (body r) (ap (missing t (body r)) (sym a) ∙ passed (checks t p q) e 13);
         tables = ap (λ (x : Outcome). x .tables) o ∙ ap (effectBy d t q) a;
-        places = ap (λ (x : Outcome). x .response .places) o ∙ ap (storeRangeOf t (body r)) a;
+        store = ap (λ (x : Outcome). x .response .store) o ∙ ap (storeRangeOf t (body r)) a;
       }
 
 -- ---- any other

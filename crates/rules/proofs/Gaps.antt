@@ -17,7 +17,8 @@ use Rattle.rules.specs.Bits.{be16}
 use Rattle.rules.specs.Bodies.{rowNumber, credStorable, aceStorable}
 use Rattle.rules.specs.Roles.{bodyOf}
 use Rattle.rules.specs.Tables.{headOf, stride, capacity, storable, count, bytes, rows, withRows, sound, tableSize}
-use Rattle.rules.specs.StoreRange.{gapOf, overwritten}
+use Rattle.rules.specs.StoreRange.{gapOf}
+use Rattle.rules.specs.Contracts.Theorems.{overwritten}
 use Rattle.rules.proofs.Answers.{table-parts, rows-are}
 use Rattle.rules.proofs.BodyLaws.{sized, two-long}
 use Rattle.rules.proofs.TableLaws.{table-is, few-rows}
@@ -53,8 +54,8 @@ pub with-count : (k : Table) (t : Tables) (ws : List Row) → count k (headOf (w
 with-count Creds t ws = refl
 with-count Aces t ws = refl
 
-place-fits : (k : Table) (i : ℕ) → i < capacity k → i * stride k + stride k ≤ tableSize k
-place-fits k i h = omega (arith, suc-mul i (stride k), mul-le-mul-right (stride k) h)
+slot-fits : (k : Table) (i : ℕ) → i < capacity k → i * stride k + stride k ≤ tableSize k
+slot-fits k i h = omega (arith, suc-mul i (stride k), mul-le-mul-right (stride k) h)
 
 -- where no other byte changes, the old bytes with the places overwritten are the new ones
 overwritten-is : (s : ℕ) (p : StoreRange) (old new : List ℕ)
@@ -89,17 +90,17 @@ module _ (k : Table) (t : Tables) (goes : Row → Bool) (h : sound t ≡ true) (
   as-packed f e = ap f stand ∙ e ∙ ap f (sym stands)
 
   -- each reported place holds another row number than before
-  pub places-changed : (i : ℕ) → gapOf goes (rows k t) .first ≤ i → i < gapOf goes (rows k t) .first + gapOf goes (rows k t) .count
+  pub rows-changed : (i : ℕ) → gapOf goes (rows k t) .first ≤ i → i < gapOf goes (rows k t) .first + gapOf goes (rows k t) .count
       → numberAt (stride k) i (bytes k after) ≡ numberAt (stride k) i (bytes k t) → ⊥
   unfolding gapOf
-  places-changed i f m e =
+  rows-changed i f m e =
       bool-cases (some goes (rows k t))
       (λ s.
       let first = rw s at f in
       let n : i < length (rows k t) = omega (arith, rw s at m, gap.before-all goes (rows k t)) in
       gap.gap-changed goes (stride k) (tableSize k) (rows k t) (two-long k) long
       long′ i (table-parts k t h .distinct) (numbered k (rows k t) (table-parts k t h .stores))
-      (place-fits k i (omega (arith, few-rows k t h))) first n (ap (numberAt (stride k) i) (sym stand) ∙ e ∙ ap (numberAt (stride k) i) stands))
+      (slot-fits k i (omega (arith, few-rows k t h))) first n (ap (numberAt (stride k) i) (sym stand) ∙ e ∙ ap (numberAt (stride k) i) stands))
       (λ s. omega (arith, rw s at m))
 
   -- where no row goes, the bytes are the same
@@ -107,31 +108,31 @@ module _ (k : Table) (t : Tables) (goes : Row → Bool) (h : sound t ≡ true) (
   none-same e = stand ∙ ap (packed (tableSize k)) (gap.none-goes goes (rows k t) e) ∙ sym stands
 
   -- no other place does: before the first
-  pub places-before : (i : ℕ) → i < gapOf goes (rows k t) .first → numberAt (stride k) i (bytes k after) ≡ numberAt (stride k) i (bytes k t)
+  pub numbers-before : (i : ℕ) → i < gapOf goes (rows k t) .first → numberAt (stride k) i (bytes k after) ≡ numberAt (stride k) i (bytes k t)
   unfolding gapOf
-  places-before i m =
+  numbers-before i m =
       bool-cases (some goes (rows k t))
       (λ s. as-packed (numberAt (stride k) i)
       (gap.gap-before goes (stride k) (tableSize k) (rows k t) (two-long k) long long′ i (gap.before-all goes (rows k t)) (rw s at m)))
       (λ s. absurd (omega (arith, rw s at m)))
 
   -- nor after the last
-  pub places-after : (i : ℕ) → gapOf goes (rows k t) .first + gapOf goes (rows k t) .count ≤ i → i < capacity k
+  pub numbers-after : (i : ℕ) → gapOf goes (rows k t) .first + gapOf goes (rows k t) .count ≤ i → i < capacity k
       → numberAt (stride k) i (bytes k after) ≡ numberAt (stride k) i (bytes k t)
   unfolding gapOf
-  places-after i m c =
+  numbers-after i m c =
       bool-cases (some goes (rows k t))
       (λ s. as-packed (numberAt (stride k) i)
       (gap.gap-after goes (stride k) (tableSize k) (rows k t) (two-long k) long long′ i
-      (length-without goes (rows k t)) (omega (arith, rw s at m, gap.before-all goes (rows k t))) (place-fits k i c)))
+      (length-without goes (rows k t)) (omega (arith, rw s at m, gap.before-all goes (rows k t))) (slot-fits k i c)))
       (λ s. ap (numberAt (stride k) i) (none-same s))
 
   -- an unused place has number 0
-  pub places-unused : (i : ℕ) → count k (headOf after) ≤ i → i < capacity k → numberAt (stride k) i (bytes k after) ≡ 0 ∷ 0 ∷ []
-  places-unused i m c =
+  pub numbers-unused : (i : ℕ) → count k (headOf after) ≤ i → i < capacity k → numberAt (stride k) i (bytes k after) ≡ 0 ∷ 0 ∷ []
+  numbers-unused i m c =
       rw stand
       (gap.number-unused (stride k) (tableSize k) i (without goes (rows k t)) long′ (two-long k)
-      (omega (arith, with-count k t (without goes (rows k t)))) (place-fits k i c))
+      (omega (arith, with-count k t (without goes (rows k t)))) (slot-fits k i c))
 
   -- and no byte of a row before the first is written
   pub bytes-kept : take (gapOf goes (rows k t) .first * stride k) (bytes k after) ≡ take (gapOf goes (rows k t) .first * stride k) (bytes k t)

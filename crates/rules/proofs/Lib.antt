@@ -15,7 +15,7 @@ pub mod Refusals
 pub mod Simulation
 pub mod PermissionLaws
 pub mod RoleLaws
-pub mod RolePlaces
+pub mod RoleSlots
 pub mod RowMaps
 pub mod OwnRow
 pub mod SoundKept

@@ -11,7 +11,7 @@ use Rattle.rules.specs.Bits.{be16}
 use Rattle.rules.specs.declared.Sender.the-variants.{Partner}
 use Rattle.rules.specs.Record.{headerOf, sender, connection, credential, body}
 use Rattle.rules.specs.Bodies.{rowNumber}
-use Rattle.rules.specs.Roles.{credHeld, asserted}
+use Rattle.rules.specs.Roles.{credSound, asserted}
 use Rattle.rules.specs.Tables.{rows, sound}
 use Rattle.rules.specs.Permission.{numbered, senderRow}
 use Rattle.rules.specs.Checks.{badLength, noRow, noCredential}
@@ -75,7 +75,7 @@ module _ (t : Tables) (r : List ℕ) (h : sound t ≡ true) (a : Asserts t r) wh
   own-is : senderRow t (sender r) ≡ firstRow (numbered (a .number)) (rows Creds t)
   own-is = ap (senderRow t) (a .is)
 
-  pub own-storable : credHeld (senderRow t (sender r)) ≡ true
+  pub own-storable : credSound (senderRow t (sender r)) ≡ true
   own-storable = rw own-is (first-every (numbered (a .number)) _ (rows Creds t) (a .held) (table-parts Creds t h .stores))
 
   pub own-held : Held (senderRow t (sender r))

@@ -13,7 +13,8 @@ use Rattle.rules.specs.declared.Sender.the-variants.{Unauthenticated, Pa
 use Rattle.rules.specs.Bodies.{aceKind, inSet}
 use Rattle.rules.specs.Tables.{headOf, rows}
 use Rattle.rules.specs.Permission.{has, isRow, senderRow, connectionOf, roleFits, subjectIs, subjectFits, resourceFits}
-use Rattle.rules.specs.Permission.{inForce, rowFits, grants, isOwner, byOwner, byNoOwner, byRoles, effectiveOf, effective}
+use Rattle.rules.specs.Permission.{inForce, rowFits, grants, isOwner, byOwner, byNoOwner, byRoles, effectiveOf}
+use Rattle.rules.specs.Contracts.Theorems.{effective}
 use Rattle.rules.specs.Isolation.{Harmless, alters, namesOwner, rowAlters, mayFit, mayAlter}
 use Rattle.rules.proofs.BodyLaws.{security-number}
 

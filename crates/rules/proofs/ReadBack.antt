@@ -16,7 +16,8 @@ use Rattle.rules.specs.Tables.{headOf, stride, longest, storable, rowOf,
 use Rattle.rules.specs.Bodies.{credRowOf, aceRowOf}
 use Rattle.rules.specs.Roles.{bodyOf, withoutRoles, rolesInForce}
 use Rattle.rules.specs.Permission.{senderRow}
-use Rattle.rules.specs.Reading.{ownBody, rowBytes, contents, reads, replyTo, replyOf, tooShort, holder, bare, rowsOfReply, longestReply}
+use Rattle.rules.specs.Reading.{ownBody, rowBytes, contents, reads, replyTo, replyOf, tooShort, longestReply}
+use Rattle.rules.specs.Contracts.Theorems.{holder, bare, rowsOfReply}
 use Rattle.rules.proofs.Answers.{table-parts}
 use Rattle.rules.proofs.BodyLaws.{sized, positive}
 use Rattle.rules.proofs.TableLaws.{few-rows}

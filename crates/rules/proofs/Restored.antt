@@ -15,13 +15,15 @@ use Rattle.rules.specs.Record.{Request, resource, sender}
 use Rattle.rules.specs.Roles.{withoutRoles, bodyOf}
 use Rattle.rules.specs.Tables.{headOf, headSound, longest, storable, rowOf, count, rows, rowOwner, sound}
 use Rattle.rules.specs.Defaults.{Defaults}
-use Rattle.rules.specs.Permission.{U, has, senderRow, byOwner, byNoOwner, effective, permission, permissionOf}
+use Rattle.rules.specs.Permission.{U, has, senderRow, byOwner, byNoOwner, permission, permissionOf}
+use Rattle.rules.specs.Contracts.Theorems.{effective}
 use Rattle.rules.specs.States.{writeAllowed}
-use Rattle.rules.specs.Reading.{contents, reads, replyTo, holder, bare, rowsOfReply}
+use Rattle.rules.specs.Reading.{contents, reads, replyTo}
+use Rattle.rules.specs.Contracts.Theorems.{holder, bare, rowsOfReply}
 use Rattle.rules.specs.Checks.{badLength, noVerb, zeroBitSet, mismatch, unknownResource, noCredential, checks, verdict}
-use Rattle.rules.specs.Groups.{senderChecks}
+use Rattle.rules.specs.Contracts.Groups.{senderChecks}
 use Rattle.rules.specs.Outcome.{Outcome, responseTo}
-use Rattle.rules.specs.Storing.{Retrieves, TakesRows, MayStore, AllMayStore, inClear, AllStored}
+use Rattle.rules.specs.Contracts.Storing.{Retrieves, TakesRows, MayStore, AllMayStore, inClear, AllStored}
 use Rattle.rules.proofs.Answers.{passed, table-parts}
 use Rattle.rules.proofs.BodyLaws.{sized}
 use Rattle.rules.proofs.TableLaws.{few-rows}

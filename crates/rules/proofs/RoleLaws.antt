@@ -9,8 +9,8 @@ use Rattle.rows.proofs.Kept.{AllLong, length-joined, length-packed, same-true, 
 use Rattle.rules.specs.Bits.{bit, bits}
 use Rattle.rules.specs.Bodies.{credStorable}
 use Rattle.rules.specs.Roles.{noRole, free, sameRole, distinctRoles, unasserted, bodyOf, rolesOf, rolesInForce}
-use Rattle.rules.specs.Roles.{rolesSound, credHeld, withoutRoles, withRole, bothTaken, asserted}
-use Rattle.rules.specs.Sizes.{credBodySize, rolePlaceSize, rolePlaces, rolesSize, credRowSize}
+use Rattle.rules.specs.Roles.{rolesSound, credSound, withoutRoles, withRole, bothTaken, asserted}
+use Rattle.rules.specs.Sizes.{credBodySize, roleSlotSize, roleSlots, rolesSize, credRowSize}
 
 -- the parts of a credential row
 pub record Held (w : Row) : Type 0 where
@@ -18,8 +18,8 @@ pub record Held (w : Row) : Type 0 where
   pub body : credStorable (bodyOf w) ≡ true
   pub roles : rolesSound w ≡ true
 
-pub held-parts : (w : Row) → credHeld w ≡ true → Held w
-unfolding credHeld
+pub held-parts : (w : Row) → credSound w ≡ true → Held w
+unfolding credSound
 held-parts w h = record {
   long = eqb-true (length w) credRowSize (search (and-left, and-right));
   body = search (and-left, and-right);
@@ -32,7 +32,7 @@ body-long w l = length-take-le credBodySize w (omega arith)
 -- ---- roles that stand in the places of one row
 
 abbrev Role : Row → Type 0
-Role p = (length p ≡ rolePlaceSize) × (noRole p ≡ false)
+Role p = (length p ≡ roleSlotSize) × (noRole p ≡ false)
 
 -- at most two, and different ones
 abbrev pub Few : List Row → Type 0
@@ -42,19 +42,19 @@ Few (p ∷ q ∷ []) = Role p × Role q × (sameRole p q ≡ false)
 Few (p ∷ q ∷ r ∷ ps) = ⊥
 
 -- the place that begins the bytes, where it is not free
-place-role : (clock : ℕ) (x : List ℕ) → rolePlaceSize ≤ length x → free clock (take rolePlaceSize x) ≡ false → Role (take rolePlaceSize x)
+slot-role : (clock : ℕ) (x : List ℕ) → roleSlotSize ≤ length x → free clock (take roleSlotSize x) ≡ false → Role (take roleSlotSize x)
 unfolding free
-place-role clock x l e = (length-take-le rolePlaceSize x l, or-left (noRole (take rolePlaceSize x)) _ e)
+slot-role clock x l e = (length-take-le roleSlotSize x l, or-left (noRole (take roleSlotSize x)) _ e)
 
 pub few-in-force : (clock : ℕ) (w : Row) → Held w → Few (rolesInForce clock w)
 unfolding rolesInForce rolesSound rowsOf without distinctRoles some
 few-in-force clock w h =
     let x = drop credBodySize w in
-    let p = take rolePlaceSize x in
-    let q = take rolePlaceSize (drop rolePlaceSize x) in
+    let p = take roleSlotSize x in
+    let q = take roleSlotSize (drop roleSlotSize x) in
     let l : length x ≡ rolesSize = rw (length-drop, h .long) in
-    let first = place-role clock x (omega (arith, l)) in
-    let second = place-role clock (drop rolePlaceSize x) (rw (length-drop, l) (omega arith)) in
+    let first = slot-role clock x (omega (arith, l)) in
+    let second = slot-role clock (drop roleSlotSize x) (rw (length-drop, l) (omega arith)) in
     bool-cases (free clock p)
     (λ e. bool-cases (free clock q) (λ f. rw (e, f) tt) (λ f. rw (e, f) (second f)))
     (λ e. bool-cases (free clock q) (λ f. rw (e, f) (first e))
@@ -76,7 +76,7 @@ pub in-force-short : (clock : ℕ) (w : Row) → length (joined (rolesInForce cl
 unfolding rolesInForce
 in-force-short clock w =
     let x = drop credBodySize w in
-    let all : length (joined (rolesOf w)) ≤ rolesSize = rw (joined-rowsOf rolePlaceSize rolePlaces x, length-take) (omega arith) in
+    let all : length (joined (rolesOf w)) ≤ rolesSize = rw (joined-rowsOf roleSlotSize roleSlots x, length-take) (omega arith) in
     omega (arith, all, without-short (free clock) (rolesOf w))
 
 same-swap : (p q : Row) → sameRole p q ≡ sameRole q p
@@ -89,7 +89,7 @@ unfolding sameRole
 same-as p q new e f = ap (λ (k : List ℕ). same (take 4 q) k) (sym (same-true (take 4 p) (take 4 new) e)) ∙ f
 
 -- a role more, where there is a place
-pub few-with-role : (new : Row) → length new ≡ rolePlaceSize → noRole new ≡ false → (ps : List Row) → Few ps → bothTaken new ps ≡ false → Few (withRole new ps)
+pub few-with-role : (new : Row) → length new ≡ roleSlotSize → noRole new ≡ false → (ps : List Row) → Few ps → bothTaken new ps ≡ false → Few (withRole new ps)
 unfolding withRole bothTaken some
 few-with-role new l v [] f n = (l, v)
 few-with-role new l v (p ∷ []) f n = bool-cases (sameRole new p) (λ e. rw e (l, v)) (λ e. rw e (f, (l, v), same-swap p new ∙ e))
@@ -100,26 +100,26 @@ few-with-role new l v (p ∷ q ∷ r ∷ ps) f n = absurd f
 
 -- ---- the bytes of such roles
 
-few-long : (ps : List Row) → Few ps → AllLong rolePlaceSize ps × (length ps ≤ rolePlaces)
+few-long : (ps : List Row) → Few ps → AllLong roleSlotSize ps × (length ps ≤ roleSlots)
 few-long [] f = (tt, omega arith)
 few-long (p ∷ []) f = ((f .0, tt), omega arith)
 few-long (p ∷ q ∷ []) f = ((f .0 .0, (f .1 .0, tt)), omega arith)
 few-long (p ∷ q ∷ r ∷ ps) f = absurd f
 
 -- the places, by their own bytes
-abbrev pub placesIn : List ℕ → List Row
-placesIn x = rowsOf rolePlaceSize rolePlaces x
+abbrev pub slotsIn : List ℕ → List Row
+slotsIn x = rowsOf roleSlotSize roleSlots x
 
 -- in places that hold such roles, zeros stand behind them alone
-pub few-places : (f : Row → Bool) → f (replicate rolePlaceSize 0) ≡ true → (ps : List Row) → Few ps → without f (placesIn (packed rolesSize ps)) ≡ without f ps
+pub few-slots : (f : Row → Bool) → f (replicate roleSlotSize 0) ≡ true → (ps : List Row) → Few ps → without f (slotsIn (packed rolesSize ps)) ≡ without f ps
 unfolding packed joined rowsOf without
-few-places f z [] g = rw z
-few-places f z (p ∷ []) g =
-    rw (append-nil, g .0, take-at p (replicate rolePlaceSize 0) rolePlaceSize (g .0), drop-at p (replicate rolePlaceSize 0) rolePlaceSize (g .0), z)
-few-places f z (p ∷ q ∷ []) (g, h, d) =
-    let last = take-all rolePlaceSize q (omega (arith, h .0)) in
-    rw (append-nil q, length-append, g .0, h .0, append-nil, take-at p q rolePlaceSize (g .0), drop-at p q rolePlaceSize (g .0), last)
-few-places f z (p ∷ q ∷ r ∷ ps) g = absurd g
+few-slots f z [] g = rw z
+few-slots f z (p ∷ []) g =
+    rw (append-nil, g .0, take-at p (replicate roleSlotSize 0) roleSlotSize (g .0), drop-at p (replicate roleSlotSize 0) roleSlotSize (g .0), z)
+few-slots f z (p ∷ q ∷ []) (g, h, d) =
+    let last = take-all roleSlotSize q (omega (arith, h .0)) in
+    rw (append-nil q, length-append, g .0, h .0, append-nil, take-at p q roleSlotSize (g .0), drop-at p q roleSlotSize (g .0), last)
+few-slots f z (p ∷ q ∷ r ∷ ps) g = absurd g
 
 few-there : (ps : List Row) → Few ps → without noRole ps ≡ ps
 unfolding without
@@ -135,19 +135,19 @@ few-distinct (p ∷ []) f = refl
 few-distinct (p ∷ q ∷ []) (f, g, d) = rw d
 few-distinct (p ∷ q ∷ r ∷ ps) f = absurd f
 
-pub no-role-zeros : noRole (replicate rolePlaceSize 0) ≡ true
+pub no-role-zeros : noRole (replicate roleSlotSize 0) ≡ true
 unfolding noRole bits bit
 no-role-zeros = refl
 
 -- the test of the places, on their own bytes
-unfoldable soundPlaces : List ℕ → Bool
-soundPlaces x =
-    let held = without noRole (placesIn x) in
+unfoldable soundSlots : List ℕ → Bool
+soundSlots x =
+    let held = without noRole (slotsIn x) in
     same x (packed rolesSize held) && distinctRoles held
 
-sound-few : (ps : List Row) → Few ps → soundPlaces (packed rolesSize ps) ≡ true
-unfolding soundPlaces
-sound-few ps f = rw (few-places noRole no-role-zeros ps f, few-there ps f, same-refl (packed rolesSize ps)) (few-distinct ps f)
+sound-few : (ps : List Row) → Few ps → soundSlots (packed rolesSize ps) ≡ true
+unfolding soundSlots
+sound-few ps f = rw (few-slots noRole no-role-zeros ps f, few-there ps f, same-refl (packed rolesSize ps)) (few-distinct ps f)
 
 -- ---- the row with these roles in its places
 
@@ -155,11 +155,11 @@ module _ (h : List ℕ) (l : length h ≡ credBodySize) (x : List ℕ) where
   pub body-is : bodyOf (h ++ x) ≡ h
   body-is = take-at h x credBodySize l
 
-  sound-is : rolesSound (h ++ x) ≡ soundPlaces x
-  unfolding rolesSound soundPlaces
-  sound-is = ap soundPlaces (drop-at h x credBodySize l)
+  sound-is : rolesSound (h ++ x) ≡ soundSlots x
+  unfolding rolesSound soundSlots
+  sound-is = ap soundSlots (drop-at h x credBodySize l)
 
-  held-with : credStorable h ≡ true → length x ≡ rolesSize → soundPlaces x ≡ true → Held (h ++ x)
+  held-with : credStorable h ≡ true → length x ≡ rolesSize → soundSlots x ≡ true → Held (h ++ x)
   held-with c m s = record { long = rw (length-append, l) (omega arith); body = rw body-is c; roles = sound-is ∙ s }
 
 -- ---- a role is asserted
@@ -169,7 +169,7 @@ module _ (clock : ℕ) (b : List ℕ) (w : Row) (p : Held w) where
   unfolding asserted
   asserted-body = body-is (bodyOf w) (body-long w (p .long)) (packed rolesSize (withRole b (rolesInForce clock w)))
 
-  module _ (l : length b ≡ rolePlaceSize) (v : noRole b ≡ false) (n : bothTaken b (rolesInForce clock w) ≡ false) where
+  module _ (l : length b ≡ roleSlotSize) (v : noRole b ≡ false) (n : bothTaken b (rolesInForce clock w) ≡ false) where
     few : Few (withRole b (rolesInForce clock w))
     few = few-with-role b l v (rolesInForce clock w) (few-in-force clock w p) n
 
@@ -177,7 +177,7 @@ module _ (clock : ℕ) (b : List ℕ) (w : Row) (p : Held w) where
     pub asserted-short : length (joined (withRole b (rolesInForce clock w))) ≤ rolesSize
     asserted-short =
         let x = few-long (withRole b (rolesInForce clock w)) few in
-        omega (arith, length-joined rolePlaceSize (withRole b (rolesInForce clock w)) (x .0), x .1)
+        omega (arith, length-joined roleSlotSize (withRole b (rolesInForce clock w)) (x .0), x .1)
 
     pub asserted-held : Held (asserted clock b w)
     unfolding asserted
@@ -185,10 +185,10 @@ module _ (clock : ℕ) (b : List ℕ) (w : Row) (p : Held w) where
         let roles = withRole b (rolesInForce clock w) in
         let x = few-long roles few in
         held-with (bodyOf w) (body-long w (p .long)) (packed rolesSize roles) (p .body)
-        (length-packed rolePlaceSize rolesSize roles (x .0) (omega (arith, x .1))) (sound-few roles few)
+        (length-packed roleSlotSize rolesSize roles (x .0) (omega (arith, x .1))) (sound-few roles few)
 
-    pub asserted-storable : credHeld (asserted clock b w) ≡ true
-    unfolding credHeld
+    pub asserted-storable : credSound (asserted clock b w) ≡ true
+    unfolding credSound
     asserted-storable =
         and-both _ _ (and-both _ _ (eq-eqb (length (asserted clock b w)) credRowSize (asserted-held .long)) (asserted-held .body)) (asserted-held .roles)
 
@@ -198,8 +198,8 @@ module _ (clock : ℕ) (b : List ℕ) (w : Row) (p : Held w) where
     asserted-without = rw (asserted-body, asserted-held .long, p .long)
 
 -- the row that a body is may be held exactly where the body is allowed
-pub unasserted-is : (b : List ℕ) → length b ≡ credBodySize → credHeld (unasserted b) ≡ credStorable b
-unfolding credHeld packed joined
+pub unasserted-is : (b : List ℕ) → length b ≡ credBodySize → credSound (unasserted b) ≡ credStorable b
+unfolding credSound packed joined
 unasserted-is b l =
     let long : length (unasserted b) ≡ credRowSize = rw (length-append, l) in
     rw (eq-eqb (length (unasserted b)) credRowSize long, body-is b l (replicate rolesSize 0), sound-is b l (replicate rolesSize 0) ∙ sound-few [] tt) (and-true (credStorable b))

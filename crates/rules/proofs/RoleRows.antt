@@ -19,26 +19,26 @@ use Rattle.rules.specs.Permission.{permission, numbered, senderRow}
 use Rattle.rules.specs.Action.{ifAllowed, updateRoles, updateAction, securityAction, actionOf, action}
 use Rattle.rules.specs.Reading.{replyOf, reads}
 use Rattle.rules.specs.Checks.{checks, verdict, numberOf, isMalformed}
-use Rattle.rules.specs.Groups.{rowChecks, capacityChecks}
+use Rattle.rules.specs.Contracts.Groups.{rowChecks, capacityChecks}
 use Rattle.rules.specs.Outcome.{Outcome, effectBy, responseTo, tablesAfter}
 use Rattle.rules.proofs.Answers.{passed, table-parts, no-reply-fits}
 use Rattle.rules.proofs.CheckLaws.{skip-all}
 use Rattle.rules.proofs.TableLaws.{rows-with}
-use Rattle.rules.proofs.RoleLaws.{Held, body-long, few-in-force, few-with-role, placesIn, few-places, asserted-body}
+use Rattle.rules.proofs.RoleLaws.{Held, body-long, few-in-force, few-with-role, slotsIn, few-slots, asserted-body}
 use Rattle.rules.proofs.OwnRow.{asserts, own-held, own-two, asserted-two, asserted-number}
 use Rattle.rules.proofs.SoundKept.{Passed, passed-all, asserted-sound}
 use Rattle.rules.proofs.Refusals.{noneApplies, none-permitted, permitted-passes, permitted-outcome, answer-is}
 use Rattle.rules.proofs.SubjectRows.{earlier}
-use Rattle.rules.specs.Sizes.{credBodySize, rolePlaceSize, rolesSize}
+use Rattle.rules.specs.Sizes.{credBodySize, roleSlotSize, rolesSize}
 
 -- the row v, or new where v has the number of own
-unfoldable pub inPlaceOf : Row → Row → Row → Row
-inPlaceOf own new v = cond (numberedAs own v) new v
+unfoldable pub insteadOf : Row → Row → Row → Row
+insteadOf own new v = cond (numberedAs own v) new v
 
 -- of the tables before and after, for the sender s who asserted the body b at this clock
 pub record RoleAsserted (clock : ℕ) (b : List ℕ) (s : Sender) (t t′ : Tables) : Type 0 where
   -- each row stands where it stood: the sender's own is its row afterwards, and every other is as it was
-  pub rows-left : rows Creds t′ ≡ map (inPlaceOf (senderRow t s) (senderRow t′ s)) (rows Creds t)
+  pub rows-left : rows Creds t′ ≡ map (insteadOf (senderRow t s) (senderRow t′ s)) (rows Creds t)
   -- the own row has the same body
   pub own-body : bodyOf (senderRow t′ s) ≡ bodyOf (senderRow t s)
   -- at any clock: of the roles that were in force, and the new one in the place of its equal or else at the end, those that are in force
@@ -48,11 +48,11 @@ pub record RoleAsserted (clock : ℕ) (b : List ℕ) (s : Sender) (t t′ : Tabl
 
 -- ---- a row stored in the place of the one with its number
 
-no-place : (own new : Row) (ws : List Row) → some (numberedAs own) ws ≡ false → map (inPlaceOf own new) ws ≡ ws
-unfolding some inPlaceOf
-no-place own new [] h = refl
-no-place own new (w ∷ ws) h =
-    bool-cases (numberedAs own w) (λ e. contradiction refl (rw e at h)) (λ e. rw (e, no-place own new ws (rw e at h)))
+none-instead : (own new : Row) (ws : List Row) → some (numberedAs own) ws ≡ false → map (insteadOf own new) ws ≡ ws
+unfolding some insteadOf
+none-instead own new [] h = refl
+none-instead own new (w ∷ ws) h =
+    bool-cases (numberedAs own w) (λ e. contradiction refl (rw e at h)) (λ e. rw (e, none-instead own new ws (rw e at h)))
 
 -- rows with the same two bytes have the same number
 same-numbered : (own new : Row) → take 2 own ≡ take 2 new → numberedAs own ≡ numberedAs new
@@ -64,19 +64,19 @@ module _ (new : Row) where
   unfolding numberedAs
   numbered-two w e = same-true (take 2 w) (take 2 new) e
 
-  stored-own : (ws : List Row) → some (numberedAs new) ws ≡ true → distinctNumbers ws ≡ true → stored new ws ≡ map (inPlaceOf new new) ws
-  unfolding some stored inPlaceOf
+  stored-own : (ws : List Row) → some (numberedAs new) ws ≡ true → distinctNumbers ws ≡ true → stored new ws ≡ map (insteadOf new new) ws
+  unfolding some stored insteadOf
   stored-own [] h a = contradiction h refl
   stored-own (w ∷ ws) h a =
       let parts = distinct-parts w ws a in
       bool-cases (numberedAs new w)
-      (λ e. let none = no-place new new ws (ap (λ (p : Row → Bool). some p ws) (sym (same-numbered w new (numbered-two w e))) ∙ parts .0) in rw (e, none))
+      (λ e. let none = none-instead new new ws (ap (λ (p : Row → Bool). some p ws) (sym (same-numbered w new (numbered-two w e))) ∙ parts .0) in rw (e, none))
       (λ e. rw (e, stored-own ws (rw e at h) (parts .1)))
 
-  stored-place : (own : Row) → take 2 own ≡ take 2 new → (ws : List Row) → some (numberedAs new) ws ≡ true → distinctNumbers ws ≡ true
-      → stored new ws ≡ map (inPlaceOf own new) ws
-  unfolding inPlaceOf
-  stored-place own e ws h a =
+  stored-instead : (own : Row) → take 2 own ≡ take 2 new → (ws : List Row) → some (numberedAs new) ws ≡ true → distinctNumbers ws ≡ true
+      → stored new ws ≡ map (insteadOf own new) ws
+  unfolding insteadOf
+  stored-instead own e ws h a =
       stored-own ws h a ∙ ap (λ (p : Row → Bool). map (λ (v : Row). cond (p v) new v) ws) (sym (same-numbered own new e))
 
   own-number : numberedAs new new ≡ true
@@ -95,20 +95,20 @@ module _ (new : Row) where
 -- ---- the roles in force in a row with these roles in its places
 
 -- an unused place is free
-zeros-free : (later : ℕ) → free later (replicate rolePlaceSize 0) ≡ true
+zeros-free : (later : ℕ) → free later (replicate roleSlotSize 0) ≡ true
 unfolding free noRole bits bit
 zeros-free later = refl
 
-places-in-force : (later : ℕ) (h x : List ℕ) → length h ≡ credBodySize → rolesInForce later (h ++ x) ≡ without (free later) (placesIn x)
+slots-in-force : (later : ℕ) (h x : List ℕ) → length h ≡ credBodySize → rolesInForce later (h ++ x) ≡ without (free later) (slotsIn x)
 unfolding rolesInForce
-places-in-force later h x l = ap (λ (y : List ℕ). without (free later) (placesIn y)) (drop-at h x credBodySize l)
+slots-in-force later h x l = ap (λ (y : List ℕ). without (free later) (slotsIn y)) (drop-at h x credBodySize l)
 
-asserted-in-force : (clock later : ℕ) (b : List ℕ) (w : Row) → Held w → length b ≡ rolePlaceSize → noRole b ≡ false → bothTaken b (rolesInForce clock w) ≡ false
+asserted-in-force : (clock later : ℕ) (b : List ℕ) (w : Row) → Held w → length b ≡ roleSlotSize → noRole b ≡ false → bothTaken b (rolesInForce clock w) ≡ false
     → rolesInForce later (asserted clock b w) ≡ without (free later) (withRole b (rolesInForce clock w))
 unfolding asserted
 asserted-in-force clock later b w p l v n =
-    places-in-force later (bodyOf w) (packed rolesSize (withRole b (rolesInForce clock w))) (body-long w (p .long))
-    ∙ few-places (free later) (zeros-free later) (withRole b (rolesInForce clock w))
+    slots-in-force later (bodyOf w) (packed rolesSize (withRole b (rolesInForce clock w))) (body-long w (p .long))
+    ∙ few-slots (free later) (zeros-free later) (withRole b (rolesInForce clock w))
     (few-with-role b l v (rolesInForce clock w) (few-in-force clock w p) n)
 
 -- ---- what an UPDATE of roles asks for
@@ -154,8 +154,8 @@ module _ (d : Defaults) (t : Tables) (q : Request) (updates : verb (q .bytes) �
       let own-is : senderRow (tablesAfter d t q) (sender r) ≡ new =
       ap (senderRow (tablesAfter d t q)) (a .is) ∙ ap (firstRow (numbered (a .number))) are ∙ stored-first new (a .number) two (rows Creds t) in
       record {
-        rows-left = are ∙ stored-place new own (own-two t r h a ∙ sym two) (rows Creds t) (asserted-number t r h a (q .clock) b) (table-parts Creds t h .distinct)
-            ∙ ap (λ (v : Row). map (inPlaceOf own v) (rows Creds t)) (sym own-is);
+        rows-left = are ∙ stored-instead new own (own-two t r h a ∙ sym two) (rows Creds t) (asserted-number t r h a (q .clock) b) (table-parts Creds t h .distinct)
+            ∙ ap (λ (v : Row). map (insteadOf own v) (rows Creds t)) (sym own-is);
         own-body = ap bodyOf own-is ∙ asserted-body (q .clock) b own w;
         own-roles = λ later. ap (rolesInForce later) own-is ∙ asserted-in-force (q .clock) later b own w (x .valid .1) (x .valid .2) (x .placed);
         others = tables ∙ ap (withRows Creds t) (sym are);

@@ -19,15 +19,17 @@ use Rattle.rules.specs.declared.Sender.the-variants.{Unauthenticated, Pa
 use Rattle.rules.specs.Record.{Request, sender, verb, resource, body}
 use Rattle.rules.specs.Tables.{headOf, longest, capacity, storable, rowOf, count, rows, rowsIn, rowOwner, withRows, sound}
 use Rattle.rules.specs.Defaults.{Defaults}
-use Rattle.rules.specs.Permission.{U, has, numbered, senderRow, connectionOf, grants, isOwner, byOwner, byNoOwner, byRoles, effectiveOf, effective}
+use Rattle.rules.specs.Permission.{U, has, numbered, senderRow, connectionOf, grants, isOwner, byOwner, byNoOwner, byRoles, effectiveOf}
+use Rattle.rules.specs.Contracts.Theorems.{effective}
 use Rattle.rules.specs.Permission.{permission, permissionOf}
 use Rattle.rules.specs.Action.{ifAllowed, storeRow, updateRows, updateAction, securityAction, action, actionOf}
 use Rattle.rules.specs.States.{writeAllowed}
-use Rattle.rules.specs.Reading.{reads, replyTo, tooShort, holder}
+use Rattle.rules.specs.Reading.{reads, replyTo, tooShort}
+use Rattle.rules.specs.Contracts.Theorems.{holder}
 use Rattle.rules.specs.Checks.{noRow, noCredential, noEndpoint, notPermitted, offered, notOffered, checks, verdict, numberOf}
-use Rattle.rules.specs.Groups.{senderChecks}
+use Rattle.rules.specs.Contracts.Groups.{senderChecks}
 use Rattle.rules.specs.Outcome.{Outcome, responseTo, tablesAfter}
-use Rattle.rules.specs.Storing.{TakesRows, MayStore, AllMayStore, AllStored}
+use Rattle.rules.specs.Contracts.Storing.{TakesRows, MayStore, AllMayStore, AllStored}
 use Rattle.rules.proofs.Answers.{passed, rows-count}
 use Rattle.rules.proofs.PermissionLaws.{has-or}
 use Rattle.rules.proofs.TableLaws.{rows-with}

@@ -3,18 +3,19 @@
 use Rattle.rows.proofs.Prelude.{_≡_, refl, false, List, [], _∷_, _++_, map, ℕ, zero, suc, _+_, _*_, _/_, _%_, replicate, ones, onesIn}
 use Rattle.rows.specs.Rows.{Row, rowsBefore, rowsOf, joined, packed, allZero, same, hasKey, numberedAs}
 use Rattle.rows.specs.Rows.{firstRow, some, every, without, distinctNumbers, stored, unionOf, withRow}
-use Rattle.rows.specs.Contracts.{placeFrom}
+use Rattle.rows.specs.Contracts.{indexFrom}
 use Rattle.rules.specs.declared.Tables.{Tables}
 use Rattle.rules.specs.declared.Table.the-variants.{Creds, Aces}
 use Rattle.rules.specs.Bits.{bit, bits, be16}
 use Rattle.rules.specs.Directory.{entryOf}
 use Rattle.rules.specs.Record.{Request, received, sender, passedOn}
 use Rattle.rules.specs.Bodies.{nil, isNil, ownerBody, stateBody, credStorable, credRowOf, setKnown, subjectStorable, aceStorable, everySecond, aceRowOf}
-use Rattle.rules.specs.Roles.{noRole, free, sameRole, distinctRoles, unasserted, rolesInForce, rolesSound, credHeld, withRole, bothTaken, asserted}
+use Rattle.rules.specs.Roles.{noRole, free, sameRole, distinctRoles, unasserted, rolesInForce, rolesSound, credSound, withRole, bothTaken, asserted}
 use Rattle.rules.specs.Tables.{rowsIn, withRows, rowsSound, headSound, sound, empty, rowOwner, withOwner, withState}
 use Rattle.rules.specs.Defaults.{noDefaults, goodList, defaultRows, fresh}
 use Rattle.rules.specs.Permission.{has, forRole, roleFits, subjectIs, subjectFits, resourceFits, inForce, rowFits, grants}
-use Rattle.rules.specs.Permission.{names, isOwner, byOwner, byNoOwner, byRoles, effectiveOf, effective, permission, permissionOf}
+use Rattle.rules.specs.Permission.{names, isOwner, byOwner, byNoOwner, byRoles, effectiveOf, permission, permissionOf}
+use Rattle.rules.specs.Contracts.Theorems.{effective}
 use Rattle.rules.specs.Action.{ifAllowed, updateDoxm, updatePstat, storeRow, updateRows, updateRoles, updateAction}
 use Rattle.rules.specs.Action.{deleteNumber, deleteAces, deleteCreds, deleteAction, readAction, securityAction, actionOf}
 use Rattle.rules.specs.States.{writeAllowed, moveListed, moveAllowed}
@@ -28,9 +29,9 @@ use Rattle.rules.specs.Run.{replies}
 
 -- `unfolding definitions` opens all that its own line names
 unfoldable pub definitions : Unit {0}
-unfolding ones onesIn rowsBefore gapOf rowsOf joined packed allZero same hasKey numberedAs placeFrom firstRow some every without
+unfolding ones onesIn rowsBefore gapOf rowsOf joined packed allZero same hasKey numberedAs indexFrom firstRow some every without
     distinctNumbers stored unionOf withRow bit bits has entryOf be16 sender passedOn nil isNil ownerBody stateBody credStorable
-    credRowOf noRole free sameRole distinctRoles rolesInForce rolesSound credHeld withRole bothTaken asserted setKnown subjectStorable aceStorable
+    credRowOf noRole free sameRole distinctRoles rolesInForce rolesSound credSound withRole bothTaken asserted setKnown subjectStorable aceStorable
     everySecond aceRowOf rowsIn rowsSound headSound sound empty goodList defaultRows fresh rowOwner forRole roleFits subjectIs
     subjectFits resourceFits inForce rowFits grants names isOwner byOwner byNoOwner byRoles effectiveOf permissionOf ownBody rowBytes
     contents reads replyTo tooShort ifAllowed updateDoxm updatePstat storeRow updateRows updateRoles updateAction deleteNumber

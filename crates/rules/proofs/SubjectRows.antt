@@ -11,15 +11,16 @@ use Rattle.rules.specs.declared.Action.the-variants.{Remove}
 use Rattle.rules.specs.declared.Key.the-variants.{Subject}
 use Rattle.rules.specs.declared.Check.the-variants.{Pass}
 use Rattle.rules.specs.Record.{sender, headerOf, Request, body}
-use Rattle.rules.specs.Bodies.{isNil, credSubject, hasSubject}
+use Rattle.rules.specs.Bodies.{isNil, credSubject}
+use Rattle.rules.specs.Contracts.Theorems.{hasSubject}
 use Rattle.rules.specs.Tables.{headOf, rows, withRows}
 use Rattle.rules.specs.Defaults.{Defaults}
 use Rattle.rules.specs.Permission.{senderRow, permission}
 use Rattle.rules.specs.Action.{ifAllowed, deleteCreds, action}
 use Rattle.rules.specs.Reading.{replyOf, reads}
-use Rattle.rules.specs.StoreRange.{deletes}
+use Rattle.rules.specs.Contracts.Theorems.{deletes}
 use Rattle.rules.specs.Checks.{verdict, numberOf, isMalformed}
-use Rattle.rules.specs.Groups.{formChecks, requestChecks, stateChecks, rowChecks, capacityChecks}
+use Rattle.rules.specs.Contracts.Groups.{formChecks, requestChecks, stateChecks, rowChecks, capacityChecks}
 use Rattle.rules.specs.Outcome.{responseTo, tablesAfter}
 use Rattle.rules.proofs.Answers.{passed, no-reply-fits}
 use Rattle.rules.proofs.CheckLaws.{skip-all}

@@ -10,7 +10,8 @@ use Rattle.rules.specs.Record.{Request, body}
 use Rattle.rules.specs.Tables.{headOf, stride, capacity, count, bytes, rows, withRows, sound, tableSize}
 use Rattle.rules.specs.Defaults.{Defaults}
 use Rattle.rules.specs.Keys.{goes}
-use Rattle.rules.specs.StoreRange.{noRange, gapOf, deletes, overwritten}
+use Rattle.rules.specs.StoreRange.{noRange, gapOf}
+use Rattle.rules.specs.Contracts.Theorems.{deletes, overwritten}
 use Rattle.rules.specs.Outcome.{Response, Outcome, responseTo, tablesAfter}
 use Rattle.rules.proofs.Answers.{rows-count}
 use Rattle.rules.proofs.TableLaws.{rows-with}
@@ -57,40 +58,40 @@ gap-none goes ws same = cond-cases (λ (p : StoreRange). p ≡ noRange) (some go
 
 pub delete-worn : (d : Defaults) (t : Tables) (q : Request) (k : Table)
     → deletes k (q .bytes) ≡ true → responseTo d t q .answer ≡ 0 → length (bytes k t) ≡ tableSize k
-    → Worn k t (tablesAfter d t q) (responseTo d t q .places)
+    → Worn k t (tablesAfter d t q) (responseTo d t q .store)
 delete-worn d t q k h z l =
     let x = deleted d t q k h z in
     let orphaned = goes (x .key) (body (q .bytes)) in
     let s = removed-sound k t orphaned (x .sound) in
-    rw (x .tables, x .places)
+    rw (x .tables, x .store)
     (record {
       stored = gaps.bytes-stored k t orphaned (x .sound) l;
       front = gaps.bytes-kept k t orphaned (x .sound) l;
       rest = gaps.bytes-rest k t orphaned (x .sound) l;
       ends = gap-ends orphaned (rows k t) (x .none) ∙ rows-count k t (x .sound);
-      changed = gaps.places-changed k t orphaned (x .sound) l;
-      before = gaps.places-before k t orphaned (x .sound) l;
-      behind = gaps.places-after k t orphaned (x .sound) l;
-      unused = gaps.places-unused k t orphaned (x .sound) l;
+      changed = gaps.rows-changed k t orphaned (x .sound) l;
+      before = gaps.numbers-before k t orphaned (x .sound) l;
+      behind = gaps.numbers-after k t orphaned (x .sound) l;
+      unused = gaps.numbers-unused k t orphaned (x .sound) l;
       others = ap (withRows k t) (sym (rows-with k t (without orphaned (rows k t)) (s .few) (s .stores)));
     })
 
 -- everything else: a record that is refused, one that is no DELETE of rows, and a DELETE after which as many rows are held
-pub record NoPlaces (d : Defaults) (t : Tables) (q : Request) : Type 0 where
-  pub refused : (responseTo d t q .answer ≡ 0 → ⊥) → responseTo d t q .places ≡ noRange
-  pub no-delete : ((k : Table) → deletes k (q .bytes) ≡ false) → responseTo d t q .places ≡ noRange
-  pub no-rows : (k : Table) → deletes k (q .bytes) ≡ true → count k (headOf (tablesAfter d t q)) ≡ count k (headOf t) → responseTo d t q .places ≡ noRange
+pub record NoRange (d : Defaults) (t : Tables) (q : Request) : Type 0 where
+  pub refused : (responseTo d t q .answer ≡ 0 → ⊥) → responseTo d t q .store ≡ noRange
+  pub no-delete : ((k : Table) → deletes k (q .bytes) ≡ false) → responseTo d t q .store ≡ noRange
+  pub no-rows : (k : Table) → deletes k (q .bytes) ≡ true → count k (headOf (tablesAfter d t q)) ≡ count k (headOf t) → responseTo d t q .store ≡ noRange
 
-places-unless : (d : Defaults) (t : Tables) (q : Request) → (responseTo d t q .answer ≡ 0 → responseTo d t q .places ≡ noRange) → responseTo d t q .places ≡ noRange
-places-unless d t q = not-told (λ (x : Response). x .places) noRange d t q (λ n. refl)
+range-unless : (d : Defaults) (t : Tables) (q : Request) → (responseTo d t q .answer ≡ 0 → responseTo d t q .store ≡ noRange) → responseTo d t q .store ≡ noRange
+range-unless d t q = not-told (λ (x : Response). x .store) noRange d t q (λ n. refl)
 
-pub no-places : (d : Defaults) (t : Tables) (q : Request) → NoPlaces d t q
-no-places d t q = record {
-  refused = λ other. places-unless d t q (λ z. absurd (other z));
-  no-delete = λ other. places-unless d t q (λ z. ap (λ (o : Outcome). o .response .places) (permitted-outcome d t q z) ∙ quiet t (q .bytes) other);
-  no-rows = λ k h same. places-unless d t q (λ z.
+pub no-range : (d : Defaults) (t : Tables) (q : Request) → NoRange d t q
+no-range d t q = record {
+  refused = λ other. range-unless d t q (λ z. absurd (other z));
+  no-delete = λ other. range-unless d t q (λ z. ap (λ (o : Outcome). o .response .store) (permitted-outcome d t q z) ∙ quiet t (q .bytes) other);
+  no-rows = λ k h same. range-unless d t q (λ z.
       let x = deleted d t q k h z in
       let orphaned = goes (x .key) (body (q .bytes)) in
-      x .places
+      x .store
       ∙ gap-none orphaned (rows k t) (sym (with-count k t (without orphaned (rows k t))) ∙ ap (λ (u : Tables). count k (headOf u)) (sym (x .tables)) ∙ same ∙ sym (rows-count k t (x .sound))));
 }

@@ -11,7 +11,8 @@ use Rattle.rules.specs.Record.{headerOf, Request, received, verb, connec
 use Rattle.rules.specs.Defaults.{Defaults}
 use Rattle.rules.specs.Permission.{permission}
 use Rattle.rules.specs.Reading.{reads}
-use Rattle.rules.specs.Links.{ownRecord, permits, setOf, asksLinks, linkSet, linksOf, noLinks, inLinks, countBelow}
+use Rattle.rules.specs.Links.{ownRecord, permits, setOf, asksLinks, linkSet, linksOf, noLinks}
+use Rattle.rules.specs.Contracts.Theorems.{inLinks, countBelow}
 use Rattle.rules.specs.Checks.{checks}
 use Rattle.rules.specs.Outcome.{Response, Outcome, responseTo}
 use Rattle.rules.proofs.Answers.{passed, long-enough, no-reply-fits}

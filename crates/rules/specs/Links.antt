@@ -1,6 +1,6 @@
 -- The links of /yard (U9): of a RETRIEVE or an UPDATE, those whose own record would be permitted.
 -- A link's own record has the verb and the sender of the record that asks, the link's number and no body.
-use Prim.Native.Nat.{zero, suc, _+_, _*_, _-_, _/_, _%_, _^_}
+use Prim.Native.Nat.{_+_, _*_, _/_, _%_, _^_}
 use mathlib.Core.Bool.{Bool, _&&_, _||_, cond}
 use mathlib.Core.List.{List, [], _∷_}
 use lib.Count.{ones}
@@ -13,7 +13,7 @@ use Rattle.rules.specs.Directory.{yard, links}
 use Rattle.rules.specs.Record.{received, headerOf, verb, connection, credential, retrieve, update}
 use Rattle.rules.specs.Permission.{permission}
 use Rattle.rules.specs.Checks.{checks, verdict, isPass}
-use Rattle.rules.specs.Types.{Bytes, Clock, ResourceNumber, ResourceSet, Size}
+use Rattle.rules.specs.Types.{Bytes, Clock, ResourceNumber, ResourceSet}
 
 -- the record's header with the resource n
 unfoldable pub ownRecord : Bytes → ResourceNumber → Bytes
@@ -41,14 +41,3 @@ linksOf clock t r = record { set = linkSet clock t r; size = ones (linkSet clock
 
 abbrev pub noLinks : Links
 noLinks = record { set = 0; size = 0 }
-
--- ---- for theorems: what a set holds, number by number
-
--- the resource n, which has 6 bits, is in the set
-unfoldable pub inLinks : ResourceSet → ResourceNumber → Bool
-inLinks set n = eqb (set / 2 ^ (63 - n) % 2) 1
-
--- how many numbers below this one pass
-unfoldable pub countBelow : ResourceNumber → (ResourceNumber → Bool) → Size
-countBelow zero passes = 0
-countBelow (suc n) passes = cond (passes n) 1 0 + countBelow n passes

@@ -1,23 +1,22 @@
 -- Reading the tables back (U1): what a permitted RETRIEVE of a security resource fills the lent buffer with.
 -- The resource's own body, its row owner, and its rows in table order; of roles the sender's own in force. Every other record has no reply.
-use Prim.Native.Nat.{_+_, _*_, _-_, _/_, _%_}
+use Prim.Native.Nat.{_+_, _*_, _%_}
 use mathlib.Core.Bool.{Bool, _&&_, cond}
-use mathlib.Core.List.{List, [], _∷_, _++_, map}
+use mathlib.Core.List.{[], _∷_, _++_, map}
 use lib.Dec.{eqb, ltb}
-use lib.ListN.{length, take, drop}
-use Rattle.rows.specs.Rows.{Row, rowsOf, joined}
+use lib.ListN.{length, drop}
+use Rattle.rows.specs.Rows.{Row, joined}
 use Rattle.rules.specs.declared.Tables.{Tables}
-use Rattle.rules.specs.declared.Table.{Table}
 use Rattle.rules.specs.declared.Table.the-variants.{Creds, Aces}
 use Rattle.rules.specs.Lookup.{lookup}
 use Rattle.rules.specs.declared.Head.{Head}
 use Rattle.rules.specs.declared.Header.{Header}
 use Rattle.rules.specs.Directory.{doxm, pstat, cred, acl2, roles}
 use Rattle.rules.specs.Record.{headerOf, sender, retrieve}
-use Rattle.rules.specs.Roles.{bodyOf, withoutRoles, rolesInForce}
-use Rattle.rules.specs.Tables.{longest, tableSize, headOf, rows, rowOwner}
+use Rattle.rules.specs.Roles.{bodyOf, rolesInForce}
+use Rattle.rules.specs.Tables.{tableSize, headOf, rows, rowOwner}
 use Rattle.rules.specs.Permission.{senderRow}
-use Rattle.rules.specs.Types.{Bytes, Clock, ResourceNumber, Size, Uuid}
+use Rattle.rules.specs.Types.{Bytes, Clock, ResourceNumber, Size}
 
 -- what an UPDATE of doxm or pstat would set to what is: owned stands in the first bit, the state in the first three; the tables' resources have no such body
 unfoldable pub ownBody : Head → ResourceNumber → Bytes
@@ -56,25 +55,6 @@ longestReply = 16 + tableSize Aces
 unfoldable pub tooShort : Size → Size → Bool
 tooShort capacity long = ltb capacity long
 
--- the lent buffer afterwards: the reply, and then what stood there
+-- the caller's buffer afterwards: the reply, and then what was there
 unfoldable pub filled : Bytes → Bytes → Bytes
 filled buffer reply = reply ++ drop (length reply) buffer
-
--- ---- for theorems: a reply of cred or acl2, read again
-
--- the resource that holds a table's rows
-abbrev pub holder : Table → ResourceNumber
-holder Creds = cred
-holder Aces = acl2
-
--- the rows without what is asserted
-abbrev pub bare : Table → List Row → List Row
-bare Creds rows = map withoutRoles rows
-bare Aces rows = rows
-
-abbrev pub ownerOfReply : Bytes → Uuid
-ownerOfReply reply = take 16 reply
-
--- the rows: what follows the row owner, a body's length at a time
-abbrev pub rowsOfReply : Table → Bytes → List Row
-rowsOfReply table reply = rowsOf (longest table) ((length reply - 16) / longest table) (drop 16 reply)

@@ -1,5 +1,5 @@
--- Asserted roles (U11): behind its body a credential row has a table of two places for them, in order of arrival.
--- A place has the form of the body that asserts; one that is not used is zero.
+-- Asserted roles (U11): after its body a credential row has two slots for them, in order of arrival.
+-- A role slot has the form of the body that asserts; one that is not used is zero.
 use Prim.Native.Nat.{_-_}
 use mathlib.Core.Bool.{Bool, true, not, _&&_, _||_, cond}
 use mathlib.Core.List.{List, [], _∷_, _++_}
@@ -7,7 +7,7 @@ use lib.Dec.{eqb, leb, ltb}
 use lib.ListN.{length, take, drop, replicate}
 use Rattle.rows.specs.Rows.{Row, rowsOf, packed, same, some, without}
 use Rattle.rules.specs.Bits.{bits}
-use Rattle.rules.specs.Sizes.{credBodySize, rolePlaceSize, rolePlaces, rolesSize, credRowSize}
+use Rattle.rules.specs.Sizes.{credBodySize, roleSlotSize, roleSlots, rolesSize, credRowSize}
 use Rattle.rules.specs.Bodies.{credStorable}
 use Rattle.rules.specs.Types.{Authority, Bytes, Clock, Role}
 
@@ -26,7 +26,7 @@ assertedLast role = bits role 32 32
 unfoldable pub noRole : Row → Bool
 noRole role = eqb (assertedRole role) 0
 
--- a place that holds none, or one with a last second before the clock
+-- a slot without a role, or with one whose last second is before the clock
 unfoldable pub free : Clock → Row → Bool
 free clock role = noRole role || ltb (assertedLast role) clock
 
@@ -39,14 +39,14 @@ unfoldable pub distinctRoles : List Row → Bool
 distinctRoles [] = true
 distinctRoles (role ∷ roles) = not (some (sameRole role) roles) && distinctRoles roles
 
--- ---- a credential row, 39 bytes: the longest body that stores it (23), and the places (2 of 8)
+-- ---- a credential row, 39 bytes: the longest body that stores it (23), and the role slots (2 of 8)
 
 abbrev pub bodyOf : Row → Bytes
 bodyOf cred = take credBodySize cred
 
--- its places, used or not
+-- its role slots, used or not
 abbrev pub rolesOf : Row → List Row
-rolesOf cred = rowsOf rolePlaceSize rolePlaces (drop credBodySize cred)
+rolesOf cred = rowsOf roleSlotSize roleSlots (drop credBodySize cred)
 
 unfoldable pub rolesInForce : Clock → Row → List Row
 rolesInForce clock cred = without (free clock) (rolesOf cred)
@@ -55,30 +55,30 @@ rolesInForce clock cred = without (free clock) (rolesOf cred)
 abbrev pub unasserted : Bytes → Row
 unasserted b = b ++ replicate rolesSize 0
 
--- the row with zeros in its places
+-- the row with zeros in its role slots
 unfoldable pub withoutRoles : Row → Row
 withoutRoles cred = bodyOf cred ++ replicate (length cred - credBodySize) 0
 
--- the places hold the roles that are there, different ones, and behind them zeros
+-- the slots have the roles that are there, different ones, and after them zeros
 unfoldable pub rolesSound : Row → Bool
 rolesSound cred =
     let held = without noRole (rolesOf cred) in
     same (drop credBodySize cred) (packed rolesSize held) && distinctRoles held
 
--- a row that the table may hold
-unfoldable pub credHeld : Row → Bool
-credHeld cred = eqb (length cred) credRowSize && credStorable (bodyOf cred) && rolesSound cred
+-- a row as a sound table has it
+unfoldable pub credSound : Row → Bool
+credSound cred = eqb (length cred) credRowSize && credStorable (bodyOf cred) && rolesSound cred
 
 -- ---- a role is asserted
 
--- in the place of the equal role, else at the end
+-- instead of the equal role, else at the end
 unfoldable pub withRole : Row → List Row → List Row
 withRole new [] = new ∷ []
 withRole new (role ∷ roles) = cond (sameRole new role) (new ∷ roles) (role ∷ withRole new roles)
 
--- both places hold other roles
+-- both slots have other roles
 unfoldable pub bothTaken : Row → List Row → Bool
-bothTaken new roles = leb rolePlaces (length roles) && not (some (sameRole new) roles)
+bothTaken new roles = leb roleSlots (length roles) && not (some (sameRole new) roles)
 
 -- the credential row afterwards: roles that are not in force go first
 unfoldable pub asserted : Clock → Bytes → Row → Row

@@ -7,18 +7,18 @@ use Rattle.rules.specs.Types.{Size}
 abbrev pub credBodySize : Size
 credBodySize = 23
 
--- a place for an asserted role (U11); a credential row has two
-abbrev pub rolePlaceSize : Size
-rolePlaceSize = 8
+-- a slot for an asserted role (U11); a credential row has two
+abbrev pub roleSlotSize : Size
+roleSlotSize = 8
 
-abbrev pub rolePlaces : Size
-rolePlaces = 2
+abbrev pub roleSlots : Size
+roleSlots = 2
 
--- the places together
+-- the slots together
 abbrev pub rolesSize : Size
-rolesSize = rolePlaces * rolePlaceSize
+rolesSize = roleSlots * roleSlotSize
 
--- a credential row: the body, and the places
+-- a credential row: the body, and the role slots
 abbrev pub credRowSize : Size
 credRowSize = credBodySize + rolesSize
 

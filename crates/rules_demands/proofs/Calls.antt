@@ -21,11 +21,11 @@ use Rattle.rules_typed.specs.Struct.{IsStruct, DefaultBytes, AllBytes}
 use Rattle.rules_typed.proofs.Whole.{replies-written, final-read}
 use Rattle.rules_typed.proofs.IsolationRead.{others-read, premise-along, kept-bytes, run-struct}
 use Rattle.rules_typed.proofs.ComparedRead.{compared-read}
-use Rattle.rules_waiting.specs.Terminal.{Terminal}
-use Rattle.rules_waiting.specs.Inputs.{Input}
-use Rattle.rules_waiting.specs.CallRun.{Call, Built, handedBack, allShown}
-use Rattle.rules_handed.specs.Isolation.{requestsOf, allTold, AsRules, Isolated}
-use Rattle.rules_handed.proofs.Calls.{handed-isolation, built-rules}
+use Rattle.rules_terminal.specs.Terminal.{Terminal}
+use Rattle.rules_terminal.specs.Inputs.{Input}
+use Rattle.rules_terminal.specs.CallRun.{Call, Built, handedBack, allShown}
+use Rattle.rules_runs.specs.Isolation.{requestsOf, allResponses, AsRules, Isolated}
+use Rattle.rules_runs.proofs.Calls.{handed-isolation, built-rules}
 use Rattle.rules_interface.specs.Memory.{Memory, terminalAt}
 use Rattle.rules_interface.specs.Calls.{CCall, CBuilt}
 use Rattle.rules_interface.specs.CallRun.{callsOf}
@@ -47,11 +47,11 @@ module _ (d : Defaults) (e : DefaultBytes d) (x : Terminal) (i : IsStruct (x .ta
   all = fed-bytes x w is (allShown is cs) h
 
   -- demands 1 and 2
-  pub typed-rules : AsTyped d (x .tables) qs (allTold is (allShown is cs)) (handedBack x cs .tables)
+  pub typed-rules : AsTyped d (x .tables) qs (allResponses is (allShown is cs)) (handedBack x cs .tables)
   typed-rules =
       let r = built-rules d x is cs b in
       record {
-        told-same = r .told-same ∙ replies-written d e (x .tables) i qs all;
+        responses-same = r .responses-same ∙ replies-written d e (x .tables) i qs all;
         tables-same = ap readTables (r .tables-same) ∙ final-read d e (x .tables) i qs all;
       }
 
@@ -77,8 +77,8 @@ module _ (d : Defaults) (e : DefaultBytes d) (x : Terminal) (i : IsStruct (x .ta
         let sound-end : soundBytes (handedBack x cs .tables) ≡ soundBytes (final (tablesAfter d) t others) =
         ap soundBytes end ∙ final-sound d t qs ∙ sym (final-sound d t others) in
         record {
-          told-same =
-              o .told-same ∙ replies-written d e t i others others-bytes
+          responses-same =
+              o .responses-same ∙ replies-written d e t i others others-bytes
               ∙ ap (λ (rs : List Record). map written (replies (respond (freshOf d)) (next (freshOf d)) (readTables t) rs)) same;
           tables-same =
               compared-read chosen (handedBack x cs .tables) (final (tablesAfter d) t others) calls-keep (run-struct d e chosen t i others others-bytes)
@@ -94,7 +94,7 @@ module _ (d : Defaults) (e : DefaultBytes d) (m : Memory) (i : IsStruct (termina
   abbrev y : Terminal
   y = terminalAt m
 
-  pub c-typed-rules : AsTyped d (y .tables) (requestsOf y is (allShown is (callsOf is cs))) (allTold is (allShown is (callsOf is cs)))
+  pub c-typed-rules : AsTyped d (y .tables) (requestsOf y is (allShown is (callsOf is cs))) (allResponses is (allShown is (callsOf is cs)))
       (handedBack y (callsOf is cs) .tables)
   c-typed-rules = typed-rules d e y i w is (callsOf is cs) (c-built d m is cs b) h
 

@@ -6,11 +6,11 @@ use Rattle.rules.specs.Record.{received, credential}
 use Rattle.rules_typed.specs.Tables.{isBytes}
 use Rattle.rules_typed.specs.Struct.{AllBytes}
 use Rattle.rules_typed.proofs.ByteLaws.{bytes-take, bytes-drop}
-use Rattle.rules_waiting.specs.Slots.{recordOf, waiting, slotSize, queueCapacity}
-use Rattle.rules_waiting.specs.Terminal.{Terminal, Transition}
-use Rattle.rules_waiting.specs.Inputs.{Input, handIn, takeAt, direct, recordsIn}
-use Rattle.rules_handed.specs.Events.{Event, enqueued, dequeued, immediate, sentBy, newestOf, requests, judges, eventOf, gathered, listIf}
-use Rattle.rules_handed.specs.Isolation.{requestsOf}
+use Rattle.rules_terminal.specs.Slots.{recordOf, waiting, slotSize, queueCapacity}
+use Rattle.rules_terminal.specs.Terminal.{Terminal, Transition}
+use Rattle.rules_terminal.specs.Inputs.{Input, handIn, takeAt, direct, recordsIn}
+use Rattle.rules_runs.specs.Events.{Event, enqueued, dequeued, immediate, sentBy, newestOf, requests, judges, eventOf, gathered, listIf}
+use Rattle.rules_runs.specs.Isolation.{requestsOf}
 use Rattle.rules_demands.specs.Demands.{InputBytes}
 
 abbrev RecordBytes : List (List ℕ) → Type 0

@@ -5,7 +5,8 @@ use Rattle.rules.specs.Record.{Request as ByteRequest, received}
 use Rattle.rules.specs.Defaults.{Defaults}
 use Rattle.rules.specs.Checks.{verdict as verdictBytes}
 use Rattle.rules.specs.Reading.{filled}
-use Rattle.rules.specs.Outcome.{Outcome as ByteOutcome, Said, judgementOf, outcome as outcomeBytes}
+use Rattle.rules.specs.Outcome.{Outcome as ByteOutcome, outcome as outcomeBytes}
+use Rattle.rules.specs.Contracts.Results.{Result, resultOf}
 use Rattle.rules.specs.Links.{setOf}
 use Rattle.rows.proofs.Prelude.{ones}
 use Rattle.rules.proofs.Answers.{passed}
@@ -19,9 +20,9 @@ use Rattle.rules_typed.specs.Writing.{writtenOutcome, writtenLinks}
 use Rattle.rules_typed.specs.Struct.{IsStruct, DefaultBytes}
 use Rattle.rules_typed.proofs.SoundExact.{read-is}
 use Rattle.rules_typed.proofs.Whole.{outcome-written}
-use Rattle.rules_waiting.specs.Terminal.{Terminal, Transition, soundTerminal, takeChecks, due, taken, HandedOut, judged}
-use Rattle.rules_waiting.specs.Calls.{Takes, Judges}
-use Rattle.rules_waiting.proofs.Sound.{terminal-parts}
+use Rattle.rules_terminal.specs.Terminal.{Terminal, Transition, soundTerminal, takeChecks, due, taken, HandedOut, judged}
+use Rattle.rules_terminal.specs.Calls.{Takes, Judges}
+use Rattle.rules_terminal.proofs.Sound.{terminal-parts}
 use Rattle.rules_demands.specs.Demands.{freshOf, tablesIn, judgedIn, Tells}
 
 -- on a sound terminal the tables are read
@@ -44,20 +45,20 @@ module _ (d : Defaults) (e : DefaultBytes d) (x : Terminal) (i : IsStruct (x .ta
   not-sound q h = rw h
 
   -- 1, and the terminal as it was
-  unsound-told : (q : ByteRequest) → soundTerminal x ≡ false → (s : Said) (lent queue buffer : List ℕ) → Judges d x q s lent queue buffer
+  unsound-told : (q : ByteRequest) → soundTerminal x ≡ false → (s : Result) (lent queue buffer : List ℕ) → Judges d x q s lent queue buffer
       → Tells (refused 1 none) (x .tables) s lent buffer
   unfolding judged verdictBytes writtenLinks setOf ones
   unsound-told q h s lent queue buffer j = record { says = rw h at (j .says); fills = rw h at (j .leaves .fills) }
 
   -- a record judged at once; on a terminal that is not sound, 1
-  pub judge-typed : (q : ByteRequest) → isBytes (q .bytes) ≡ true → (s : Said) (lent queue buffer : List ℕ) → Judges d x q s lent queue buffer
+  pub judge-typed : (q : ByteRequest) → isBytes (q .bytes) ≡ true → (s : Result) (lent queue buffer : List ℕ) → Judges d x q s lent queue buffer
       → Tells (judgedIn d x q) (x .tables) s lent buffer
   unfolding judged verdictBytes
   judge-typed q b s lent queue buffer j =
       bool-cases (soundTerminal x)
       (λ h. let is = whole q b h in
       record {
-        says = rw h at (j .says) ∙ ap judgementOf is;
+        says = rw h at (j .says) ∙ ap resultOf is;
         fills = rw h at (j .leaves .fills) ∙ ap (λ (o : ByteOutcome). filled lent (o .response .contents)) is;
       })
       (λ h. rw (not-sound q h) (unsound-told q h s lent queue buffer j))
@@ -69,6 +70,6 @@ module _ (d : Defaults) (e : DefaultBytes d) (x : Terminal) (i : IsStruct (x .ta
   take-typed clock capacity p b u lent queue buffer j =
       let is = whole (received clock (due x) capacity) b (take-sound x p) in
       record {
-        says = ap (λ (o : HandedOut). o .judgement) (rw p at (j .hands)) ∙ ap judgementOf is;
+        says = ap (λ (o : HandedOut). o .judgement) (rw p at (j .hands)) ∙ ap resultOf is;
         fills = rw p at (j .leaves .fills) ∙ ap (λ (o : ByteOutcome). filled lent (o .response .contents)) is;
       }

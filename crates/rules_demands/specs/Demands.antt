@@ -9,7 +9,8 @@ use Rattle.rules.specs.declared.Sender.{Sender}
 use Rattle.rules.specs.Record.{Request as ByteRequest}
 use Rattle.rules.specs.Defaults.{Defaults}
 use Rattle.rules.specs.Reading.{filled}
-use Rattle.rules.specs.Outcome.{Said, judgementOf, Response as ByteResponse}
+use Rattle.rules.specs.Outcome.{Response as ByteResponse}
+use Rattle.rules.specs.Contracts.Results.{Result, resultOf}
 use Rattle.rules.specs.Run.{replies, final, Along, kept, keptOf}
 use Rattle.rules.specs.Isolation.{isOthers as isOthersBytes}
 use Rattle.rules_typed.specs.Lists.{Maybe, when}
@@ -19,9 +20,9 @@ use Rattle.rules_typed.specs.Writing.{replyBytes, written, writtenOutcome}
 use Rattle.rules_typed.specs.Reading.{tablesOf, readTables, readRecord, readFresh}
 use Rattle.rules_typed.specs.Outcome.{outcome, respond, next}
 use Rattle.rules_typed.specs.Isolation.{Premise, isOthers, compared}
-use Rattle.rules_waiting.specs.Terminal.{Terminal, Transition, soundTerminal}
-use Rattle.rules_waiting.specs.Inputs.{Input, handIn, takeAt, direct}
-use Rattle.rules_handed.specs.Isolation.{requestsOf, allTold}
+use Rattle.rules_terminal.specs.Terminal.{Terminal, Transition, soundTerminal}
+use Rattle.rules_terminal.specs.Inputs.{Input, handIn, takeAt, direct}
+use Rattle.rules_runs.specs.Isolation.{requestsOf, allResponses}
 
 -- ---- demands 1 and 2, of one call
 
@@ -38,15 +39,15 @@ abbrev pub judgedIn : Defaults → Terminal → ByteRequest → Outcome
 judgedIn d x q = outcome (freshOf d) (tablesIn x) (readRecord q)
 
 -- what is said is this outcome, written over the tables t, and the lent buffer is filled with its reply
-pub record Tells (o : Outcome) (t : ByteTables) (s : Said) (lent buffer : List ℕ) : Type 0 where
-  pub says : s ≡ judgementOf (writtenOutcome t o)
+pub record Tells (o : Outcome) (t : ByteTables) (s : Result) (lent buffer : List ℕ) : Type 0 where
+  pub says : s ≡ resultOf (writtenOutcome t o)
   pub fills : buffer ≡ filled lent (replyBytes (o .response .reply))
 
 -- ---- of a run
 
 -- these records, judged one after the other by the typed rules from the tables t, are told this and leave the tables t′
 pub record AsTyped (d : Defaults) (t : ByteTables) (qs : List ByteRequest) (told : List ByteResponse) (t′ : ByteTables) : Type 0 where
-  pub told-same : told ≡ map written (replies (respond (freshOf d)) (next (freshOf d)) (readTables t) (map readRecord qs))
+  pub responses-same : told ≡ map written (replies (respond (freshOf d)) (next (freshOf d)) (readTables t) (map readRecord qs))
   pub tables-same : readTables t′ ≡ final (next (freshOf d)) (readTables t) (map readRecord qs)
 
 -- ---- demand 3
@@ -60,9 +61,9 @@ module _ (d : Defaults) (chosen : Sender → Bool) (x : Terminal) (is : List Inp
   abbrev pub TypedPremise : Type 0
   TypedPremise = Along (next (freshOf d)) (Premise chosen) (readTables (x .tables)) fed
 
-  -- the others are told what the book answers, and the tables at the end are the book's but for the chosen partners' asserted roles
+  -- the others get the book's responses, and the tables at the end are the book's except for the chosen partners' asserted roles
   pub record TypedIsolated (end : Terminal) : Type 0 where
-    pub told-same : keptOf (isOthersBytes chosen) (requestsOf x is answers) (allTold is answers)
+    pub responses-same : keptOf (isOthersBytes chosen) (requestsOf x is answers) (allResponses is answers)
         ≡ map written (replies (respond (freshOf d)) (next (freshOf d)) (readTables (x .tables)) fed)
     pub tables-same : compared chosen (readTables (end .tables)) ≡ compared chosen (final (next (freshOf d)) (readTables (x .tables)) fed)
 

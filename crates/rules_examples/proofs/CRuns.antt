@@ -6,14 +6,14 @@ use Rattle.rules.specs.Tables.{sound, withState}
 use Rattle.rules.specs.Defaults.{noDefaults}
 use Rattle.rules.specs.Outcome.{responseTo}
 use Rattle.rules.proofs.Samples.{yard}
-use Rattle.rules_waiting.specs.Slots.{emptyQueue}
-use Rattle.rules_waiting.specs.Terminal.{Terminal, terminal}
-use Rattle.rules_waiting.specs.Inputs.{Input, handIn, takeAt, direct, recordsIn}
-use Rattle.rules_waiting.specs.CallRun.{Call, told, allShown}
-use Rattle.rules_waiting.proofs.Direct.{fresh-whole}
-use Rattle.rules_handed.specs.Events.{sentBy, newestOf, gathered}
-use Rattle.rules_handed.specs.Waits.{recordTaken}
-use Rattle.rules_handed.specs.Made.{callsAt}
+use Rattle.rules_terminal.specs.Slots.{emptyQueue}
+use Rattle.rules_terminal.specs.Terminal.{Terminal, terminal}
+use Rattle.rules_terminal.specs.Inputs.{Input, handIn, takeAt, direct, recordsIn}
+use Rattle.rules_terminal.specs.CallRun.{Call, responseOf, allShown}
+use Rattle.rules_terminal.proofs.Direct.{fresh-whole}
+use Rattle.rules_runs.specs.Events.{sentBy, newestOf, gathered}
+use Rattle.rules_runs.specs.Waits.{recordTaken}
+use Rattle.rules_runs.specs.Made.{callsAt}
 use Rattle.rules_power.specs.Kept.{nothingWaits}
 use Rattle.rules_power.specs.Stretches.{shownAcross, requestsAcross}
 use Rattle.rules_interface.specs.Memory.{memoryOf}
@@ -37,7 +37,7 @@ answersOn x is = map answerTold (callsOn noDefaults (memoryOf x) is)
 abbrev pub yardCalls : List CCall
 yardCalls = callsOn noDefaults (memoryOf (terminal yard emptyQueue)) (map direct yardRun)
 
-pub yard-direct : DirectIsolated noDefaults chosen7 yard yardRun (map told (callsOf (map direct yardRun) yardCalls))
+pub yard-direct : DirectIsolated noDefaults chosen7 yard yardRun (map responseOf (callsOf (map direct yardRun) yardCalls))
     (leftBy (memoryOf (terminal yard emptyQueue)) (map direct yardRun) yardCalls .tables)
 yard-direct =
     c-direct-isolation noDefaults chosen7 (memoryOf (terminal yard emptyQueue)) yardRun yardCalls
@@ -68,11 +68,11 @@ start-needed = (refl, refl)
 
 -- ---- a take that is not answered with 1 or 27 judges; one that is judges nothing, and hands out 256 zeros
 
-pub takes-told :
+pub takes-answered :
     map {B = ℕ × List ℕ} (λ (c : CCall). (answerTold c, c .size)) (callsOn noDefaults (memoryOf quiet) (handIn (ask 0x32 7) ∷ takeAt 0 0 ∷ takeAt 0 0 ∷ []))
     ≡ (0, []) ∷ (0, 4 ∷ []) ∷ (27, 0 ∷ []) ∷ []
 unfolding waitingDefinitions quiet ask
-takes-told = refl
+takes-answered = refl
 
 -- ---- restarts, where the tables alone are stored
 

@@ -8,7 +8,7 @@ use Rattle.rules.specs.declared.Sender.the-variants.{Partner}
 use Rattle.rules.specs.Record.{received}
 use Rattle.rules.specs.Bodies.{credRowOf, aceRowOf}
 use Rattle.rules.specs.Defaults.{noDefaults}
-use Rattle.rules.specs.Permission.{effective}
+use Rattle.rules.specs.Contracts.Theorems.{effective}
 use Rattle.rules.specs.Links.{ownRecord, permits, setOf}
 use Rattle.rules.specs.Outcome.{responseTo, tablesAfter}
 use Rattle.rules.specs.Run.{replies}
@@ -113,19 +113,19 @@ pub polled : Tables
 polled = withCreds (serving (seasonRow 1 ∷ aceRow 2 0 6 0 (0 ∷ 0x06 ∷ 0x80 ∷ replicate 5 0) (replicate 16 0x22) ∷ [])) (credRow 5 ∷ haulierRow 7 ∷ [])
 
 -- the set that a record is answered
-pub linksTold : ℕ → List ℕ → ℕ
-linksTold clock r = responseTo noDefaults polled (received clock r 0) .links .set
+pub linksGiven : ℕ → List ℕ → ℕ
+linksGiven clock r = responseTo noDefaults polled (received clock r 0) .links .set
 
 -- RETRIEVE in and out of the season, UPDATE and OBSERVE of /yard by the contractor, and RETRIEVE of 13: 13 has the secure endpoint, 14 has not
 pub links-told :
-    linksTold 15 (0x34 ∷ 0x00 ∷ 0x00 ∷ 0x07 ∷ [])
-    ∷ linksTold 21 (0x34 ∷ 0x00 ∷ 0x00 ∷ 0x07 ∷ [])
-    ∷ linksTold 15 (0x54 ∷ 0x00 ∷ 0x00 ∷ 0x07 ∷ [])
-    ∷ linksTold 15 (0x94 ∷ 0x00 ∷ 0x00 ∷ 0x07 ∷ [])
-    ∷ linksTold 15 (0x33 ∷ 0x40 ∷ 0x00 ∷ 0x07 ∷ [])
+    linksGiven 15 (0x34 ∷ 0x00 ∷ 0x00 ∷ 0x07 ∷ [])
+    ∷ linksGiven 21 (0x34 ∷ 0x00 ∷ 0x00 ∷ 0x07 ∷ [])
+    ∷ linksGiven 15 (0x54 ∷ 0x00 ∷ 0x00 ∷ 0x07 ∷ [])
+    ∷ linksGiven 15 (0x94 ∷ 0x00 ∷ 0x00 ∷ 0x07 ∷ [])
+    ∷ linksGiven 15 (0x33 ∷ 0x40 ∷ 0x00 ∷ 0x07 ∷ [])
     ∷ []
     ≡ 0x0084000000000000 ∷ 0x0004000000000000 ∷ 0x0004000000000000 ∷ 0 ∷ 0 ∷ []
-unfolding samples permits ownRecord setOf linksTold polled seasonRow
+unfolding samples permits ownRecord setOf linksGiven polled seasonRow
 links-told = refl
 
 -- and /yard itself is answered

@@ -11,20 +11,20 @@ use Rattle.rules.specs.Defaults.{noDefaults}
 use Rattle.rules.specs.Run.{kept, final}
 use Rattle.rules.specs.Isolation.{namesOwner, rowAlters, mayFit, mayAlter}
 use Rattle.rules.proofs.Samples.{samples, credRow, aceRow, weight, haulier, haulierRow, connected, serving, withCreds, yard}
-use Rattle.rules_waiting.specs.Slots.{anew, after, slotOf, queueOf, emptyQueue}
-use Rattle.rules_waiting.specs.Round.{seats, sameSeats}
-use Rattle.rules_waiting.specs.Terminal.{Terminal, terminal, Transition}
-use Rattle.rules_waiting.specs.Inputs.{Input, handIn, takeAt, next, othersTurn, turns, recordsIn, countOf}
-use Rattle.rules_waiting.specs.CallRun.{Call, handedBack, allShown}
-use Rattle.rules_waiting.specs.Isolation.{Premises, AsTheBook}
-use Rattle.rules_waiting.proofs.Isolated.{turns-isolated}
-use Rattle.rules_waiting.proofs.RowsMoved.{seats-are}
-use Rattle.rules_handed.specs.Events.{sentBy, newestOf, gathered}
-use Rattle.rules_handed.specs.Isolation.{requestsOf, BookPremise, Isolated}
-use Rattle.rules_handed.specs.Waits.{recordKept, recordTaken, resets, Steady, Quiet, QuietFor, roundIn, isRemoved}
-use Rattle.rules_handed.specs.Made.{callAt, callsAt}
-use Rattle.rules_handed.proofs.Calls.{handed-isolation, built-served, built-kept-served, built-none-lost}
-use Rattle.rules_handed.proofs.Exists.{calls-built}
+use Rattle.rules_terminal.specs.Slots.{anew, afterSeat, slotOf, queueOf, emptyQueue}
+use Rattle.rules_terminal.specs.Round.{seats, sameSeats}
+use Rattle.rules_terminal.specs.Terminal.{Terminal, terminal, Transition}
+use Rattle.rules_terminal.specs.Inputs.{Input, handIn, takeAt, next, othersTurn, turns, recordsIn, countOf}
+use Rattle.rules_terminal.specs.CallRun.{Call, handedBack, allShown}
+use Rattle.rules_terminal.specs.Isolation.{Premises, AsTheBook}
+use Rattle.rules_terminal.proofs.Isolated.{turns-isolated}
+use Rattle.rules_terminal.proofs.RowsMoved.{seats-are}
+use Rattle.rules_runs.specs.Events.{sentBy, newestOf, gathered}
+use Rattle.rules_runs.specs.Isolation.{requestsOf, BookPremise, Isolated}
+use Rattle.rules_runs.specs.Waits.{recordKept, recordTaken, resets, Steady, Quiet, QuietFor, roundIn, isRemoved}
+use Rattle.rules_runs.specs.Made.{callAt, callsAt}
+use Rattle.rules_runs.proofs.Calls.{handed-isolation, built-served, built-kept-served, built-none-lost}
+use Rattle.rules_runs.proofs.Exists.{calls-built}
 use Rattle.rules_examples.proofs.Isolation.{chosen7, calm, calm-harmless}
 use Rattle.rules_examples.proofs.Waiting.{waitingDefinitions, quiet, ask, morning, closed, deleting, storing, resetting, atOnce}
 
@@ -201,6 +201,6 @@ pub taken-waits : map (λ (r : List ℕ). recordsIn (afterTake r)) (deleting 7 �
 unfolding flooding closed deleting resetting afterTake
 taken-waits = refl
 
-pub taken-rounds : map (λ (r : List ℕ). roundIn (afterTake r)) (deleting 7 ∷ deleting 5 ∷ resetting ∷ []) ≡ after (0 ∷ 5 ∷ []) ∷ anew ∷ anew ∷ []
+pub taken-rounds : map (λ (r : List ℕ). roundIn (afterTake r)) (deleting 7 ∷ deleting 5 ∷ resetting ∷ []) ≡ afterSeat (0 ∷ 5 ∷ []) ∷ anew ∷ anew ∷ []
 unfolding flooding closed deleting resetting afterTake
 taken-rounds = refl

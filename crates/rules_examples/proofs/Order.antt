@@ -9,12 +9,12 @@ use Rattle.rules.specs.Bodies.{rowNumber}
 use Rattle.rules.specs.Tables.{rows}
 use Rattle.rules.specs.Defaults.{noDefaults}
 use Rattle.rules.specs.StoreRange.{noRange}
-use Rattle.rules.specs.Reading.{rowsOfReply}
+use Rattle.rules.specs.Contracts.Theorems.{rowsOfReply}
 use Rattle.rules.specs.Run.{replies, final}
 use Rattle.rules.proofs.Samples.{uuid, aceBody, aceRow, weight, connected, serving}
-use Rattle.rules_waiting.specs.Slots.{emptyQueue}
-use Rattle.rules_waiting.specs.Terminal.{Terminal, terminal}
-use Rattle.rules_waiting.specs.Inputs.{Input, handIn, takeAt, direct, transition, next}
+use Rattle.rules_terminal.specs.Slots.{emptyQueue}
+use Rattle.rules_terminal.specs.Terminal.{Terminal, terminal}
+use Rattle.rules_terminal.specs.Inputs.{Input, handIn, takeAt, direct, transition, next}
 use Rattle.rules_order.specs.Reorder.{none, keep, swap, then, inserted, sorted}
 use Rattle.rules_order.specs.Order.{OrderOnly, InStep, withAccess, SameAnswer, InPairs}
 use Rattle.rules_order.proofs.OneRecord.{withBytes}
@@ -62,36 +62,36 @@ orders = tt
 -- and the places that the DELETE reports do differ
 
 -- each input's answer and permission, the record handed out, the numbers of the rows that the reply lists, and the places
-abbrev Said : Type 0
-Said = ℕ × ℕ × List ℕ × List ℕ × StoreRange
+abbrev Result : Type 0
+Result = ℕ × ℕ × List ℕ × List ℕ × StoreRange
 
-abbrev said : Terminal → Input → Said
+abbrev said : Terminal → Input → Result
 said x i =
     let a = transition noDefaults x i in
     let t = a .response in
-    (t .answer, t .permission, a .bytes, map rowNumber (rowsOfReply Aces (t .contents)), t .places)
+    (t .answer, t .permission, a .bytes, map rowNumber (rowsOfReply Aces (t .contents)), t .store)
 
 -- what an order of the rows is seen by: the rows listed before and after the DELETE, and its places
-abbrev dayWith : List ℕ → List ℕ → StoreRange → List Said
-dayWith before behind places =
+abbrev dayWith : List ℕ → List ℕ → StoreRange → List Result
+dayWith before behind store =
     (0, 0, [], [], noRange)
     ∷ (0, 0, [], [], noRange)
     ∷ (0, 6, 0x22 ∷ 0x00 ∷ 0x00 ∷ 0x00 ∷ [], [], noRange)
     ∷ (0, 31, 0x30 ∷ 0xc0 ∷ 0x00 ∷ 0x05 ∷ [], before, noRange)
     ∷ (0, 31, [], [], noRange)
     ∷ (0, 0, [], [], noRange)
-    ∷ (0, 31, 0x70 ∷ 0xc0 ∷ 0x00 ∷ 0x05 ∷ 0x00 ∷ 0x01 ∷ [], [], places)
+    ∷ (0, 31, 0x70 ∷ 0xc0 ∷ 0x00 ∷ 0x05 ∷ 0x00 ∷ 0x01 ∷ [], [], store)
     ∷ (0, 31, [], [], noRange)
     ∷ (0, 31, [], behind, noRange)
     ∷ []
 
-pub numbered-said : replies said (next noDefaults) numbered day ≡ dayWith (1 ∷ 2 ∷ 3 ∷ []) (2 ∷ 3 ∷ []) (record { first = 0; count = 3 })
+pub numbered-result : replies said (next noDefaults) numbered day ≡ dayWith (1 ∷ 2 ∷ 3 ∷ []) (2 ∷ 3 ∷ []) (record { first = 0; count = 3 })
 unfolding orders
-numbered-said = refl
+numbered-result = refl
 
-pub shuffled-said : replies said (next noDefaults) shuffled day ≡ dayWith (3 ∷ 1 ∷ 2 ∷ []) (3 ∷ 2 ∷ []) (record { first = 1; count = 2 })
+pub shuffled-result : replies said (next noDefaults) shuffled day ≡ dayWith (3 ∷ 1 ∷ 2 ∷ []) (3 ∷ 2 ∷ []) (record { first = 1; count = 2 })
 unfolding orders
-shuffled-said = refl
+shuffled-result = refl
 
 -- ---- sorting by number leads from one to the other, the premise holds, and with it the claim
 

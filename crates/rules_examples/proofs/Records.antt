@@ -10,7 +10,8 @@ use Rattle.rules.specs.Bodies.{nil}
 use Rattle.rules.specs.Roles.{unasserted}
 use Rattle.rules.specs.Tables.{withRows, withOwner, withState}
 use Rattle.rules.specs.Defaults.{noDefaults, fresh}
-use Rattle.rules.specs.Permission.{names, effective}
+use Rattle.rules.specs.Permission.{names}
+use Rattle.rules.specs.Contracts.Theorems.{effective}
 use Rattle.rules.specs.StoreRange.{noRange}
 use Rattle.rules.specs.Links.{noLinks}
 use Rattle.rules.specs.Outcome.{responseTo, tablesAfter}
@@ -126,6 +127,6 @@ crowded = withState (withOwner (withCreds (withRows Aces (fresh noDefaults) (ace
 
 -- RETRIEVE of resource 8 by the owner's credential 5
 pub crowded-read : responseTo noDefaults crowded (lent (0x32 ∷ 0x00 ∷ 0x00 ∷ 0x05 ∷ 0x77 ∷ []))
-    ≡ record { answer = 0; permission = 2; payload = 0x77 ∷ []; contents = []; places = noRange; links = noLinks }
+    ≡ record { answer = 0; permission = 2; payload = 0x77 ∷ []; contents = []; store = noRange; links = noLinks }
 unfolding samples crowded aceRows credRows
 crowded-read = refl

@@ -8,14 +8,15 @@ use Rattle.rules.specs.Directory.{someSecurity}
 use Rattle.rules.specs.declared.Sender.the-variants.{Unauthenticated, Partner}
 use Rattle.rules.specs.Record.{Request, received}
 use Rattle.rules.specs.Bodies.{nil}
-use Rattle.rules.specs.Roles.{unasserted, withoutRoles, rolesInForce, credHeld}
+use Rattle.rules.specs.Roles.{unasserted, withoutRoles, rolesInForce, credSound}
 use Rattle.rules.specs.Tables.{rows, withRows, withState}
 use Rattle.rules.specs.Defaults.{noDefaults, fresh}
-use Rattle.rules.specs.Permission.{senderRow, effective}
+use Rattle.rules.specs.Permission.{senderRow}
+use Rattle.rules.specs.Contracts.Theorems.{effective}
 use Rattle.rules.specs.Links.{ownRecord, permits, setOf}
 use Rattle.rules.specs.Outcome.{responseTo, tablesAfter}
 use Rattle.rules.specs.Run.{replies, final, Along, kept, keptOf}
-use Rattle.rules.specs.Storing.{inClear, AllStored}
+use Rattle.rules.specs.Contracts.Storing.{inClear, AllStored}
 use Rattle.rules.specs.Isolation.{Premise, isOthers, namesOwner, rowAlters, mayFit, mayAlter, compared}
 use Rattle.rules.proofs.Samples.{samples, uuid, credRow, withCreds, serving, aceRow, haulierRow, yard}
 use Rattle.rules_examples.proofs.Grants.{foreman}
@@ -200,7 +201,7 @@ dropped-by-reset = refl
 -- role twice; no role 0 with an authority; no byte in a place that is not used
 
 pub roles-held :
-    map (λ roles. credHeld (haulierWith roles))
+    map (λ roles. credSound (haulierWith roles))
     (replicate 16 0
     ∷ (role 1 7 100 ++ replicate 8 0)
     ∷ (role 1 7 100 ++ role 0 7 100)

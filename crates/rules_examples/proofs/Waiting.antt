@@ -5,15 +5,15 @@ use Rattle.rules.specs.Record.{received}
 use Rattle.rules.specs.Defaults.{noDefaults}
 use Rattle.rules.specs.Run.{replies}
 use Rattle.rules.proofs.Samples.{samples, credRow, yard}
-use Rattle.rules_waiting.specs.Slots.{anew, after, seatOf, padded, slotOf, recordOf, roundOf, waiting, queueOf, emptyQueue}
-use Rattle.rules_waiting.specs.Round.{seats, held, occupied, start, inTurn, firstInTurn, sameSeats, orphaned}
-use Rattle.rules_waiting.specs.Terminal.{Terminal, terminal, slotSound, queueSound, soundTerminal, withRecord}
-use Rattle.rules_waiting.specs.Terminal.{handedIn, clears, queueAfter, turn, due, taken, judged}
-use Rattle.rules_waiting.specs.Inputs.{Input, handIn, takeAt, direct, transition, next, bytesOf, turns}
+use Rattle.rules_terminal.specs.Slots.{anew, afterSeat, seatOf, padded, slotOf, recordOf, roundOf, waiting, queueOf, emptyQueue}
+use Rattle.rules_terminal.specs.Round.{seats, isSeat, occupied, start, inTurn, firstInTurn, sameSeats, orphaned}
+use Rattle.rules_terminal.specs.Terminal.{Terminal, terminal, slotSound, queueSound, soundTerminal, withRecord}
+use Rattle.rules_terminal.specs.Terminal.{handedIn, clears, queueAfter, turn, due, taken, judged}
+use Rattle.rules_terminal.specs.Inputs.{Input, handIn, takeAt, direct, transition, next, bytesOf, turns}
 
 -- `unfolding waitingDefinitions` opens all that its own line names
 unfoldable pub waitingDefinitions : Unit {0}
-unfolding samples seatOf padded slotOf recordOf roundOf waiting queueOf seats held occupied start inTurn firstInTurn orphaned slotSound queueSound
+unfolding samples seatOf padded slotOf recordOf roundOf waiting queueOf seats isSeat occupied start inTurn firstInTurn orphaned slotSound queueSound
     soundTerminal withRecord handedIn clears sameSeats queueAfter turn due taken judged
 waitingDefinitions = tt
 
@@ -106,7 +106,7 @@ staying-turns = refl
 
 -- the start tables do not hold the seat taken last: the round begins anew, also once a row with that number comes
 pub elsewhere : Terminal
-elsewhere = terminal (withState yard 2) (queueOf (after (0 ∷ 9 ∷ [])) [])
+elsewhere = terminal (withState yard 2) (queueOf (afterSeat (0 ∷ 9 ∷ [])) [])
 
 pub elsewhere-turns : map bytesOf (turns noDefaults elsewhere
     (atOnce (storing 9) ∷ atOnce (storing 10) ∷ handIn (ask 0x32 10) ∷ handIn (ask 0x22 0) ∷ takeAt 0 0 ∷ takeAt 0 0 ∷ []))

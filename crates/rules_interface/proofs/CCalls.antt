@@ -1,5 +1,5 @@
 -- Theorem, demand 3 of C calls: what the C functions promise (`Promised`, specs/Calls.antt), with the payload read at its offset and length,
--- are calls as `built-isolation` takes them (rules_waiting/proofs/Built.antt), each on the bytes that the one before left.
+-- are calls as `built-isolation` takes them (rules_terminal/proofs/Built.antt), each on the bytes that the one before left.
 use Rattle.rows.proofs.Prelude.{_≡_, ap, _∙_, Bool, false, List, [], _∷_, map, ℕ, length, getD, contradiction}
 use Rattle.rules.specs.declared.Tables.{Tables}
 use Rattle.rules.specs.declared.Sender.{Sender}
@@ -7,22 +7,23 @@ use Rattle.rules.specs.Defaults.{Defaults}
 use Rattle.rules.specs.Checks.{verdict}
 use Rattle.rules.specs.Record.{Request}
 use Rattle.rules.specs.Tables.{sound}
-use Rattle.rules.specs.Outcome.{Outcome, payloadPart, tablesAfter}
+use Rattle.rules.specs.Outcome.{Outcome, tablesAfter}
+use Rattle.rules.specs.Contracts.Results.{payloadPart}
 use Rattle.rules.specs.Run.{Along, kept}
 use Rattle.rules.specs.Isolation.{Premise, isOthers}
 use Rattle.rules.proofs.CheckLaws.{check-cases}
 use Rattle.rules.proofs.Refusals.{unsound-refused}
-use Rattle.rules_waiting.specs.Slots.{padded}
-use Rattle.rules_waiting.specs.Terminal.{Terminal, Transition, handInChecks, handedIn, taken, judged, said, handedOut}
-use Rattle.rules_waiting.specs.Inputs.{Input, handIn, takeAt, direct, othersTurn}
-use Rattle.rules_waiting.specs.CallRun.{told, Meets, Built, handedBack, callTurns}
-use Rattle.rules_waiting.specs.Isolation.{Premises, AsTheBook}
-use Rattle.rules_waiting.specs.Direct.{Whole}
-use Rattle.rules_waiting.proofs.Built.{built-isolation, direct-isolation}
+use Rattle.rules_terminal.specs.Slots.{padded}
+use Rattle.rules_terminal.specs.Terminal.{Terminal, Transition, handInChecks, handedIn, taken, judged, transitionResult, handedOut}
+use Rattle.rules_terminal.specs.Inputs.{Input, handIn, takeAt, direct, othersTurn}
+use Rattle.rules_terminal.specs.CallRun.{responseOf, Meets, Built, handedBack, callTurns}
+use Rattle.rules_terminal.specs.Isolation.{Premises, AsTheBook}
+use Rattle.rules_terminal.specs.Direct.{Whole}
+use Rattle.rules_terminal.proofs.Built.{built-isolation, direct-isolation}
 use Rattle.rules_interface.specs.Memory.{Memory, terminalAt, memoryOf}
 use Rattle.rules_interface.specs.Interface.{wordsOf}
 use Rattle.rules_interface.specs.Calls.{CCall, Promised, CBuilt}
-use Rattle.rules_interface.specs.CallRun.{payloadIn, callOf, callsOf, saidIn, leftBy}
+use Rattle.rules_interface.specs.CallRun.{payloadIn, callOf, callsOf, resultIn, leftBy}
 use Rattle.rules_interface.specs.Direct.{DirectIsolated}
 use Rattle.rules_interface.proofs.Payload.{part-found}
 
@@ -31,8 +32,8 @@ use Rattle.rules_interface.proofs.Payload.{part-found}
 -- ---- each call meets what demand 3 asks for
 
 -- what is said, in words, with the tables that are left
-said-back : (a : Transition) (words : List ℕ) (t : Tables) → words ≡ wordsOf a → t ≡ a .terminal .tables → saidIn words t ≡ said a
-said-back a words t w e = rw (w, e)
+result-back : (a : Transition) (words : List ℕ) (t : Tables) → words ≡ wordsOf a → t ≡ a .terminal .tables → resultIn words t ≡ transitionResult a
+result-back a words t w e = rw (w, e)
 
 -- the bytes of a terminal, read, are the terminal
 tables-left : (x : Terminal) (m : Memory) → m ≡ memoryOf x → terminalAt m ≡ x
@@ -40,7 +41,7 @@ tables-left x m e = ap terminalAt e
 
 -- of a take with the record
 handed-back : (a : Transition) (words size bytes : List ℕ) (t : Tables) → words ≡ wordsOf a → size ≡ length (a .bytes) ∷ [] → bytes ≡ padded (a .bytes)
-    → t ≡ a .terminal .tables → record { judgement = saidIn words t; size = getD size 0 0; bytes = bytes } ≡ handedOut a
+    → t ≡ a .terminal .tables → record { judgement = resultIn words t; size = getD size 0 0; bytes = bytes } ≡ handedOut a
 handed-back a words size bytes t w n b e = rw (w, n, b, e)
 
 -- a hand-in leaves the tables
@@ -49,14 +50,14 @@ unfolding handedIn
 hand-in-tables x r = check-cases (verdict (handInChecks x r)) (λ e. rw e) (λ n e. rw e)
 
 passes : (a : Transition) (words r : List ℕ) → words ≡ wordsOf a → payloadIn words r ≡ payloadPart (getD words 3 0) r
-passes a words r w = rw w (part-found (said a .payload) r)
+passes a words r w = rw w (part-found (transitionResult a .payload) r)
 
 module _ (d : Defaults) (m : Memory) where
   pub c-meets : (i : Input) (c : CCall) → Promised d m i c → Meets d (terminalAt m) i (callOf i c)
   c-meets (handIn r) c p =
       let x = terminalAt m in
       record {
-        says = said-back (handedIn x r) (c .words) _ (p .0 .says) (ap (λ (n : Memory). terminalAt n .tables) (p .1) ∙ hand-in-tables x r);
+        says = result-back (handedIn x r) (c .words) _ (p .0 .says) (ap (λ (n : Memory). terminalAt n .tables) (p .1) ∙ hand-in-tables x r);
         keeps = p .0 .keeps;
       }
   c-meets (takeAt clock capacity) c p =
@@ -72,7 +73,7 @@ module _ (d : Defaults) (m : Memory) where
       let a = judged d (terminalAt m) q in
       let x = tables-left (a .terminal) (c .memory) (p .0 .keeps) in (
         record {
-          says = said-back a (c .words) _ (p .0 .says) (ap (λ (y : Terminal). y .tables) x);
+          says = result-back a (c .words) _ (p .0 .says) (ap (λ (y : Terminal). y .tables) x);
           leaves = record { keeps = ap (λ (y : Terminal). y .queue) x; fills = p .0 .fills };
         },
         record { sized = p .1; passes = passes a (c .words) _ (p .0 .says) },
@@ -102,10 +103,10 @@ pub c-direct-isolation :
     → CBuilt d m (map direct qs) cs
     → Whole (terminalAt m)
     → Along (tablesAfter d) (Premise chosen) (terminalAt m .tables) (kept (isOthers chosen) qs)
-    → DirectIsolated d chosen (terminalAt m .tables) qs (map told (callsOf (map direct qs) cs)) (leftBy m (map direct qs) cs .tables)
+    → DirectIsolated d chosen (terminalAt m .tables) qs (map responseOf (callsOf (map direct qs) cs)) (leftBy m (map direct qs) cs .tables)
 c-direct-isolation d chosen m qs cs b whole premise =
     let both = direct-isolation d chosen (terminalAt m) qs (callsOf (map direct qs) cs) (c-built d m (map direct qs) cs b) whole premise in
-    record { told-same = both .0; tables-same = both .1 }
+    record { responses-same = both .0; tables-same = both .1 }
 
 -- tables that are not sound stay as they are
 unsound-along : (d : Defaults) (chosen : Sender → Bool) (t : Tables) (qs : List Request) → sound t ≡ false → Along (tablesAfter d) (Premise chosen) t qs
@@ -119,6 +120,6 @@ pub c-direct-unsound :
     (d : Defaults) (chosen : Sender → Bool) (m : Memory) (qs : List Request) (cs : List CCall)
     → CBuilt d m (map direct qs) cs
     → sound (terminalAt m .tables) ≡ false
-    → DirectIsolated d chosen (terminalAt m .tables) qs (map told (callsOf (map direct qs) cs)) (leftBy m (map direct qs) cs .tables)
+    → DirectIsolated d chosen (terminalAt m .tables) qs (map responseOf (callsOf (map direct qs) cs)) (leftBy m (map direct qs) cs .tables)
 c-direct-unsound d chosen m qs cs b e =
     c-direct-isolation d chosen m qs cs b (λ h. contradiction h e) (unsound-along d chosen (terminalAt m .tables) (kept (isOthers chosen) qs) e)

@@ -2,7 +2,7 @@
 -- Each call is made by the definitions, on the memory that the one before left.
 use Rattle.rows.proofs.Prelude.{refl, List, [], _∷_, length-replicate}
 use Rattle.rules.specs.Defaults.{Defaults}
-use Rattle.rules_waiting.specs.Inputs.{Input, handIn, takeAt, direct}
+use Rattle.rules_terminal.specs.Inputs.{Input, handIn, takeAt, direct}
 use Rattle.rules_interface.specs.Memory.{Memory}
 use Rattle.rules_interface.specs.Calls.{Promised, CBuilt}
 use Rattle.rules_interface.specs.Made.{callOn, callsOn}

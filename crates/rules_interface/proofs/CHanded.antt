@@ -1,16 +1,16 @@
 -- Theorems of C calls: demand 3 with the book fed what was handed in, within 25 takes, none lost, what waits, the round, whose turn it is.
--- The C calls are calls (`c-built`), so each theorem is the one over calls (rules_handed/proofs/Calls.antt).
+-- The C calls are calls (`c-built`), so each theorem is the one over calls (rules_runs/proofs/Calls.antt).
 use Rattle.rows.proofs.Prelude.{_≡_, Bool, true, List, _++_, ℕ, _+_, _≤_}
 use Rattle.rows.specs.Rows.{same, some}
 use Rattle.rules.specs.declared.Sender.{Sender}
 use Rattle.rules.specs.Defaults.{Defaults}
-use Rattle.rules_waiting.specs.Terminal.{soundTerminal}
-use Rattle.rules_waiting.specs.Inputs.{Input, takes, recordsIn, countOf}
-use Rattle.rules_handed.specs.Events.{gathered}
-use Rattle.rules_handed.specs.Isolation.{requestsOf, allTold, AsRules, BookPremise, Isolated}
-use Rattle.rules_handed.specs.Waits.{recordKept, recordTaken, Quiet, QuietFor, FreshAfterReset, waitsAtEnd, roundIn, roundAtEnd, TakenInTurn}
-use Rattle.rules_handed.proofs.Calls.{handed-isolation, built-rules, built-came, built-resets, built-served}
-use Rattle.rules_handed.proofs.Calls.{built-none-lost, built-waits, built-round, built-turns}
+use Rattle.rules_terminal.specs.Terminal.{soundTerminal}
+use Rattle.rules_terminal.specs.Inputs.{Input, takes, recordsIn, countOf}
+use Rattle.rules_runs.specs.Events.{gathered}
+use Rattle.rules_runs.specs.Isolation.{requestsOf, allResponses, AsRules, BookPremise, Isolated}
+use Rattle.rules_runs.specs.Waits.{recordKept, recordTaken, Quiet, QuietFor, FreshAfterReset, waitsAtEnd, roundIn, roundAtEnd, TakenInTurn}
+use Rattle.rules_runs.proofs.Calls.{handed-isolation, built-rules, built-came, built-resets, built-served}
+use Rattle.rules_runs.proofs.Calls.{built-none-lost, built-waits, built-round, built-turns}
 use Rattle.rules_interface.specs.Memory.{Memory, terminalAt}
 use Rattle.rules_interface.specs.Calls.{CCall, CBuilt}
 use Rattle.rules_interface.specs.CallRun.{callsOf, shownBy, leftBy}
@@ -23,7 +23,7 @@ module _ (d : Defaults) (m : Memory) (is : List Input) (cs : List CCall) (b : CB
   c-handed-isolation = handed-isolation d (terminalAt m) is (callsOf is cs) (c-built d m is cs b)
 
   -- all records judged, so fed, are judged as the rules judge them one after the other
-  pub c-rules : AsRules d (terminalAt m .tables) (requestsOf (terminalAt m) is (shownBy is cs)) (allTold is (shownBy is cs))
+  pub c-rules : AsRules d (terminalAt m .tables) (requestsOf (terminalAt m) is (shownBy is cs)) (allResponses is (shownBy is cs))
       (leftBy m is cs .tables)
   c-rules = built-rules d (terminalAt m) is (callsOf is cs) (c-built d m is cs b)
 

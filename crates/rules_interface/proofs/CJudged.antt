@@ -6,26 +6,26 @@ use Rattle.rules.specs.declared.Table.{Table}
 use Rattle.rules.specs.declared.Table.the-variants.{Creds, Aces}
 use Rattle.rules.specs.Directory.{roles}
 use Rattle.rules.specs.Record.{Request, received, verb, resource, body, sender, headerOf}
-use Rattle.rules.specs.Bodies.{hasSubject}
+use Rattle.rules.specs.Contracts.Theorems.{hasSubject}
 use Rattle.rules.specs.Roles.{rolesInForce, bothTaken}
 use Rattle.rules.specs.Tables.{tableSize, bytes, rows, withRows}
 use Rattle.rules.specs.Defaults.{Defaults}
 use Rattle.rules.specs.Permission.{permission, senderRow, senderRowIn, connectionOf}
-use Rattle.rules.specs.StoreRange.{deletes}
+use Rattle.rules.specs.Contracts.Theorems.{deletes}
 use Rattle.rules.specs.Links.{asksLinks}
 use Rattle.rules.specs.Outcome.{Response, Outcome, responseTo, tablesAfter}
 use Rattle.rules.specs.Checks.{verdict}
 use Rattle.rules.proofs.CheckLaws.{check-cases}
 use Rattle.rules.proofs.Refusals.{noneApplies, permitted-outcome}
 use Rattle.rules.proofs.SubjectRows.{SubjectGone, earlier, subject-gone, subject-answer}
-use Rattle.rules.proofs.Wear.{Worn, NoPlaces, delete-worn, no-places}
+use Rattle.rules.proofs.Wear.{Worn, NoRange, delete-worn, no-range}
 use Rattle.rules.proofs.YardSet.{YardSet, NoSet, yard-set, no-set}
 use Rattle.rules.proofs.RoleRows.{RoleAsserted, role-asserted, role-answer}
-use Rattle.rules_waiting.specs.Terminal.{Terminal, directChecks, due, judged}
-use Rattle.rules_waiting.specs.Inputs.{takeAt, direct}
-use Rattle.rules_waiting.specs.CallRun.{told}
-use Rattle.rules_waiting.proofs.Built.{direct-number, direct-told, take-told, call-left}
-use Rattle.rules_waiting.proofs.Takes.{judged-take}
+use Rattle.rules_terminal.specs.Terminal.{Terminal, directChecks, due, judged}
+use Rattle.rules_terminal.specs.Inputs.{takeAt, direct}
+use Rattle.rules_terminal.specs.CallRun.{responseOf}
+use Rattle.rules_terminal.proofs.Built.{direct-number, direct-told, take-told, call-left}
+use Rattle.rules_terminal.proofs.Takes.{judged-take}
 use Rattle.rules_legacy.specs.OldList.{oldUnion}
 use Rattle.rules_legacy.specs.Conversion.{rowsMade}
 use Rattle.rules_legacy.proofs.Held.{permission-same}
@@ -52,9 +52,9 @@ c-outcome d m c q (atOnce _ p n) =
     let k = callOf (direct q) c in
     let meets = c-meets d m (direct q) c p in
     let s = direct-told d x q k meets in
-    let o = at-once d x q (rw (← answer-of (told k) _ s) n) in
+    let o = at-once d x q (rw (← answer-of (responseOf k) _ s) n) in
     record {
-      told-same = s ∙ o .0;
+      responses-same = s ∙ o .0;
       tables-same = ap (λ (y : Terminal). y .tables) (call-left d x (direct q) k meets) ∙ o .1;
     }
 c-outcome d m c q (atTake clock capacity p n) =
@@ -63,10 +63,10 @@ c-outcome d m c q (atTake clock capacity p n) =
     let k = callOf i c in
     let meets = c-meets d m i c p in
     let s = take-told d x clock capacity k meets in
-    let o = judged-take d x clock capacity (rw (← answer-of (told k) _ (s .1)) n) in
+    let o = judged-take d x clock capacity (rw (← answer-of (responseOf k) _ (s .1)) n) in
     let same : recordOut c ≡ due x = s .0 ∙ o .handed in
     record {
-      told-same = s .1 ∙ o .response ∙ ap (λ (r : List ℕ). responseTo d (x .tables) (received clock r capacity)) (sym same);
+      responses-same = s .1 ∙ o .response ∙ ap (λ (r : List ℕ). responseTo d (x .tables) (received clock r capacity)) (sym same);
       tables-same = rw same (ap (λ (y : Terminal). y .tables) (call-left d x i k meets) ∙ o .tables);
     }
 
@@ -74,7 +74,7 @@ c-outcome d m c q (atTake clock capacity p n) =
 
 module _ (d : Defaults) (m : Memory) (c : CCall) (q : Request) (judges : JudgesOn d m c q) where
   told-is : toldOn c (q .bytes) ≡ responseTo d (tablesOn m) q
-  told-is = c-outcome d m c q judges .told-same
+  told-is = c-outcome d m c q judges .responses-same
 
   after-is : tablesOn (c .memory) ≡ tablesAfter d (tablesOn m) q
   after-is = c-outcome d m c q judges .tables-same
@@ -95,14 +95,14 @@ module _ (d : Defaults) (m : Memory) (c : CCall) (q : Request) (judges : JudgesO
 
   -- U4: the rows that a permitted DELETE tells C to store, and no others, differ in the bytes that it leaves
   pub c-delete-worn : (k : Table) → deletes k (q .bytes) ≡ true → answerTold c ≡ 0 → length (bytes k (tablesOn m)) ≡ tableSize k
-      → Worn k (tablesOn m) (tablesOn (c .memory)) (toldOn c (q .bytes) .places)
+      → Worn k (tablesOn m) (tablesOn (c .memory)) (toldOn c (q .bytes) .store)
   c-delete-worn k asks z long =
-      subst (λ (y : Response). Worn k (tablesOn m) (tablesOn (c .memory)) (y .places)) (sym told-is)
+      subst (λ (y : Response). Worn k (tablesOn m) (tablesOn (c .memory)) (y .store)) (sym told-is)
       (rw after-is (delete-worn d (tablesOn m) q k asks (zero-is z) long))
 
   -- U4: everything else tells C 0 and 0
-  pub c-no-places : (toldOn c (q .bytes) .places ≡ responseTo d (tablesOn m) q .places) × NoPlaces d (tablesOn m) q
-  c-no-places = (ap (λ (y : Response). y .places) told-is, no-places d (tablesOn m) q)
+  pub c-no-places : (toldOn c (q .bytes) .store ≡ responseTo d (tablesOn m) q .store) × NoRange d (tablesOn m) q
+  c-no-places = (ap (λ (y : Response). y .store) told-is, no-range d (tablesOn m) q)
 
   -- U9: the set that a permitted RETRIEVE or UPDATE of /yard tells C
   pub c-yard-set : asksLinks (headerOf (q .bytes)) ≡ true → answerTold c ≡ 0

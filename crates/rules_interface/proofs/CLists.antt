@@ -9,8 +9,8 @@ use Rattle.rules.specs.Tables.{rows}
 use Rattle.rules.specs.Reading.{filled}
 use Rattle.rules.specs.Permission.{senderRowIn, connectionOf, grants}
 use Rattle.rules.specs.Checks.{verdict, numberOf}
-use Rattle.rules_waiting.specs.Terminal.{Terminal, soundTerminal}
-use Rattle.rules_waiting.proofs.Sound.{terminal-parts}
+use Rattle.rules_terminal.specs.Terminal.{Terminal, soundTerminal}
+use Rattle.rules_terminal.proofs.Sound.{terminal-parts}
 use Rattle.rules_office.specs.Office.{officeVerdict, officeReply, officeText, rowsWritten}
 use Rattle.rules_office.specs.Written.{all, isByte}
 use Rattle.rules_office.proofs.Injective.{tables-injective}

@@ -6,8 +6,8 @@ use Rattle.rules.specs.Record.{Request}
 use Rattle.rules.specs.Tables.{rows, withRows}
 use Rattle.rules.specs.Defaults.{Defaults}
 use Rattle.rules.specs.Outcome.{Response}
-use Rattle.rules_waiting.specs.Inputs.{Input}
-use Rattle.rules_handed.specs.Isolation.{requestsOf, allTold}
+use Rattle.rules_terminal.specs.Inputs.{Input}
+use Rattle.rules_runs.specs.Isolation.{requestsOf, allResponses}
 use Rattle.rules_lists.specs.Lists.{listed, listTested}
 use Rattle.rules_lists.specs.Loading.{Ready, Stores}
 use Rattle.rules_lists.proofs.Loaded.{built-loaded}
@@ -22,7 +22,7 @@ module _ (d : Defaults) (m : Memory) (is : List Input) (cs : List CCall) (built 
   -- the records judged are those of the list, with the bytes of the hand-ins
   pub c-loaded : (b : List ℕ) → listTested b .answer ≡ 0 → Ready (terminalAt m .tables)
       → Stores (terminalAt m .tables) (requestsOf (terminalAt m) is (shownBy is cs)) (listed b)
-      → (map (λ (p : Response). p .answer) (allTold is (shownBy is cs))
+      → (map (λ (p : Response). p .answer) (allResponses is (shownBy is cs))
       ≡ map (λ (q : Request). 0) (requestsOf (terminalAt m) is (shownBy is cs)))
       × (rows Aces (leftBy m is cs .tables) ≡ listed b)
       × (withRows Aces (leftBy m is cs .tables) [] ≡ withRows Aces (terminalAt m .tables) [])

@@ -3,7 +3,7 @@
 use Rattle.rows.proofs.Prelude.{_≡_, refl, sym, ap, _∙_, true, false, cond, List, ℕ, arith, getD}
 use Rattle.rows.proofs.Bools.{bool-cases}
 use Rattle.rules.specs.Defaults.{Defaults}
-use Rattle.rules_waiting.specs.Terminal.{soundTerminal, freshTerminal, clearedTerminal}
+use Rattle.rules_terminal.specs.Terminal.{soundTerminal, freshTerminal, clearedTerminal}
 use Rattle.rules_isolation.specs.declared.Isolation.{Isolation}
 use Rattle.rules_isolation.specs.declared.Isolation.the-variants.{Isolated, OddLength, Unsound, NoOwner, NamesOwner, MayAlter}
 use Rattle.rules_isolation.specs.Question.{reportOf}
@@ -12,7 +12,7 @@ use Rattle.rules_store.specs.declared.Step.the-variants.{Write, Done, Unfit}
 use Rattle.rules_store.specs.Store.{next}
 use Rattle.rules_interface.specs.Memory.{Memory, terminalAt}
 use Rattle.rules_interface.specs.Interface.{FreshAt, ClearsAt, IsSoundAt}
-use Rattle.rules_interface.specs.Storing.{answerIn, placeIn, byteIn, StoresNext}
+use Rattle.rules_interface.specs.Storing.{answerIn, addressIn, byteIn, StoresNext}
 
 -- reason 0 is 'isolated', and nothing else is
 pub reason-isolated : (i : Isolation) → reportOf i .reason ≡ 0 → i ≡ Isolated
@@ -30,25 +30,25 @@ done-of (Write at byte) e = absurd (omega (arith, e))
 done-of Done e = refl
 done-of Unfit e = absurd (omega (arith, e))
 
-write-of : (t : Step) (place byte : List ℕ) → answerIn t ≡ 1 → t ≡ Write (getD (placeIn t place) 0 0) (getD (byteIn t byte) 0 0)
-write-of (Write at b) place byte e = refl
-write-of Done place byte e = absurd (omega (arith, e))
-write-of Unfit place byte e = absurd (omega (arith, e))
+write-of : (t : Step) (address byte : List ℕ) → answerIn t ≡ 1 → t ≡ Write (getD (addressIn t address) 0 0) (getD (byteIn t byte) 0 0)
+write-of (Write at b) address byte e = refl
+write-of Done address byte e = absurd (omega (arith, e))
+write-of Unfit address byte e = absurd (omega (arith, e))
 
 unfit-of : (t : Step) → answerIn t ≡ 2 → t ≡ Unfit
 unfit-of (Write at byte) e = absurd (omega (arith, e))
 unfit-of Done e = absurd (omega (arith, e))
 unfit-of Unfit e = refl
 
-module _ (store image : List ℕ) (from told : ℕ) (lentPlace lentByte place byte : List ℕ)
-    (s : StoresNext store image from told lentPlace lentByte place byte) where
+module _ (store image : List ℕ) (from told : ℕ) (lentAddress lentByte address byte : List ℕ)
+    (s : StoresNext store image from told lentAddress lentByte address byte) where
   -- 0: the image is the current one
   pub c-done : told ≡ 0 → next store image from ≡ Done
   c-done e = done-of (next store image from) (sym (s .answer) ∙ e)
 
   -- 1: the byte that C is told is to be written at the place that it is told
-  pub c-write : told ≡ 1 → next store image from ≡ Write (getD place 0 0) (getD byte 0 0)
-  c-write e = rw (s .place-is, s .byte-is) (write-of (next store image from) lentPlace lentByte (sym (s .answer) ∙ e))
+  pub c-write : told ≡ 1 → next store image from ≡ Write (getD address 0 0) (getD byte 0 0)
+  c-write e = rw (s .address-is, s .byte-is) (write-of (next store image from) lentAddress lentByte (sym (s .answer) ∙ e))
 
   -- 2: the store is not one for such images
   pub c-unfit : told ≡ 2 → next store image from ≡ Unfit

@@ -2,8 +2,8 @@
 -- They are calls as the theorems of power cuts take them (rules_power/proofs/PowerCuts.antt).
 use Rattle.rows.proofs.Prelude.{_≡_, refl, sym, ap, subst, _∙_, Bool, true, _&&_, List, [], _∷_, ℕ, length}
 use Rattle.rules.specs.Defaults.{Defaults}
-use Rattle.rules_waiting.specs.Terminal.{Terminal}
-use Rattle.rules_waiting.specs.CallRun.{Call}
+use Rattle.rules_terminal.specs.Terminal.{Terminal}
+use Rattle.rules_terminal.specs.CallRun.{Call}
 use Rattle.rules_store.specs.Store.{sizeFor}
 use Rattle.rules_power.specs.Image.{tablesSize, terminalSize}
 use Rattle.rules_power.specs.Day as day
@@ -77,13 +77,13 @@ module _ (d : Defaults) where
 
   seen-inputs : (es : List (Event Act CCall)) → noClear (seen es) ≡ noClear es
   seen-inputs [] = refl
-  seen-inputs (day.told act c ∷ es) = ap (λ (b : Bool). isInput act && b) (seen-inputs es)
+  seen-inputs (day.replied act c ∷ es) = ap (λ (b : Bool). isInput act && b) (seen-inputs es)
   seen-inputs (day.cut act ∷ es) = ap (λ (b : Bool). isInput act && b) (seen-inputs es)
   seen-inputs (day.idle ∷ es) = seen-inputs es
 
   rounds-inputs : (es : List (Event (List Act) (List CCall))) → noClearIn (seenRounds es) ≡ noClearIn es
   rounds-inputs [] = refl
-  rounds-inputs (day.told acts cs ∷ es) = ap (λ (b : Bool). allInputs acts && b) (rounds-inputs es)
+  rounds-inputs (day.replied acts cs ∷ es) = ap (λ (b : Bool). allInputs acts && b) (rounds-inputs es)
   rounds-inputs (day.cut acts ∷ es) = ap (λ (b : Bool). allInputs acts && b) (rounds-inputs es)
   rounds-inputs (day.idle ∷ es) = rounds-inputs es
 

@@ -4,10 +4,10 @@ use Rattle.rows.specs.Rows.{hasKey, without}
 use Rattle.rules.specs.Record.{Request}
 use Rattle.rules.specs.Defaults.{Defaults}
 use Rattle.rules.specs.Reading.{filled}
-use Rattle.rules_waiting.specs.Terminal.{Transition, terminal, soundTerminal, turn, due}
-use Rattle.rules_waiting.specs.Slots.{after, padded, waiting, queueOf}
-use Rattle.rules_waiting.specs.Inputs.{handIn, takeAt, direct}
-use Rattle.rules_waiting.proofs.Refused.{take-nothing, refused-take, refused-direct, refused-hand-in}
+use Rattle.rules_terminal.specs.Terminal.{Transition, terminal, soundTerminal, turn, due}
+use Rattle.rules_terminal.specs.Slots.{afterSeat, padded, waiting, queueOf}
+use Rattle.rules_terminal.specs.Inputs.{handIn, takeAt, direct}
+use Rattle.rules_terminal.proofs.Refused.{take-nothing, refused-take, refused-direct, refused-hand-in}
 use Rattle.rules_interface.specs.Memory.{Memory, terminalAt, memoryOf, withQueue}
 use Rattle.rules_interface.specs.Interface.{offsetOf, wordsOf, numberWords}
 use Rattle.rules_interface.specs.Calls.{CCall, Promised}
@@ -65,7 +65,7 @@ module _ (d : Defaults) (m : Memory) (sized : length (m .counts) ≡ 4) (c : CCa
       → (c .words ≡ numberWords (suc n))
       × (c .size ≡ length (due (terminalAt m)) ∷ [])
       × (c .bytes ≡ padded (due (terminalAt m)))
-      × (c .memory ≡ withQueue m (queueOf (after (turn (terminalAt m))) (without (hasKey 0 (turn (terminalAt m))) (waiting (m .queue)))))
+      × (c .memory ≡ withQueue m (queueOf (afterSeat (turn (terminalAt m))) (without (hasKey 0 (turn (terminalAt m))) (waiting (m .queue)))))
       × (c .buffer ≡ c .lent)
   unfolding offsetOf filled
   c-refused-take clock capacity p h w a =

@@ -3,10 +3,10 @@
 use Rattle.rows.proofs.Prelude.{_≡_, refl, sym, ap, subst, _∙_, List, [], _∷_, ℕ, length, take, drop, getD, take-at}
 use Rattle.rules.specs.Defaults.{Defaults}
 use Rattle.rules.specs.Reading.{filled}
-use Rattle.rules_waiting.specs.Terminal.{Transition, taken, judged}
-use Rattle.rules_waiting.specs.Inputs.{Input, handIn, takeAt, direct}
+use Rattle.rules_terminal.specs.Terminal.{Transition, taken, judged}
+use Rattle.rules_terminal.specs.Inputs.{Input, handIn, takeAt, direct}
 use Rattle.rules_power.specs.Kept.{Act, input, clear}
-use Rattle.rules_waiting.specs.Slots.{emptyQueue}
+use Rattle.rules_terminal.specs.Slots.{emptyQueue}
 use Rattle.rules_interface.specs.Memory.{Memory, terminalAt, memoryOf, withQueue}
 use Rattle.rules_interface.specs.Interface.{wordsOf}
 use Rattle.rules_interface.specs.Calls.{CCall, Promised, PromisedBy}

@@ -3,8 +3,8 @@
 use Rattle.rows.proofs.Prelude.{_≡_, false, Bool, List, [], _∷_, ℕ}
 use Rattle.rules.specs.declared.Sender.{Sender}
 use Rattle.rules.specs.Defaults.{Defaults}
-use Rattle.rules_waiting.specs.Inputs.{Input, recordsIn}
-use Rattle.rules_handed.specs.Isolation as handed
+use Rattle.rules_terminal.specs.Inputs.{Input, recordsIn}
+use Rattle.rules_runs.specs.Isolation as handed
 use Rattle.rules_isolation.specs.declared.Isolation.the-variants.{Isolated}
 use Rattle.rules_isolation.specs.Question.{chosenBy, isolationOf}
 use Rattle.rules_isolation.specs.Service.{othersEndanger, turnsHanded, Again, Within}

@@ -7,11 +7,11 @@ use Rattle.rules.specs.Tables.{tablesOf}
 use Rattle.rules.specs.Defaults.{Defaults, fresh}
 use Rattle.rules.specs.Reading.{filled}
 use Rattle.rules.specs.Checks.{numberOf}
-use Rattle.rules.specs.Outcome.{Said, saidOf}
-use Rattle.rules_waiting.specs.declared.Taken.{Taken}
-use Rattle.rules_waiting.specs.Slots.{emptyQueue}
-use Rattle.rules_waiting.specs.Terminal.{Terminal, terminal, soundTerminal, freshTerminal, HandedOut, takenOf, judged, taken}
-use Rattle.rules_waiting.specs.Calls.{HandsIn, Takes, Judges}
+use Rattle.rules.specs.Contracts.Results.{Result, resultWith}
+use Rattle.rules_terminal.specs.declared.Taken.{Taken}
+use Rattle.rules_terminal.specs.Slots.{emptyQueue}
+use Rattle.rules_terminal.specs.Terminal.{Terminal, terminal, soundTerminal, freshTerminal, HandedOut, takenOf, judged, taken}
+use Rattle.rules_terminal.specs.Calls.{HandsIn, Takes, Judges}
 use Rattle.rules_office.specs.Office.{officeVerdict, officeReply}
 use Rattle.rules_interface.specs.Memory.{Memory, headAt, terminalAt, countsOf, memoryOf}
 use Rattle.rules_interface.specs.Interface.{wordsIn, FreshAt, IsSoundAt, HandsInAt, JudgesAt, TakesAt, ListsAt}
@@ -59,25 +59,25 @@ module _ (m : Memory) (h : Head) (reads : h ≡ headAt (m .counts) (m .devowner)
   sound-at b told n e f g = let is = read (λ (x : Terminal). b ≡ soundTerminal x) e in record { says = rw (← is, f, g) }
 
   pub judges-at : (d : Defaults) (q : Request) (j : Judgement) (words : List ℕ) (after : Memory) (lent buffer : List ℕ)
-      → Judges d (terminal (tablesOf h (m .creds) (m .aces)) (m .queue)) q (saidOf j (after .creds) (after .aces)) lent (after .queue) buffer
-      → words ≡ wordsIn (saidOf j [] []) → PutBack (j .head) after → JudgesAt d m q words after lent buffer
+      → Judges d (terminal (tablesOf h (m .creds) (m .aces)) (m .queue)) q (resultWith j (after .creds) (after .aces)) lent (after .queue) buffer
+      → words ≡ wordsIn (resultWith j [] []) → PutBack (j .head) after → JudgesAt d m q words after lent buffer
   judges-at d q j words after lent buffer g w p =
-      let is = read (λ (x : Terminal). Judges d x q (saidOf j (after .creds) (after .aces)) lent (after .queue) buffer) g in
+      let is = read (λ (x : Terminal). Judges d x q (resultWith j (after .creds) (after .aces)) lent (after .queue) buffer) g in
       record {
         says = w ∙ ap wordsIn (is .says);
-        keeps = put-back (j .head) (judged d (terminalAt m) q .terminal) after p (ap (λ (s : Said). s .tables) (is .says)) (is .leaves .keeps);
+        keeps = put-back (j .head) (judged d (terminalAt m) q .terminal) after p (ap (λ (s : Result). s .tables) (is .says)) (is .leaves .keeps);
         fills = is .leaves .fills;
       }
 
   pub hands-in-at : (r : List ℕ) (j : Judgement) (words queue : List ℕ)
-      → HandsIn (terminal (tablesOf h (m .creds) (m .aces)) (m .queue)) r (saidOf j (m .creds) (m .aces)) queue
-      → words ≡ wordsIn (saidOf j [] []) → HandsInAt m r words queue
+      → HandsIn (terminal (tablesOf h (m .creds) (m .aces)) (m .queue)) r (resultWith j (m .creds) (m .aces)) queue
+      → words ≡ wordsIn (resultWith j [] []) → HandsInAt m r words queue
   hands-in-at r j words queue g w =
-      let is = read (λ (x : Terminal). HandsIn x r (saidOf j (m .creds) (m .aces)) queue) g in record { says = w ∙ ap wordsIn (is .says); keeps = is .keeps }
+      let is = read (λ (x : Terminal). HandsIn x r (resultWith j (m .creds) (m .aces)) queue) g in record { says = w ∙ ap wordsIn (is .says); keeps = is .keeps }
 
   pub takes-at : (d : Defaults) (clock capacity : ℕ) (u : Taken) (words size bytes : List ℕ) (after : Memory) (lent buffer : List ℕ)
       → Takes d (terminal (tablesOf h (m .creds) (m .aces)) (m .queue)) clock capacity (takenOf u (after .creds) (after .aces)) lent (after .queue) buffer
-      → words ≡ wordsIn (saidOf (u .judgement) [] []) → size ≡ u .size ∷ [] → bytes ≡ u .bytes → PutBack (u .judgement .head) after
+      → words ≡ wordsIn (resultWith (u .judgement) [] []) → size ≡ u .size ∷ [] → bytes ≡ u .bytes → PutBack (u .judgement .head) after
       → TakesAt d m clock capacity words size bytes after lent buffer
   takes-at d clock capacity u words size bytes after lent buffer g w n b p =
       let is = read (λ (x : Terminal). Takes d x clock capacity (takenOf u (after .creds) (after .aces)) lent (after .queue) buffer) g in

@@ -3,10 +3,10 @@ use Rattle.rows.proofs.Prelude.{_≡_, refl, _∙_, List, ℕ, zero, suc, arith
 use Rattle.rules.specs.Record.{Request, received}
 use Rattle.rules.specs.Defaults.{Defaults}
 use Rattle.rules.specs.Checks.{verdict}
-use Rattle.rules.specs.Outcome.{payloadPart}
+use Rattle.rules.specs.Contracts.Results.{payloadPart}
 use Rattle.rules.proofs.CheckLaws.{check-cases}
 use Rattle.rules.proofs.Refusals.{payload-is}
-use Rattle.rules_waiting.specs.Terminal.{Terminal, takeChecks, due, taken, directChecks, judged}
+use Rattle.rules_terminal.specs.Terminal.{Terminal, takeChecks, due, taken, directChecks, judged}
 use Rattle.rules_interface.specs.Interface.{offsetOf, wordsOf}
 use Rattle.rules_interface.specs.CallRun.{partAt, payloadIn}
 

@@ -1,38 +1,38 @@
 -- C calls as calls: the words read in their order, the payload at its offset and length, the terminal in the bytes.
 -- What the calls of a run show, and the terminal that they leave.
-use Prim.Native.Nat.{ℕ}
 use lib.ListN.{drop, getD, take}
 use mathlib.Core.List.{List, [], _∷_}
-use Rattle.rules.specs.Outcome.{Said}
+use Rattle.rules.specs.Contracts.Results.{Result}
 use Rattle.rules.specs.declared.Tables.{Tables}
 use Rattle.rules_interface.specs.Calls.{CCall}
-use Rattle.rules_interface.specs.Memory.{Memory, terminalAt}
-use Rattle.rules_waiting.specs.CallRun.{Call, handedBack, allShown}
-use Rattle.rules_waiting.specs.Terminal.{Terminal, Transition}
-use Rattle.rules_waiting.specs.Inputs.{Input, direct, handIn, takeAt}
+use Rattle.rules_interface.specs.Memory.{Memory, Words, terminalAt}
+use Rattle.rules_terminal.specs.CallRun.{Call, handedBack, allShown}
+use Rattle.rules_terminal.specs.Terminal.{Terminal, Transition}
+use Rattle.rules_terminal.specs.Inputs.{Input, direct, handIn, takeAt}
+use Rattle.rules.specs.Types.{Bytes, Offset, Size}
 
 -- the part at this offset, of this length
-abbrev pub partAt : ℕ → ℕ → List ℕ → List ℕ
+abbrev pub partAt : Offset → Size → Bytes → Bytes
 partAt offset n r = take n (drop offset r)
 
 -- the part that the words name
-abbrev pub payloadIn : List ℕ → List ℕ → List ℕ
+abbrev pub payloadIn : Words → Bytes → Bytes
 payloadIn words r = partAt (getD words 2 0) (getD words 3 0) r
 
 -- the words, read in their order
-abbrev pub saidIn : List ℕ → Tables → Said
-saidIn words t = record {
+abbrev pub resultIn : Words → Tables → Result
+resultIn words t = record {
   answer = getD words 0 0;
   permission = getD words 1 0;
   payload = getD words 3 0;
   reply = getD words 4 0;
-  places = record { first = getD words 5 0; count = getD words 6 0 };
+  store = record { first = getD words 5 0; count = getD words 6 0 };
   links = record { set = getD words 7 0; size = getD words 8 0 };
   tables = t;
 }
 
 -- the record whose part the payload is; a hand-in has none
-abbrev pub recordIn : Input → CCall → List ℕ
+abbrev pub recordIn : Input → CCall → Bytes
 recordIn (handIn r) c = []
 recordIn (takeAt clock capacity) c = take (getD (c .size) 0 0) (c .bytes)
 recordIn (direct q) c = q .bytes
@@ -40,7 +40,7 @@ recordIn (direct q) c = q .bytes
 -- the call
 abbrev pub callOf : Input → CCall → Call
 callOf i c = record {
-  judgement = saidIn (c .words) (terminalAt (c .memory) .tables);
+  judgement = resultIn (c .words) (terminalAt (c .memory) .tables);
   queue = c .memory .queue;
   lent = c .lent;
   buffer = c .buffer;

@@ -4,7 +4,7 @@ use mathlib.Core.Path.{_≡_}
 use mathlib.Core.List.{List, [], _∷_}
 use lib.ListN.{length}
 use Rattle.rules.specs.Defaults.{Defaults}
-use Rattle.rules_waiting.specs.Inputs.{Input, handIn, takeAt, direct}
+use Rattle.rules_terminal.specs.Inputs.{Input, handIn, takeAt, direct}
 use Rattle.rules_power.specs.Kept.{Act, input, clear}
 use Rattle.rules_interface.specs.Memory.{Words, Memory, withQueue}
 use Rattle.rules_interface.specs.Interface.{HandsInAt, TakesAt, JudgesAt, ClearsAt}

@@ -13,5 +13,5 @@ use Rattle.rules.specs.Isolation.{isOthers, compared}
 -- from the tables t, the others are told what the book answers, and the tables at the end are the book's but for the chosen partners'
 -- asserted roles
 pub record DirectIsolated (d : Defaults) (chosen : Sender → Bool) (t : Tables) (qs : List Request) (replied : List Response) (end : Tables) : Type 0 where
-  pub told-same : keptOf (isOthers chosen) qs replied ≡ replies (responseTo d) (tablesAfter d) t (kept (isOthers chosen) qs)
+  pub responses-same : keptOf (isOthers chosen) qs replied ≡ replies (responseTo d) (tablesAfter d) t (kept (isOthers chosen) qs)
   pub tables-same : compared chosen end ≡ compared chosen (final (tablesAfter d) t (kept (isOthers chosen) qs))

@@ -9,37 +9,37 @@ use Rattle.rules.specs.Record.{Request}
 use Rattle.rules.specs.Defaults.{Defaults}
 use Rattle.rules.specs.Reading.{filled}
 use Rattle.rules.specs.Checks.{numberOf}
-use Rattle.rules.specs.Outcome.{Said}
-use Rattle.rules_waiting.specs.Slots.{Queue, padded}
-use Rattle.rules_waiting.specs.Terminal.{Transition, soundTerminal, handedIn, taken, judged, said, freshTerminal, clearedTerminal}
+use Rattle.rules.specs.Contracts.Results.{Result}
+use Rattle.rules_terminal.specs.Slots.{Queue, padded}
+use Rattle.rules_terminal.specs.Terminal.{Transition, soundTerminal, handedIn, taken, judged, transitionResult, freshTerminal, clearedTerminal}
 use Rattle.rules_office.specs.Office.{officeVerdict, officeReply}
 use Rattle.rules_lists.specs.Lists.{listTested}
 use Rattle.rules_legacy.specs.Conversion.{conversionVerdict, conversionReply}
 use Rattle.rules_interface.specs.Memory.{Words, Memory, terminalAt, memoryOf}
 use Rattle.rules.specs.Types.{Answer, Bit, Bytes, Clock, Offset, Size}
 
--- ---- what is said
+-- ---- the result
 
--- where the payload stands in its record: behind the header's four bytes, and none has no place
+-- the offset of the payload in its record: after the header's four bytes; 0 if there is none
 unfoldable pub offsetOf : Size → Offset
 offsetOf size = cond (eqb size 0) 0 4
 
 -- answer, permission, the payload's offset and length, the reply's length, the rows to store, the links
-abbrev pub wordsIn : Said → Words
+abbrev pub wordsIn : Result → Words
 wordsIn result =
     result .answer
     ∷ result .permission
     ∷ offsetOf (result .payload)
     ∷ result .payload
     ∷ result .reply
-    ∷ result .places .first
-    ∷ result .places .count
+    ∷ result .store .first
+    ∷ result .store .count
     ∷ result .links .set
     ∷ result .links .size
     ∷ []
 
 abbrev pub wordsOf : Transition → Words
-wordsOf a = wordsIn (said a)
+wordsOf a = wordsIn (transitionResult a)
 
 -- a number and nothing else
 abbrev pub numberWords : Answer → Words

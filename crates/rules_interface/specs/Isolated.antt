@@ -1,4 +1,4 @@
--- What is said of isolation as three words, and the number that identifies the library.
+-- The answer about isolation as three words, and the number that identifies the library.
 -- The tables are lent as five arrays (Memory).
 use Prim.Native.Nat.{ℕ, _+_, _*_}
 use mathlib.Core.List.{[], _∷_}

@@ -10,7 +10,7 @@ use Rattle.rules.specs.declared.Tables.{Tables}
 use Rattle.rules.specs.Record.{Request, received}
 use Rattle.rules.specs.Defaults.{Defaults}
 use Rattle.rules.specs.Outcome.{Response, responseTo, tablesAfter}
-use Rattle.rules_waiting.specs.Inputs.{takeAt, direct}
+use Rattle.rules_terminal.specs.Inputs.{takeAt, direct}
 use Rattle.rules_interface.specs.Memory.{Memory, terminalAt}
 use Rattle.rules_interface.specs.Calls.{CCall, Promised}
 use Rattle.rules_interface.specs.CallRun.{payloadIn}
@@ -40,11 +40,11 @@ toldOn c r = record {
   permission = getD (c .words) 1 0;
   payload = payloadIn (c .words) r;
   contents = take (getD (c .words) 4 0) (c .buffer);
-  places = record { first = getD (c .words) 5 0; count = getD (c .words) 6 0 };
+  store = record { first = getD (c .words) 5 0; count = getD (c .words) 6 0 };
   links = record { set = getD (c .words) 7 0; size = getD (c .words) 8 0 };
 }
 
 -- that is the outcome of the rules on the tables in the memory
 pub record OutcomeOn (d : Defaults) (m : Memory) (c : CCall) (q : Request) : Type 0 where
-  pub told-same : toldOn c (q .bytes) ≡ responseTo d (tablesOn m) q
+  pub responses-same : toldOn c (q .bytes) ≡ responseTo d (tablesOn m) q
   pub tables-same : tablesOn (c .memory) ≡ tablesAfter d (tablesOn m) q

@@ -1,6 +1,5 @@
 -- C calls that give just what the C functions promise, with buffers of zeros: for any inputs on any memory.
 -- They show that the theorems of C calls are not empty.
-use Prim.Native.Nat.{ℕ}
 use lib.ListN.{length, replicate}
 use mathlib.Core.List.{List, [], _∷_}
 use Rattle.rules.specs.Defaults.{Defaults}
@@ -8,20 +7,21 @@ use Rattle.rules.specs.Reading.{filled}
 use Rattle.rules_interface.specs.Calls.{CCall, handInCall, judgeCall, takeCall}
 use Rattle.rules_interface.specs.Interface.{wordsOf}
 use Rattle.rules_interface.specs.Memory.{Memory, memoryOf, terminalAt, withQueue}
-use Rattle.rules_waiting.specs.Inputs.{Input, direct, handIn, takeAt}
-use Rattle.rules_waiting.specs.Slots.{padded}
-use Rattle.rules_waiting.specs.Terminal.{Transition, handedIn, judged, taken}
+use Rattle.rules_terminal.specs.Inputs.{Input, direct, handIn, takeAt}
+use Rattle.rules_terminal.specs.Slots.{padded}
+use Rattle.rules_terminal.specs.Terminal.{Transition, handedIn, judged, taken}
+use Rattle.rules.specs.Types.{Bytes, Size}
 
 -- a buffer
-abbrev pub zeros : ℕ → List ℕ
+abbrev pub zeros : Size → Bytes
 zeros n = replicate n 0
 
 -- a take and a record judged at once, with a buffer of zeros
-abbrev pub tookCall : Transition → ℕ → CCall
+abbrev pub tookCall : Transition → Size → CCall
 tookCall t capacity =
     takeCall (wordsOf t) (length (t .bytes) ∷ []) (padded (t .bytes)) (memoryOf (t .terminal)) (zeros capacity) (filled (zeros capacity) (t .response .contents))
 
-abbrev pub judgedCall : Transition → ℕ → CCall
+abbrev pub judgedCall : Transition → Size → CCall
 judgedCall t capacity = judgeCall (wordsOf t) (memoryOf (t .terminal)) (zeros capacity) (filled (zeros capacity) (t .response .contents))
 
 -- the call for an input, on the memory m

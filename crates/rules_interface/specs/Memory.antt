@@ -1,4 +1,4 @@
--- The memory that C lends: the bytes of the tables as five arrays, in their order, and those of what waits.
+-- The caller's memory: the bytes of the tables as five arrays, in their order, and those of the queue.
 -- Any bytes are read as a terminal; a terminal is written as bytes.
 use Prim.Native.Nat.{ℕ}
 use mathlib.Core.Path.{_≡_}
@@ -7,10 +7,10 @@ use lib.ListN.{length, getD}
 use Rattle.rules.specs.declared.Tables.{Tables}
 use Rattle.rules.specs.declared.Head.{Head}
 use Rattle.rules.specs.Tables.{tablesOf, headOf}
-use Rattle.rules.specs.Words.{Lent, was, became}
-use Rattle.rules_waiting.specs.Terminal.{Terminal, terminal}
+use Rattle.rules.specs.Contracts.Words.{Lent, was, became}
+use Rattle.rules_terminal.specs.Terminal.{Terminal, terminal}
 use Rattle.rules.specs.Types.{Bytes}
-use Rattle.rules_waiting.specs.Slots.{Queue}
+use Rattle.rules_terminal.specs.Slots.{Queue}
 
 -- numbers of 64 bits, as C gets them
 abbrev pub Words : Type 0
@@ -58,7 +58,7 @@ memoryOf x = record {
   queue = x .queue;
 }
 
--- the same tables, beside what waits now
+-- the same tables with another queue
 abbrev pub withQueue : Memory → Queue → Memory
 withQueue memory queue = record {
   counts = memory .counts;

@@ -7,18 +7,18 @@ use lib.ListN.{getD}
 use Rattle.rows.specs.Rows.{same, some}
 use Rattle.rules.specs.declared.Sender.{Sender}
 use Rattle.rules.specs.Defaults.{Defaults}
-use Rattle.rules_interface.specs.CallRun.{callOf, saidIn}
+use Rattle.rules_interface.specs.CallRun.{callOf, resultIn}
 use Rattle.rules_interface.specs.Calls.{CCall, PromisedBy}
 use Rattle.rules_interface.specs.Memory.{Memory, terminalAt}
 use Rattle.rules_power.specs.Day.{Event, eventOf}
-use Rattle.rules_power.specs.Kept.{Act, clear, input, takesTold, AsCalls}
+use Rattle.rules_power.specs.Kept.{Act, clear, input, takesAnswered, AsCalls}
 use Rattle.rules_power.specs.Stretches.{AsStretches, shownAcross, PremiseAcross, IsolatedAcross, ServesAcross}
-use Rattle.rules_handed.specs.Events.{gathered}
-use Rattle.rules_handed.specs.Isolation.{BookPremise, Isolated}
-use Rattle.rules_handed.specs.Waits.{recordTaken, QuietFor}
-use Rattle.rules_waiting.specs.CallRun.{Call, allShown}
-use Rattle.rules_waiting.specs.Inputs.{recordsIn}
-use Rattle.rules_waiting.specs.Terminal.{Terminal, soundTerminal}
+use Rattle.rules_runs.specs.Events.{gathered}
+use Rattle.rules_runs.specs.Isolation.{BookPremise, Isolated}
+use Rattle.rules_runs.specs.Waits.{recordTaken, QuietFor}
+use Rattle.rules_terminal.specs.CallRun.{Call, allShown}
+use Rattle.rules_terminal.specs.Inputs.{recordsIn}
+use Rattle.rules_terminal.specs.Terminal.{Terminal, soundTerminal}
 
 -- a C call on memory that is read as the one terminal, which leaves memory that is read as the other
 pub data CGives (d : Defaults) : Terminal → Act → CCall → Terminal → Type 0 where
@@ -28,7 +28,7 @@ pub data CGives (d : Defaults) : Terminal → Act → CCall → Terminal → Typ
 abbrev pub callAt : Act → CCall → Call
 callAt (input i) c = callOf i c
 callAt clear c = record {
-  judgement = saidIn (c .words) (terminalAt (c .memory) .tables);
+  judgement = resultIn (c .words) (terminalAt (c .memory) .tables);
   queue = c .memory .queue;
   lent = c .lent;
   buffer = c .buffer;
@@ -58,7 +58,7 @@ pub record CDay (d : Defaults) (x : Terminal) (es : List (Event Act CCall)) (z :
   pub isolated : (chosen : Sender → Bool) → BookPremise d chosen x (run .inputs) (allShown (run .inputs) (run .calls))
       → Isolated d chosen x (run .inputs) (allShown (run .inputs) (run .calls)) z
   pub served : soundTerminal x ≡ true → (r : List ℕ) → some (same r) (recordsIn x) ≡ true
-      → QuietFor r x (run .inputs) (allShown (run .inputs) (run .calls)) → 25 ≤ takesTold (seen es)
+      → QuietFor r x (run .inputs) (allShown (run .inputs) (run .calls)) → 25 ≤ takesAnswered (seen es)
       → some (same r) (gathered recordTaken (run .inputs) (allShown (run .inputs) (run .calls))) ≡ true
 
 -- the tables alone are stored, in rounds: the day is stretches of calls with restarts between them. Demand 3 holds across the restarts, and in

@@ -4,8 +4,8 @@ use mathlib.Core.Path.{_≡_}
 use mathlib.Core.List.{List, [], _∷_}
 use lib.ListN.{take, getD}
 use Rattle.rules.specs.Defaults.{Defaults}
-use Rattle.rules_waiting.specs.Slots.{emptyQueue}
-use Rattle.rules_waiting.specs.Inputs.{Input, handIn, takeAt, direct}
+use Rattle.rules_terminal.specs.Slots.{emptyQueue}
+use Rattle.rules_terminal.specs.Inputs.{Input, handIn, takeAt, direct}
 use Rattle.rules_power.specs.Kept.{Act, input, clear}
 use Rattle.rules_interface.specs.Memory.{Memory, withQueue}
 use Rattle.rules_interface.specs.Calls.{CCall, PromisedBy}

@@ -1,4 +1,4 @@
--- What the two C functions of a store promise. A step as C gets it: an answer, a place and a byte; and where the current image is.
+-- What the two C functions of a store promise. A step as C gets it: an answer, an address and a byte; and where the current image is.
 use Prim.Native.Nat.{ℕ}
 use mathlib.Core.Path.{_≡_}
 use mathlib.Core.Bool.{cond}
@@ -18,8 +18,8 @@ answerIn Done = 0
 answerIn Unfit = 2
 
 -- what the caller lends stays as it was, if there is nothing to write
-abbrev pub placeIn : Step → Words → Words
-placeIn step lent = ifWrite (λ at byte. at ∷ []) lent step
+abbrev pub addressIn : Step → Words → Words
+addressIn step lent = ifWrite (λ at byte. at ∷ []) lent step
 
 abbrev pub byteIn : Step → Bytes → Bytes
 byteIn step lent = ifWrite (λ at byte. byte ∷ []) lent step
@@ -34,12 +34,12 @@ currentIn size store lent = cond (eqb (length store) (sizeFor size)) (currentAt 
 -- ---- promised
 
 -- the next step to store an image
-pub record StoresNext (store : Store) (image : Image) (from : Address) (told : ℕ) (lentPlace lentByte place byte : Words) : Type 0 where
+pub record StoresNext (store : Store) (image : Image) (from : Address) (told : ℕ) (lentAddress lentByte address byte : Words) : Type 0 where
   pub answer : told ≡ answerIn (next store image from)
-  pub place-is : place ≡ placeIn (next store image from) lentPlace
+  pub address-is : address ≡ addressIn (next store image from) lentAddress
   pub byte-is : byte ≡ byteIn (next store image from) lentByte
 
 -- where the current image starts
-pub record StoresCurrent (store : Store) (n : Size) (told : ℕ) (lent place : Words) : Type 0 where
+pub record StoresCurrent (store : Store) (n : Size) (told : ℕ) (lent address : Words) : Type 0 where
   pub answer : told ≡ currentAnswer n store
-  pub place-is : place ≡ currentIn n store lent
+  pub address-is : address ≡ currentIn n store lent

@@ -14,7 +14,7 @@ use Rattle.rules.specs.Permission.{senderRow, connectionOf}
 use Rattle.rules.specs.Isolation.{namesOwner, mayAlter, Harmless}
 use Rattle.rules_isolation.specs.declared.Isolation.{Isolation}
 use Rattle.rules_isolation.specs.declared.Isolation.the-variants.{Isolated}
-use Rattle.rules_isolation.specs.Question.{entries, senderOf, sameSender, chosenBy, oddLength, lacksOwner, letsAlter, alteringPlace}
+use Rattle.rules_isolation.specs.Question.{entries, senderOf, sameSender, chosenBy, oddLength, lacksOwner, letsAlter, alteringNumber}
 use Rattle.rules_isolation.specs.Question.{entryAnswer, entriesAnswer, isolationOf}
 use Rattle.rules_isolation.specs.Answers.{FirstAt, Says, harms, isolated, odd, unsound, unowned, names, alters}
 
@@ -30,7 +30,7 @@ unfolding some rowsBefore
 first-at p [] h = contradiction h refl
 first-at p (w ∷ ws) h =
     bool-cases (p w)
-    (λ e. rw e (record { row = w; first = record { before = []; after = ws; stands = refl; place = refl; none = refl; does = e } }))
+    (λ e. rw e (record { row = w; first = record { before = []; after = ws; stands = refl; number-is = refl; none = refl; does = e } }))
     (λ e.
     let f = first-at p ws (rw e at h) in
     let g = f .first in
@@ -40,7 +40,7 @@ first-at p (w ∷ ws) h =
         before = w ∷ g .before;
         after = g .after;
         stands = ap (λ (l : List Row). w ∷ l) (g .stands);
-        place = ap suc (g .place);
+        number-is = ap suc (g .number-is);
         none = rw (e, g .none);
         does = g .does;
       };
@@ -108,14 +108,14 @@ module _ (t : Tables) (list : List ℕ) where
 
   says-from : oddLength list ≡ false → sound t ≡ true → lacksOwner t list ≡ false → (earlier es : List Row) → entries list ≡ earlier ++ es
       → some (harms t) earlier ≡ false → Says t list (entriesAnswer t (suc (length earlier)) es)
-  unfolding entriesAnswer entryAnswer harms some alteringPlace mayAlter
+  unfolding entriesAnswer entryAnswer harms some alteringNumber mayAlter
   says-from u h o earlier [] is n = isolated u h (harmless-of o (rw (is, append-nil) n))
   says-from u h o earlier (e ∷ es) is n =
       bool-cases (namesOwner t (senderOf e))
-      (λ f. rw f (names u h o (record { before = earlier; after = es; stands = is; place = refl; none = n; does = rw f }) f))
+      (λ f. rw f (names u h o (record { before = earlier; after = es; stands = is; number-is = refl; none = n; does = rw f }) f))
       (λ f. bool-cases (mayAlter t (senderOf e))
       (λ g. let p = first-at (letsAlter (senderRow t (senderOf e)) (connectionOf (senderOf e))) (rows Aces t) g in
-      rw (f, g) (alters u h o (record { before = earlier; after = es; stands = is; place = refl; none = n; does = rw (f, g) }) f (p .first)))
+      rw (f, g) (alters u h o (record { before = earlier; after = es; stands = is; number-is = refl; none = n; does = rw (f, g) }) f (p .first)))
       (λ g.
       let more : some (harms t) (earlier ++ (e ∷ [])) ≡ false = some-append (harms t) earlier (e ∷ []) ∙ rw (n, f, g) in
       let l : length (earlier ++ (e ∷ [])) ≡ suc (length earlier) = rw length-append (omega arith) in

@@ -21,21 +21,21 @@ use Rattle.rules.proofs.CheckLaws.{check-cases}
 use Rattle.rules.proofs.SoundKept.{sound-same}
 use Rattle.rules.proofs.Alike.{Small, compared-at, harmless-alike}
 use Rattle.rules.proofs.Isolated.{Related, silent, congruent}
-use Rattle.rules_waiting.specs.Terminal.{Terminal, handInChecks, handedIn, takeChecks, due, taken, directChecks, judged}
-use Rattle.rules_waiting.specs.Inputs.{Input, handIn, takeAt, direct, transition, next, Turn, turnIf, judgedAt, allJudged, requestOf, turnTold, bytesOf}
-use Rattle.rules_waiting.specs.Inputs.{othersTurn, recordsIn}
-use Rattle.rules_handed.specs.Events.{Event, enqueued, dequeued, immediate, sentBy, newestOf, requests, recordsAfter, eventOf, toldOf, eventAt, events}
-use Rattle.rules_handed.specs.Isolation as handed
-use Rattle.rules_handed.specs.Isolation.{answersTo}
-use Rattle.rules_handed.proofs.Judged.{judged-handed}
-use Rattle.rules_handed.proofs.Seen.{event-seen, told-seen}
-use Rattle.rules_handed.proofs.Isolation.{requests-are, told-are, others-are, isolated-handed}
+use Rattle.rules_terminal.specs.Terminal.{Terminal, handInChecks, handedIn, takeChecks, due, taken, directChecks, judged}
+use Rattle.rules_terminal.specs.Inputs.{Input, handIn, takeAt, direct, transition, next, Turn, turnIf, judgedAt, allJudged, requestOf, turnResponse, bytesOf}
+use Rattle.rules_terminal.specs.Inputs.{othersTurn, recordsIn}
+use Rattle.rules_runs.specs.Events.{Event, enqueued, dequeued, immediate, sentBy, newestOf, requests, recordsAfter, eventOf, responsesOf, eventAt, events}
+use Rattle.rules_runs.specs.Isolation as handed
+use Rattle.rules_runs.specs.Isolation.{answersTo}
+use Rattle.rules_runs.proofs.Judged.{judged-handed}
+use Rattle.rules_runs.proofs.Seen.{event-seen, answered-seen}
+use Rattle.rules_runs.proofs.Isolation.{requests-are, told-are, others-are, isolated-handed}
 use Rattle.rules_isolation.specs.declared.Isolation.the-variants.{Isolated}
 use Rattle.rules_isolation.specs.Question.{entries, anonymous, senderOf, sameSender, chosenBy, isolationOf}
 use Rattle.rules_isolation.specs.Service.{endangering, othersEndanger, paired, turnsHanded, Again, Within, SmallNumbers}
 use Rattle.rules_isolation.proofs.Exact.{same-sender, isolated-harmless}
 use Rattle.rules_isolation.proofs.Kept.{harmless-kept}
-use Rattle.rules_waiting.specs.Isolation.{others}
+use Rattle.rules_terminal.specs.Isolation.{others}
 
 -- ---- one input: it judges a record, or leaves the tables alone
 
@@ -147,7 +147,7 @@ module _ (d : Defaults) (chosen : Sender → Bool) where
 
 -- ---- what the answers show
 
-pub paired-turns : (us : List Turn) → paired (map requestOf us) (map turnTold us) ≡ us
+pub paired-turns : (us : List Turn) → paired (map requestOf us) (map turnResponse us) ≡ us
 paired-turns [] = refl
 paired-turns (u ∷ us) = ap (λ (vs : List Turn). u ∷ vs) (paired-turns us)
 
@@ -183,8 +183,8 @@ module _ (d : Defaults) (chosen : Sender → Bool) (Such : Tables → Type 0) wh
   again-found x rs [] f a = tt
   again-found x rs (i ∷ is) f a =
       let us = judgedAt d x i in
-      let turn : paired (requests rs (eventOf i (transition d x i))) (toldOf i (transition d x i)) ≡ us =
-      ap₂ paired (ap (requests rs) (event-seen d x i) ∙ found-here x rs i f) (told-seen d x i) ∙ paired-turns us in
+      let turn : paired (requests rs (eventOf i (transition d x i))) (responsesOf i (transition d x i)) ≡ us =
+      ap₂ paired (ap (requests rs) (event-seen d x i) ∙ found-here x rs i f) (answered-seen d x i) ∙ paired-turns us in
       let more = subst (λ (es : List Event). Again chosen Such (recordsAfter rs es) is (answersTo d (next d x i) is)) (event-seen d x i) (a .1) in
       ((rw turn at (a .0)), again-found (next d x i) _ is (found-next x rs i f) more)
 

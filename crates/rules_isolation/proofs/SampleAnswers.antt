@@ -11,13 +11,13 @@ use Rattle.rules.specs.Isolation.{namesOwner, rowAlters, mayFit, mayAlter}
 use Rattle.rules.proofs.Samples.{samples, lent, answer, credRow, withCreds, serving, aceRow, aceBody, weight, connected, haulierRow, haulier, yard}
 use Rattle.rules_isolation.specs.declared.Isolation.{Isolation}
 use Rattle.rules_isolation.specs.declared.Isolation.the-variants.{Isolated, OddLength, Unsound, NoOwner, NamesOwner, MayAlter}
-use Rattle.rules_isolation.specs.Question.{oddLength, anonymous, senderOf, chosenBy, lacksOwner, alteringPlace}
+use Rattle.rules_isolation.specs.Question.{oddLength, anonymous, senderOf, chosenBy, lacksOwner, alteringNumber}
 use Rattle.rules_isolation.specs.Question.{entryAnswer, entriesAnswer, isolationOf}
 use Rattle.rules_isolation.specs.Service.{endangers}
 
 -- `unfolding question` opens all that the question says, with the samples
 unfoldable pub question : Unit {0}
-unfolding samples namesOwner rowAlters mayFit mayAlter someSecurity oddLength anonymous senderOf chosenBy lacksOwner alteringPlace
+unfolding samples namesOwner rowAlters mayFit mayAlter someSecurity oddLength anonymous senderOf chosenBy lacksOwner alteringNumber
     entryAnswer entriesAnswer isolationOf
 question = tt
 

@@ -4,15 +4,15 @@ use Rattle.rows.proofs.Prelude.{_≡_, refl, sym, _∙_, true, replicate, List,
 use Rattle.rules.specs.declared.Sender.the-variants.{Unauthenticated, Partner}
 use Rattle.rules.specs.Defaults.{noDefaults}
 use Rattle.rules.proofs.Samples.{lent, credRow, withCreds, serving, aceRow, weight, connected, haulierRow}
-use Rattle.rules_waiting.specs.Slots.{seatOf, padded, slotOf, recordOf, roundOf, waiting, queueOf, emptyQueue}
-use Rattle.rules_waiting.specs.Round.{seats, held, occupied, start, inTurn, firstInTurn, sameSeats, orphaned}
-use Rattle.rules_waiting.specs.Terminal.{Terminal, terminal, slotSound, queueSound, soundTerminal, withRecord}
-use Rattle.rules_waiting.specs.Terminal.{handedIn, clears, queueAfter, turn, due, taken, judged}
-use Rattle.rules_waiting.specs.Inputs.{Input, handIn, takeAt, direct, Turn, turnTold}
-use Rattle.rules_waiting.specs.CallRun.{Call, handedBack, allShown}
-use Rattle.rules_handed.specs.Events.{sentBy, newestOf}
-use Rattle.rules_handed.specs.Made.{callsAt}
-use Rattle.rules_handed.proofs.Exists.{calls-built}
+use Rattle.rules_terminal.specs.Slots.{seatOf, padded, slotOf, recordOf, roundOf, waiting, queueOf, emptyQueue}
+use Rattle.rules_terminal.specs.Round.{seats, isSeat, occupied, start, inTurn, firstInTurn, sameSeats, orphaned}
+use Rattle.rules_terminal.specs.Terminal.{Terminal, terminal, slotSound, queueSound, soundTerminal, withRecord}
+use Rattle.rules_terminal.specs.Terminal.{handedIn, clears, queueAfter, turn, due, taken, judged}
+use Rattle.rules_terminal.specs.Inputs.{Input, handIn, takeAt, direct, Turn, turnResponse}
+use Rattle.rules_terminal.specs.CallRun.{Call, handedBack, allShown}
+use Rattle.rules_runs.specs.Events.{sentBy, newestOf}
+use Rattle.rules_runs.specs.Made.{callsAt}
+use Rattle.rules_runs.proofs.Exists.{calls-built}
 use Rattle.rules_isolation.specs.Question.{chosenBy}
 use Rattle.rules_isolation.specs.Service.{endangering, othersEndanger, turnsHanded}
 use Rattle.rules_isolation.specs.Yards.{ofYards, Disjoint, bookTurns, turnsOf, requestsWithout, BothAlone}
@@ -21,7 +21,7 @@ use Rattle.rules_isolation.proofs.BuiltYards.{built-two-yards-quiet}
 
 -- `unfolding service` opens the question, and the terminal with its queue
 service : Unit {0}
-unfolding question endangering seatOf padded slotOf recordOf roundOf waiting queueOf seats held occupied start inTurn firstInTurn orphaned
+unfolding question endangering seatOf padded slotOf recordOf roundOf waiting queueOf seats isSeat occupied start inTurn firstInTurn orphaned
     slotSound queueSound soundTerminal withRecord handedIn clears sameSeats queueAfter turn due taken judged sentBy newestOf
 service = tt
 
@@ -55,7 +55,7 @@ unfoldable pub morningCalls : List Call
 morningCalls = callsAt noDefaults plate morning
 
 abbrev pub answers : List Turn → List ℕ
-answers us = map (λ (u : Turn). turnTold u .answer) us
+answers us = map (λ (u : Turn). turnResponse u .answer) us
 
 -- of the records judged, as they were handed in
 pub plate-answers : answers (turnsHanded plate morning (allShown morning morningCalls)) ≡ 8 ∷ 0 ∷ 0 ∷ 0 ∷ 0 ∷ 0 ∷ 0 ∷ []

@@ -9,16 +9,16 @@ use Rattle.rules.specs.Defaults.{Defaults}
 use Rattle.rules.specs.Outcome.{Response, responseTo, tablesAfter}
 use Rattle.rules.specs.Run.{replies, final, kept}
 use Rattle.rules.specs.Isolation.{Harmless, Premise}
-use Rattle.rules_waiting.specs.Terminal.{Terminal}
-use Rattle.rules_waiting.specs.Inputs.{Input, next, Turn, requestOf, turnTold, bytesOf, othersTurn, recordsIn}
-use Rattle.rules_waiting.specs.Isolation.{AsTheBook}
-use Rattle.rules_waiting.proofs.Isolated.{isolated}
+use Rattle.rules_terminal.specs.Terminal.{Terminal}
+use Rattle.rules_terminal.specs.Inputs.{Input, next, Turn, requestOf, turnResponse, bytesOf, othersTurn, recordsIn}
+use Rattle.rules_terminal.specs.Isolation.{AsTheBook}
+use Rattle.rules_terminal.proofs.Isolated.{isolated}
 use Rattle.rules_isolation.specs.Question.{chosenBy}
 use Rattle.rules_isolation.specs.Service.{othersEndanger, turnsHanded, Again, Within, SmallNumbers}
 use Rattle.rules_isolation.specs.Yards.{ofYards, ofOtherYards, Disjoint, AllIsolated, bookTurns, turnsOf, Alone, AloneIn, YardAlone, BothAlone}
 use Rattle.rules_isolation.proofs.Exact.{isolated-harmless}
 use Rattle.rules_isolation.proofs.InService.{AgainAt, list-small, service, again-map, turns-handed, again-handed, never-handed}
-use Rattle.rules_handed.specs.Isolation.{answersTo}
+use Rattle.rules_runs.specs.Isolation.{answersTo}
 
 -- ---- the yards together
 
@@ -40,7 +40,7 @@ yards-harmless (yard ∷ yards) t a =
 -- ---- what is told to all but theirs is told to ours
 
 -- turns that were told what the book answers are the book's
-turns-are : (d : Defaults) (t : Tables) (us : List Turn) → map turnTold us ≡ replies (responseTo d) (tablesAfter d) t (map requestOf us)
+turns-are : (d : Defaults) (t : Tables) (us : List Turn) → map turnResponse us ≡ replies (responseTo d) (tablesAfter d) t (map requestOf us)
     → us ≡ bookTurns d t (map requestOf us)
 turns-are d t [] e = refl
 turns-are d t (u ∷ us) e =

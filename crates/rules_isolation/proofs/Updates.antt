@@ -7,7 +7,7 @@ use Rattle.rules.specs.Directory.{isSecurity, doxm, pstat, cred, acl2, roles}
 use Rattle.rules.specs.Record.{retrieve, update, delete, observe, verb, connection, resource, body}
 use Rattle.rules.specs.Action.{ifAllowed, updateRoles, updateAction, deleteNumber, deleteAces, deleteCreds, deleteAction}
 use Rattle.rules.specs.Action.{readAction, securityAction, actionOf, action}
-use Rattle.rules_waiting.specs.Inputs.{Turn, bytesOf}
+use Rattle.rules_terminal.specs.Inputs.{Turn, bytesOf}
 use Rattle.rules_isolation.specs.Service.{endangers, wasPermitted, endangering, updating, someTurn}
 
 module _ (chosen : Sender → Bool) (v c n : ℕ) (b : List ℕ) where

@@ -19,7 +19,7 @@ pub record FirstAt (passes : Row → Bool) (ws : List Row) (i : ℕ) (w : Row) :
   pub before : List Row
   pub after : List Row
   pub stands : ws ≡ before ++ (w ∷ after)
-  pub place : i ≡ suc (length before)
+  pub number-is : i ≡ suc (length before)
   pub none : some passes before ≡ false
   pub does : passes w ≡ true
 

@@ -54,13 +54,13 @@ lacksOwner t list = not (eqb (length list) 0) && eqb (t .owned) 0
 abbrev pub letsAlter : Row → Connection → Row → Bool
 letsAlter cred connection ace = mayFit cred connection ace && rowAlters ace
 
--- the place of the sender's first such access row, from 1
-unfoldable pub alteringPlace : Tables → Sender → Number
-alteringPlace t sender = suc (rowsBefore (letsAlter (senderRow t sender) (connectionOf sender)) (rows Aces t))
+-- the number of the sender's first such access row in the table, from 1
+unfoldable pub alteringNumber : Tables → Sender → Number
+alteringNumber t sender = suc (rowsBefore (letsAlter (senderRow t sender) (connectionOf sender)) (rows Aces t))
 
 -- of the sender at the entry with this number, if `rest` is the answer for the entries after it
 unfoldable pub entryAnswer : Tables → Number → Sender → Isolation → Isolation
-entryAnswer t number sender rest = cond (namesOwner t sender) (NamesOwner number) (cond (mayAlter t sender) (MayAlter number (alteringPlace t sender)) rest)
+entryAnswer t number sender rest = cond (namesOwner t sender) (NamesOwner number) (cond (mayAlter t sender) (MayAlter number (alteringNumber t sender)) rest)
 
 -- of the entries from this number on
 unfoldable pub entriesAnswer : Tables → Number → List Row → Isolation

@@ -20,10 +20,10 @@ use Rattle.rules.specs.States.{reset}
 use Rattle.rules.specs.Outcome.{Response}
 use Rattle.rules.specs.Run.{kept}
 use Rattle.rules.specs.Isolation.{rowAlters}
-use Rattle.rules_waiting.specs.Terminal.{Terminal, Transition}
-use Rattle.rules_waiting.specs.Inputs.{Input, Turn, bytesOf, turnTold, othersTurn}
-use Rattle.rules_handed.specs.Events.{requests, recordsAfter, eventOf, toldOf}
-use Rattle.rules_handed.specs.Isolation.{requestsOf, allTold}
+use Rattle.rules_terminal.specs.Terminal.{Terminal, Transition}
+use Rattle.rules_terminal.specs.Inputs.{Input, Turn, bytesOf, turnResponse, othersTurn}
+use Rattle.rules_runs.specs.Events.{requests, recordsAfter, eventOf, responsesOf}
+use Rattle.rules_runs.specs.Isolation.{requestsOf, allResponses}
 use Rattle.rules.specs.Types.{Bytes}
 
 -- by the action, with the body b: an owner is set, the terminal is cleared, a credential row with a chosen partner's
@@ -43,7 +43,7 @@ endangers chosen b Malformed = false
 -- ---- a record that was judged, and several
 
 abbrev pub wasPermitted : Turn → Bool
-wasPermitted turn = eqb (turnTold turn .answer) 0
+wasPermitted turn = eqb (turnResponse turn .answer) 0
 
 unfoldable pub endangering : (Sender → Bool) → Turn → Bool
 endangering chosen turn = wasPermitted turn && endangers chosen (body (bytesOf turn)) (action (bytesOf turn))
@@ -63,7 +63,7 @@ othersEndanger chosen turns = someTurn (endangering chosen) (kept (othersTurn ch
 
 -- ---- a run, of inputs and their answers. The bytes of the records are those of the hand-ins and of the queue at the start
 
--- each request with what its sender is told
+-- each request with the response to its sender
 abbrev pub paired : List Request → List Response → List Turn
 paired [] ys = []
 paired (q ∷ qs) [] = []
@@ -71,7 +71,7 @@ paired (q ∷ qs) (y ∷ ys) = record { request = q; response = y } ∷ paired q
 
 -- the records judged, from the terminal x on
 abbrev pub turnsHanded : Terminal → List Input → List Transition → List Turn
-turnsHanded x is answers = paired (requestsOf x is answers) (allTold is answers)
+turnsHanded x is answers = paired (requestsOf x is answers) (allResponses is answers)
 
 -- after each answer by which somebody else endangers the chosen, the tables are such (as: the question is answered 'isolated' again);
 -- `rs` are the records that wait at the start
@@ -79,7 +79,7 @@ abbrev pub Again : (Sender → Bool) → (Tables → Type 0) → List Bytes → 
 Again chosen Such rs [] answers = Unit {0}
 Again chosen Such rs (i ∷ is) [] = Unit {0}
 Again chosen Such rs (i ∷ is) (a ∷ answers) =
-    (othersEndanger chosen (paired (requests rs (eventOf i a)) (toldOf i a)) ≡ true → Such (a .terminal .tables))
+    (othersEndanger chosen (paired (requests rs (eventOf i a)) (responsesOf i a)) ≡ true → Such (a .terminal .tables))
     × Again chosen Such (recordsAfter rs (eventOf i a)) is answers
 
 -- each sender of the part is chosen

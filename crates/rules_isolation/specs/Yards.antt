@@ -10,8 +10,8 @@ use Rattle.rules.specs.Defaults.{Defaults}
 use Rattle.rules.specs.Outcome.{responseTo, tablesAfter}
 use Rattle.rules.specs.Run.{final, kept}
 use Rattle.rules.specs.Isolation.{compared}
-use Rattle.rules_waiting.specs.Terminal.{Terminal, Transition}
-use Rattle.rules_waiting.specs.Inputs.{Input, Turn, bytesOf, requestOf, othersTurn}
+use Rattle.rules_terminal.specs.Terminal.{Terminal, Transition}
+use Rattle.rules_terminal.specs.Inputs.{Input, Turn, bytesOf, requestOf, othersTurn}
 use Rattle.rules_isolation.specs.declared.Isolation.the-variants.{Isolated}
 use Rattle.rules_isolation.specs.Question.{chosenBy, isolationOf}
 use Rattle.rules_isolation.specs.Service.{turnsHanded}
@@ -39,7 +39,7 @@ AllIsolated (yard ∷ yards) t = (isolationOf t yard ≡ Isolated) × AllIsolate
 
 -- ---- a run without the others
 
--- the book's run of these requests: each with what it is told
+-- the book's run of these requests: each with its response
 abbrev pub bookTurns : Defaults → Tables → List Request → List Turn
 bookTurns d t [] = []
 bookTurns d t (q ∷ qs) = record { request = q; response = responseTo d t q } ∷ bookTurns d (tablesAfter d t q) qs

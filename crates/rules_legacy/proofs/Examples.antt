@@ -8,7 +8,7 @@ use Rattle.rules.specs.Permission.{grants}
 use Rattle.rules.specs.Checks.{refuseIf, numberOf}
 use Rattle.rules.specs.Isolation.{rowAlters}
 use Rattle.rules.proofs.Samples.{definitions, uuid, credRow, withCreds, owned5}
-use Rattle.rules_lists.specs.Lists.{badSize, unfit, excessive, said, accepted, rowsTested, listTested}
+use Rattle.rules_lists.specs.Lists.{badSize, unfit, excessive, tested, accepted, rowsTested, listTested}
 use Rattle.rules_lists.specs.Loading.{ownsDevice, storing, OwnerStores, Loaded}
 use Rattle.rules_legacy.specs.OldList.{oldRows, isAnybody, oldFits, oldGives, oldUnion, opensSecurity, badRow, badFile}
 use Rattle.rules_legacy.specs.Conversion.{entry, uuidEntry, connectionEntry, entriesOf, allEntries, numberedFrom}
@@ -142,7 +142,7 @@ pub rows-made-tested :
     ∷ (oldRow 0 0xf8 0 0 0 ++ oldRow 0 0 0xf0 0xfe 0x80)
     ∷ []
     ∷ [])
-    ≡ accepted ∷ accepted ∷ said 21 2 ∷ accepted ∷ accepted ∷ []
+    ≡ accepted ∷ accepted ∷ tested 21 2 ∷ accepted ∷ accepted ∷ []
 unfolding converting oldRow anybody somebody
 rows-made-tested = refl
 

@@ -7,7 +7,8 @@ use Rattle.rules.specs.declared.Table.the-variants.{Creds, Aces}
 use Rattle.rules.specs.declared.Sender.{Sender}
 use Rattle.rules.specs.Record.{sender, resource}
 use Rattle.rules.specs.Tables.{rows, rowsIn, withRows, rowOwner}
-use Rattle.rules.specs.Permission.{senderRowIn, connectionOf, grants, isOwner, byOwner, byNoOwner, effectiveOf, effective, permission, permissionOf}
+use Rattle.rules.specs.Permission.{senderRowIn, connectionOf, grants, isOwner, byOwner, byNoOwner, effectiveOf, permission, permissionOf}
+use Rattle.rules.specs.Contracts.Theorems.{effective}
 use Rattle.rules.proofs.BitLaws.{bits-small}
 use Rattle.rules.proofs.TableLaws.{rows-with}
 use Rattle.rules_legacy.specs.OldList.{oldUnion, badFile}

@@ -83,6 +83,6 @@ pub record Converted (f : List ℕ) (capacity : ℕ) : Type 0 where
   pub response : conversionReply f capacity ≡ joined (rowsMade f)
 
 -- so many numbers, from i on
-abbrev pub numbersFrom : ℕ → ℕ → List ℕ
+abbrev pub numbersFrom : Number → Size → List Number
 numbersFrom i zero = []
 numbersFrom i (suc k) = i ∷ numbersFrom (i + 1) k

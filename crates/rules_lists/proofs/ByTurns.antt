@@ -16,14 +16,14 @@ use Rattle.rules.specs.Checks.{checks, verdict}
 use Rattle.rules.specs.Outcome.{Response, outcome, outcomeAt, tablesAfter}
 use Rattle.rules.proofs.CheckLaws.{check-cases}
 use Rattle.rules.proofs.BodyLaws.{sized}
-use Rattle.rules_waiting.specs.Terminal.{Terminal, soundTerminal}
-use Rattle.rules_waiting.specs.Inputs.{recordsIn}
-use Rattle.rules_waiting.specs.CallRun.{Call, Built, handedBack, allShown}
-use Rattle.rules_handed.specs.Events.{gathered}
-use Rattle.rules_handed.specs.Isolation.{allTold}
-use Rattle.rules_handed.specs.Waits.{recordKept}
-use Rattle.rules_handed.specs.OneByOne.{oneByOne, AllPass}
-use Rattle.rules_handed.proofs.Calls.{built-one-by-one}
+use Rattle.rules_terminal.specs.Terminal.{Terminal, soundTerminal}
+use Rattle.rules_terminal.specs.Inputs.{recordsIn}
+use Rattle.rules_terminal.specs.CallRun.{Call, Built, handedBack, allShown}
+use Rattle.rules_runs.specs.Events.{gathered}
+use Rattle.rules_runs.specs.Isolation.{allResponses}
+use Rattle.rules_runs.specs.Waits.{recordKept}
+use Rattle.rules_runs.specs.OneByOne.{oneByOne, AllPass}
+use Rattle.rules_runs.proofs.Calls.{built-one-by-one}
 use Rattle.rules_lists.specs.Lists.{listed, listTested}
 use Rattle.rules_lists.specs.Loading.{storing, Stores, Ready}
 use Rattle.rules_lists.proofs.Exact.{accepted-faultless}
@@ -58,7 +58,7 @@ all-pass d t u h same (w ∷ ws) (q ∷ qs) l e =
 pub turns-loaded : (d : Defaults) (x : Terminal) (b : List ℕ) (qs : List Request) (cs : List Call) → Built d x (oneByOne qs) cs
     → listTested b .answer ≡ 0 → soundTerminal x ≡ true → recordsIn x ≡ [] → Ready (x .tables) → Stores (x .tables) qs (listed b)
     → (gathered recordKept (oneByOne qs) (allShown (oneByOne qs) cs) ≡ map (λ (q : Request). q .bytes) qs)
-    × (map (λ (p : Response). p .answer) (allTold (oneByOne qs) (allShown (oneByOne qs) cs)) ≡ map (λ (q : Request). 0) qs)
+    × (map (λ (p : Response). p .answer) (allResponses (oneByOne qs) (allShown (oneByOne qs) cs)) ≡ map (λ (q : Request). 0) qs)
     × (rows Aces (handedBack x cs .tables) ≡ listed b)
     × (withRows Aces (handedBack x cs .tables) [] ≡ withRows Aces (x .tables) [])
 turns-loaded d x b qs cs built a h none ready e =

@@ -10,7 +10,7 @@ use Rattle.rules.specs.declared.Table.the-variants.{Aces}
 use Rattle.rules.specs.Tables.{storable}
 use Rattle.rules.specs.Checks.{refuseIf, verdict}
 use Rattle.rules_lists.specs.declared.Tested.{Tested}
-use Rattle.rules_lists.specs.Lists.{listed, badSize, unfit, excessive, rowChecks, said, accepted, rowsTested, listTested}
+use Rattle.rules_lists.specs.Lists.{listed, badSize, unfit, excessive, rowChecks, tested, accepted, rowsTested, listTested}
 use Rattle.rules_lists.specs.Faults.{Behind, Clean, Fault, Faultless, RowFault, unstored, excess, size, row}
 
 -- ---- faults
@@ -53,7 +53,7 @@ rows-past earlier (w ∷ ws) after c =
 
 data Response (ws : List Row) : Tested → Type 0 where
   clean : Clean ws → Response ws accepted
-  bad : {before : List Row} {w : Row} {n : ℕ} → Behind before w ws → RowFault before w n → Response ws (said n (suc (length before)))
+  bad : {before : List Row} {w : Row} {n : ℕ} → Behind before w ws → RowFault before w n → Response ws (tested n (suc (length before)))
 
 rows-told : (earlier ws : List Row) → Clean earlier → Response (earlier ++ ws) (rowsTested earlier ws)
 unfolding rowsTested verdict
@@ -71,7 +71,7 @@ unfolding listTested refuseIf every distinctNumbers some
 list-told b e = rw e (rows-told [] (listed b) (record { stores = refl; distinct = refl; modest = refl }))
 
 -- 19, with row 0, for a bad size
-size-refused : (b : List ℕ) → badSize b ≡ true → listTested b ≡ said 19 0
+size-refused : (b : List ℕ) → badSize b ≡ true → listTested b ≡ tested 19 0
 unfolding listTested refuseIf
 size-refused b e = rw e
 
@@ -102,11 +102,11 @@ module _ (b : List ℕ) where
   any-fault z = bool-cases (badSize b) (λ e. rw (size-refused b e) (size e)) (λ e. told-fault e (listTested b) (list-told b e) z)
 
   -- a refusal names the first fault and its row
-  pub refused-fault : (n m : ℕ) → listTested b ≡ said (suc n) m → Fault b (suc n) m
+  pub refused-fault : (n m : ℕ) → listTested b ≡ tested (suc n) m → Fault b (suc n) m
   refused-fault n m h = rw h at (any-fault (rw h (λ z. absurd (omega arith))))
 
   -- and the first fault is named
-  pub fault-refused : (n m : ℕ) → Fault b n m → listTested b ≡ said n m
+  pub fault-refused : (n m : ℕ) → Fault b n m → listTested b ≡ tested n m
   unfolding listTested refuseIf rowsTested
   fault-refused n m (size e) = size-refused b e
   fault-refused n m (row {before} {w} e s f) = rw (e, s .stands, rows-past [] before (w ∷ s .after) (s .clean), fault-verdict before w n f)

@@ -13,14 +13,14 @@ use Rattle.rules.specs.Outcome.{responseTo, tablesAfter}
 use Rattle.rules.specs.Run.{final}
 use Rattle.rules.specs.Isolation.{rowAlters}
 use Rattle.rules.proofs.Samples.{samples, uuid, credRow, withCreds, owned5, aceBody, aceRow, weight, connected}
-use Rattle.rules_waiting.specs.Slots.{waiting, emptyQueue}
-use Rattle.rules_waiting.specs.Terminal.{Terminal, terminal}
-use Rattle.rules_waiting.specs.CallRun.{handedBack}
-use Rattle.rules_waiting.proofs.Direct.{fresh-whole}
-use Rattle.rules_handed.specs.OneByOne.{oneByOne}
-use Rattle.rules_handed.specs.Made.{callsAt}
-use Rattle.rules_handed.proofs.Exists.{calls-built}
-use Rattle.rules_lists.specs.Lists.{badSize, unfit, excessive, said, accepted, rowsTested, listTested}
+use Rattle.rules_terminal.specs.Slots.{waiting, emptyQueue}
+use Rattle.rules_terminal.specs.Terminal.{Terminal, terminal}
+use Rattle.rules_terminal.specs.CallRun.{handedBack}
+use Rattle.rules_terminal.proofs.Direct.{fresh-whole}
+use Rattle.rules_runs.specs.OneByOne.{oneByOne}
+use Rattle.rules_runs.specs.Made.{callsAt}
+use Rattle.rules_runs.proofs.Exists.{calls-built}
+use Rattle.rules_lists.specs.Lists.{badSize, unfit, excessive, tested, accepted, rowsTested, listTested}
 use Rattle.rules_lists.specs.Loading.{ownsDevice, storing, OwnerStores, Ready, Loaded}
 use Rattle.rules_lists.proofs.Loaded.{accepted-loaded}
 use Rattle.rules_lists.proofs.ByTurns.{turns-loaded}
@@ -71,18 +71,18 @@ pub lists-tested :
     ∷ [])
     ≡ accepted
     ∷ accepted
-    ∷ said 19 0
-    ∷ said 19 0
-    ∷ said 20 1
-    ∷ said 20 4
-    ∷ said 21 1
-    ∷ said 21 4
-    ∷ said 21 4
-    ∷ said 21 1
+    ∷ tested 19 0
+    ∷ tested 19 0
+    ∷ tested 20 1
+    ∷ tested 20 4
+    ∷ tested 21 1
+    ∷ tested 21 4
+    ∷ tested 21 4
+    ∷ tested 21 1
     ∷ accepted
-    ∷ said 21 4
-    ∷ said 20 4
-    ∷ said 21 4
+    ∷ tested 21 4
+    ∷ tested 20 4
+    ∷ tested 21 4
     ∷ []
 unfolding testing onAcl2 role7 good second9
 lists-tested = refl

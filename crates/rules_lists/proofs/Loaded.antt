@@ -14,13 +14,14 @@ use Rattle.rules.specs.declared.Sender.the-variants.{Partner}
 use Rattle.rules.specs.Record.{Request, sender, credential}
 use Rattle.rules.specs.Tables.{storable, rows, withRows, sound}
 use Rattle.rules.specs.Defaults.{Defaults}
-use Rattle.rules.specs.Permission.{U, has, numbered, senderRowIn, isRow, names, isOwner, byOwner, effective, permissionOf}
+use Rattle.rules.specs.Permission.{U, has, numbered, senderRowIn, isRow, names, isOwner, byOwner, permissionOf}
+use Rattle.rules.specs.Contracts.Theorems.{effective}
 use Rattle.rules.specs.States.{writeAllowed}
-use Rattle.rules.specs.Reading.{rowsOfReply}
+use Rattle.rules.specs.Contracts.Theorems.{rowsOfReply}
 use Rattle.rules.specs.Checks.{badLength, noVerb, zeroBitSet, mismatch, unknownResource, noCredential, verdict}
-use Rattle.rules.specs.Groups.{senderChecks}
+use Rattle.rules.specs.Contracts.Groups.{senderChecks}
 use Rattle.rules.specs.Outcome.{Response, responseTo}
-use Rattle.rules.specs.Storing.{Retrieves, TakesRows, MayStore, AllMayStore}
+use Rattle.rules.specs.Contracts.Storing.{Retrieves, TakesRows, MayStore, AllMayStore}
 use Rattle.rules.proofs.BitLaws.{bits-word}
 use Rattle.rules.proofs.RecordLaws.{sender-partner}
 use Rattle.rules.proofs.Answers.{table-parts}
@@ -31,13 +32,13 @@ use Rattle.rules.proofs.ReadBack.{long-bodies, rows-themselves}
 use Rattle.rules.proofs.RowsStored.{otherwise, by-others, all-stored}
 use Rattle.rules.proofs.Restored.{retrieved-sound, rows-told, reply-judged}
 use Rattle.rules.proofs.Gaps.{has-number}
-use Rattle.rules_waiting.specs.Terminal.{Terminal}
-use Rattle.rules_waiting.specs.Inputs.{Input, direct}
-use Rattle.rules_waiting.specs.CallRun.{Call, told, Built, handedBack, allShown}
-use Rattle.rules_waiting.specs.Direct.{Whole}
-use Rattle.rules_waiting.proofs.Built.{directs-told}
-use Rattle.rules_handed.specs.Isolation.{requestsOf, allTold}
-use Rattle.rules_handed.proofs.Calls.{built-rules}
+use Rattle.rules_terminal.specs.Terminal.{Terminal}
+use Rattle.rules_terminal.specs.Inputs.{Input, direct}
+use Rattle.rules_terminal.specs.CallRun.{Call, responseOf, Built, handedBack, allShown}
+use Rattle.rules_terminal.specs.Direct.{Whole}
+use Rattle.rules_terminal.proofs.Built.{directs-told}
+use Rattle.rules_runs.specs.Isolation.{requestsOf, allResponses}
+use Rattle.rules_runs.proofs.Calls.{built-rules}
 use Rattle.rules_lists.specs.Lists.{listed, badSize, listTested}
 use Rattle.rules_lists.specs.Loading.{ownsDevice, storing, Stores, Ready, Loaded}
 use Rattle.rules_lists.proofs.Exact.{accepted-faultless}
@@ -145,13 +146,13 @@ reply-loaded d t u q qs l p ready e =
 -- the records judged in a run are those of the list, with the bytes of the hand-ins: be they judged at takes or at once
 pub built-loaded : (d : Defaults) (x : Terminal) (b : List ℕ) (is : List Input) (cs : List Call) → Built d x is cs
     → listTested b .answer ≡ 0 → Ready (x .tables) → Stores (x .tables) (requestsOf x is (allShown is cs)) (listed b)
-    → (map (λ (p : Response). p .answer) (allTold is (allShown is cs)) ≡ map (λ (q : Request). 0) (requestsOf x is (allShown is cs)))
+    → (map (λ (p : Response). p .answer) (allResponses is (allShown is cs)) ≡ map (λ (q : Request). 0) (requestsOf x is (allShown is cs)))
     × (rows Aces (handedBack x cs .tables) ≡ listed b)
     × (withRows Aces (handedBack x cs .tables) [] ≡ withRows Aces (x .tables) [])
 built-loaded d x b is cs built a ready e =
     let same = built-rules d x is cs built in
     let l = accepted-loaded d (x .tables) b (requestsOf x is (allShown is cs)) a ready e in (
-      ap (map (λ (p : Response). p .answer)) (same .told-same) ∙ l .permitted,
+      ap (map (λ (p : Response). p .answer)) (same .responses-same) ∙ l .permitted,
       ap (rows Aces) (same .tables-same) ∙ l .held,
       ap (λ (t : Tables). withRows Aces t []) (same .tables-same) ∙ l .others,
     )
@@ -159,7 +160,7 @@ built-loaded d x b is cs built a ready e =
 -- records judged at once, beside memory that is sound where the tables are: all are judged
 pub direct-loaded : (d : Defaults) (x : Terminal) (b : List ℕ) (qs : List Request) (cs : List Call)
     → listTested b .answer ≡ 0 → Ready (x .tables) → Whole x → Stores (x .tables) qs (listed b) → Built d x (map direct qs) cs
-    → (map (λ (p : Response). p .answer) (map told cs) ≡ map (λ (q : Request). 0) qs)
+    → (map (λ (p : Response). p .answer) (map responseOf cs) ≡ map (λ (q : Request). 0) qs)
     × (rows Aces (handedBack x cs .tables) ≡ listed b)
     × (withRows Aces (handedBack x cs .tables) [] ≡ withRows Aces (x .tables) [])
 direct-loaded d x b qs cs a ready whole e built =

@@ -36,18 +36,18 @@ excessive ace = (eqb (aceKind ace) 1 || eqb (aceKind ace) 2) && rowAlters ace
 abbrev pub rowChecks : List Row → Row → Checklist
 rowChecks earlier ace = (20, unfit earlier ace) ∷ (21, excessive ace) ∷ []
 
--- ---- what is said
+-- ---- the result
 
-abbrev pub said : Answer → Number → Tested
-said answer row = record { answer = answer; row = row }
+abbrev pub tested : Answer → Number → Tested
+tested answer row = record { answer = answer; row = row }
 
 abbrev pub accepted : Tested
-accepted = said 0 0
+accepted = tested 0 0
 
--- a refusal names this row; where the row passes, the rest is said
+-- a refusal names this row; if the row passes, the rest is the answer
 abbrev pub namedOr : Check → Number → Tested → Tested
 namedOr Pass row rest = rest
-namedOr (Refuse n) row rest = said n row
+namedOr (Refuse n) row rest = tested n row
 
 -- of rows that stand behind the earlier ones; rows are counted from 1
 unfoldable pub rowsTested : List Row → List Row → Tested

@@ -15,7 +15,7 @@ use Rattle.rules.specs.Tables.{sound}
 use Rattle.rules.specs.States.{rfpro}
 use Rattle.rules.specs.Defaults.{Defaults}
 use Rattle.rules.specs.Permission.{senderRow, isRow, names}
-use Rattle.rules.specs.Storing.{AllStored}
+use Rattle.rules.specs.Contracts.Storing.{AllStored}
 use Rattle.rules.specs.Types.{Bytes, Number}
 
 -- the sender has a credential row, and it names the device owner

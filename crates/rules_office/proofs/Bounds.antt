@@ -13,7 +13,7 @@ use Rattle.rules.specs.Bits.{bits}
 use Rattle.rules.specs.Bodies.{aceKind, aceSubject, aceConnection, acePermission}
 use Rattle.rules.specs.declared.Check.the-variants.{Pass}
 use Rattle.rules.specs.Tables.{rowsIn}
-use Rattle.rules_waiting.specs.Terminal.{Terminal, soundTerminal}
+use Rattle.rules_terminal.specs.Terminal.{Terminal, soundTerminal}
 use Rattle.rules.specs.Checks.{verdict}
 use Rattle.rules.proofs.BitLaws.{bits-below}
 use Rattle.rules_office.specs.Office.{dashed, dash, hexByte, uuidFrom, uuidText, comma, separated, uuidSubject, roleSubject, connectionSubject}

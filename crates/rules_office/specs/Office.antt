@@ -18,7 +18,7 @@ use Rattle.rules.specs.Bodies.{aceSubject, aceAuthority, aceRole, aceConnection
 use Rattle.rules.specs.Directory.{doxm, pstat, cred, acl2, roles, yard}
 use Rattle.rules.specs.Tables.{rows}
 use Rattle.rules.specs.Checks.{verdict}
-use Rattle.rules_waiting.specs.Terminal.{Terminal, soundTerminal}
+use Rattle.rules_terminal.specs.Terminal.{Terminal, soundTerminal}
 use Rattle.rules.specs.Types.{Bytes, Checklist, Index, ResourceNumber, Size, Uuid}
 
 -- ---- a UUID: lower case, 8-4-4-4-12
@@ -137,7 +137,7 @@ officeText t = listText (rowsWritten (rows Aces t))
 
 -- ---- the answer, the length and the lent buffer afterwards
 
--- 17 covers what waits too, as check 1 does (U13)
+-- 17 covers the queue too, as check 1 does (U13)
 abbrev pub officeChecks : Terminal → Size → Checklist
 officeChecks x capacity = (17, not (soundTerminal x)) ∷ (18, ltb capacity (length (officeText (x .tables)))) ∷ []
 

@@ -12,11 +12,11 @@ use Rattle.rules.specs.Run.{replies, final}
 use Rattle.rules.proofs.Answers.{table-parts, rows-are, rows-count}
 use Rattle.rules.proofs.TableLaws.{aces-are, table-is, few-rows, rows-with}
 use Rattle.rules.proofs.SoundKept.{SoundRows, sound-with}
-use Rattle.rules_waiting.specs.Slots.{waiting}
-use Rattle.rules_waiting.specs.Round.{seats}
-use Rattle.rules_waiting.specs.Terminal.{Terminal, terminal, slotSound, queueSound, soundTerminal}
-use Rattle.rules_waiting.specs.Inputs.{Input, transition, next}
-use Rattle.rules_waiting.proofs.Sound.{terminal-parts, terminal-whole, every-same}
+use Rattle.rules_terminal.specs.Slots.{waiting}
+use Rattle.rules_terminal.specs.Round.{seats}
+use Rattle.rules_terminal.specs.Terminal.{Terminal, terminal, slotSound, queueSound, soundTerminal}
+use Rattle.rules_terminal.specs.Inputs.{Input, transition, next}
+use Rattle.rules_terminal.proofs.Sound.{terminal-parts, terminal-whole, every-same}
 use Rattle.rules_order.specs.Reorder.{Reordered, sorted}
 use Rattle.rules_order.specs.Order.{InStep, withAccess, SameAnswer, InPairs, none, more, StepInRelation}
 use Rattle.rules_order.proofs.ReorderLaws.{order-length, order-every, order-distinct, order-sorted}

@@ -2,10 +2,10 @@
 -- `payload` beside the last two, each on the tables and the memory handed back last.
 use Rattle.rows.proofs.Prelude.{_≡_, List, length}
 use Rattle.rules.specs.Defaults.{Defaults}
-use Rattle.rules_waiting.specs.Terminal.{Terminal}
-use Rattle.rules_waiting.specs.Inputs.{Input}
-use Rattle.rules_waiting.specs.CallRun.{Call, Built, handedBack, allShown}
-use Rattle.rules_waiting.proofs.Shown.{built-shown}
+use Rattle.rules_terminal.specs.Terminal.{Terminal}
+use Rattle.rules_terminal.specs.Inputs.{Input}
+use Rattle.rules_terminal.specs.CallRun.{Call, Built, handedBack, allShown}
+use Rattle.rules_terminal.proofs.Shown.{built-shown}
 use Rattle.rules_order.specs.Order.{InStep, SameAnswer, InPairs}
 use Rattle.rules_order.proofs.AnyOrder.{any-order}
 

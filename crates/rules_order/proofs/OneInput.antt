@@ -9,16 +9,16 @@ use Rattle.rules.specs.Tables.{rows}
 use Rattle.rules.specs.Defaults.{Defaults}
 use Rattle.rules.specs.Checks.{verdict}
 use Rattle.rules.specs.Outcome.{responseTo, tablesAfter}
-use Rattle.rules_waiting.specs.Slots.{Round}
-use Rattle.rules_waiting.specs.Round.{seats, firstInTurn}
-use Rattle.rules_waiting.specs.Terminal.{Terminal, terminal, Transition, numberTransition, soundTerminal, handInChecks, handedIn, clears, queueAfter}
-use Rattle.rules_waiting.specs.Terminal.{takeChecks, turn, due, taken, directChecks, judged}
-use Rattle.rules_waiting.specs.Inputs.{Input, handIn, takeAt, direct, transition, next}
+use Rattle.rules_terminal.specs.Slots.{Round}
+use Rattle.rules_terminal.specs.Round.{seats, firstInTurn}
+use Rattle.rules_terminal.specs.Terminal.{Terminal, terminal, Transition, numberTransition, soundTerminal, handInChecks, handedIn, clears, queueAfter}
+use Rattle.rules_terminal.specs.Terminal.{takeChecks, turn, due, taken, directChecks, judged}
+use Rattle.rules_terminal.specs.Inputs.{Input, handIn, takeAt, direct, transition, next}
 use Rattle.rules.proofs.CheckLaws.{check-cases}
-use Rattle.rules_waiting.proofs.Sound.{terminal-parts, sound-next}
+use Rattle.rules_terminal.proofs.Sound.{terminal-parts, sound-next}
 use Rattle.rules_order.specs.Reorder.{Reordered}
 use Rattle.rules_order.specs.Order.{OrderOnly, InStep, SameBut, SameAnswer}
-use Rattle.rules_order.proofs.OneRecord.{withBytes, order-is, credential-same, same-told, record-step}
+use Rattle.rules_order.proofs.OneRecord.{withBytes, order-is, credential-same, same-responses, record-step}
 use Rattle.rules_order.proofs.OwnersKept.{owners-kept}
 
 -- ---- the queue that a record leaves, where the tables before and after differ only in the order
@@ -56,7 +56,7 @@ module _ (d : Defaults) (t : Tables) (z m : List ℕ) (o : Reordered (rows Aces 
 
   -- an answer that leaves both as they are
   stays : (i : Input) (n : ℕ) → Stepped i (numberTransition n x) (numberTransition n y)
-  stays i n = record { same = record { bytes = refl; response = same-told _ _ }; queue = refl; tables = congruent }
+  stays i n = record { same = record { bytes = refl; response = same-responses _ _ }; queue = refl; tables = congruent }
 
   judged-both : (q : Request) → SameBut (q .bytes) (responseTo d t q) (responseTo d u q) × OrderOnly (tablesAfter d t q) (tablesAfter d u q)
   judged-both q = record-step d t z o q (terminal-parts x h .tables) (terminal-parts y k .tables) l
@@ -67,7 +67,7 @@ module _ (d : Defaults) (t : Tables) (z m : List ℕ) (o : Reordered (rows Aces 
       let v : verdict (handInChecks y r) ≡ verdict (handInChecks x r) = rw (h, k, credential-same t z o r) in
       rw v
       (check-cases (verdict (handInChecks x r))
-      (λ e. rw e (record { same = record { bytes = refl; response = same-told _ _ }; queue = refl; tables = congruent }))
+      (λ e. rw e (record { same = record { bytes = refl; response = same-responses _ _ }; queue = refl; tables = congruent }))
       (λ n e. rw e (stays (handIn r) n)))
   stepped (takeAt clock capacity) =
       let v : verdict (takeChecks y) ≡ verdict (takeChecks x) = rw (h, k) in

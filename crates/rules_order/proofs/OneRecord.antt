@@ -24,7 +24,8 @@ use Rattle.rules.specs.Permission.{senderRow, connectionOf, grants, isOwner, by
 use Rattle.rules.specs.Action.{action, actionOf, ifAllowed, updateDoxm, updatePstat, storeRow, updateRows, updateRoles, updateAction, deleteNumber, deleteCreds}
 use Rattle.rules.specs.Action.{deleteAction, readAction, securityAction}
 use Rattle.rules.specs.States.{moveAllowed}
-use Rattle.rules.specs.Reading.{ownBody, rowBytes, contents, reads, replyOf, replyTo, tooShort, rowsOfReply}
+use Rattle.rules.specs.Reading.{ownBody, rowBytes, contents, reads, replyOf, replyTo, tooShort}
+use Rattle.rules.specs.Contracts.Theorems.{rowsOfReply}
 use Rattle.rules.specs.Checks.{noRow, noCredential, badTarget, missing, full, checks, verdict}
 use Rattle.rules.specs.Links.{ownRecord, permits, setOf, linkSet, linksOf}
 use Rattle.rules.specs.StoreRange.{storeRangeOf}
@@ -229,15 +230,15 @@ module _ (t : Tables) (x : List ℕ) (o : Reordered (rows Aces t) (rows Aces (wi
 
 -- ---- one record
 
-pub same-told : (r : List ℕ) (x : Response) → SameBut r x x
-same-told r x = record {
+pub same-responses : (r : List ℕ) (x : Response) → SameBut r x x
+same-responses r x = record {
   answer = refl;
   permission = refl;
   payload = refl;
   links = refl;
   listing = λ _. record { long = refl; owner = refl; listed = order-refl (rowsOfReply Aces (x .contents)) };
   contents = λ _. refl;
-  places = λ _. refl;
+  store = λ _. refl;
 }
 
 module _ (d : Defaults) (t : Tables) (x : List ℕ) (o : Reordered (rows Aces t) (rows Aces (withBytes t x)))
@@ -270,11 +271,11 @@ module _ (d : Defaults) (t : Tables) (x : List ℕ) (o : Reordered (rows Aces t)
           links = links-same t x o sounds (q .clock) r;
           listing = listing-same t x o (q .clock) r h k l;
           contents = reply-same t x o (q .clock) r;
-          places = λ n. action-same t x o (body r) (action r) .gap (action-not r n);
+          store = λ n. action-same t x o (body r) (action r) .gap (action-not r n);
         },
         effect-order t x o d q (action r) h k (passed-all t p q e) (passed-all (withBytes t x) p q (sym (verdict-same t x o sounds p q) ∙ e)),
       )
-  by-verdict l (Refuse n) e = (same-told (q .bytes) _, record { others = refl; counted = refl; order = o })
+  by-verdict l (Refuse n) e = (same-responses (q .bytes) _, record { others = refl; counted = refl; order = o })
 
   -- the same is said of it but for the order, and the tables differ at most so
   pub record-step : length (t .rowners) ≡ 64

@@ -11,10 +11,10 @@ use Rattle.rules.specs.declared.Table.the-variants.{Aces}
 use Rattle.rules.specs.Directory.{acl2}
 use Rattle.rules.specs.Record.{retrieve, verb, resource}
 use Rattle.rules.specs.Tables.{rows, withRows}
-use Rattle.rules.specs.Reading.{ownerOfReply, rowsOfReply}
+use Rattle.rules.specs.Contracts.Theorems.{ownerOfReply, rowsOfReply}
 use Rattle.rules.specs.Outcome.{Response}
-use Rattle.rules_waiting.specs.Terminal.{Terminal, terminal, Transition, soundTerminal}
-use Rattle.rules_waiting.specs.Inputs.{Input, handIn, takeAt, direct}
+use Rattle.rules_terminal.specs.Terminal.{Terminal, terminal, Transition, soundTerminal}
+use Rattle.rules_terminal.specs.Inputs.{Input, handIn, takeAt, direct}
 use Rattle.rules_order.specs.Reorder.{Reordered}
 use Rattle.rules.specs.Types.{Bytes}
 
@@ -49,7 +49,7 @@ pub record SameListed (x y : Bytes) : Type 0 where
   pub owner : ownerOfReply x ≡ ownerOfReply y
   pub listed : Reordered (rowsOfReply Aces x) (rowsOfReply Aces y)
 
--- what is said of the record r: the same, but for the order of access rows that are listed, and for the places of acl2
+-- two responses to the record r that are the same except for the order of listed access rows, and for the rows of acl2 to store
 pub record SameBut (r : Bytes) (x y : Response) : Type 0 where
   pub answer : x .answer ≡ y .answer
   pub permission : x .permission ≡ y .permission
@@ -57,7 +57,7 @@ pub record SameBut (r : Bytes) (x y : Response) : Type 0 where
   pub links : x .links ≡ y .links
   pub listing : listsAccess r ≡ true → SameListed (x .contents) (y .contents)
   pub contents : listsAccess r ≡ false → x .contents ≡ y .contents
-  pub places : eqb (resource r) acl2 ≡ false → x .places ≡ y .places
+  pub store : eqb (resource r) acl2 ≡ false → x .store ≡ y .store
 
 -- ---- runs of hand-ins, takes and records that are judged at once
 
@@ -67,7 +67,7 @@ judgedIn (handIn r) a = []
 judgedIn (takeAt clock capacity) a = a .bytes
 judgedIn (direct q) a = q .bytes
 
--- the same record is handed out, and the same but for the order is said
+-- the same record is handed out, and the response is the same except for the order
 pub record SameAnswer (i : Input) (a b : Transition) : Type 0 where
   pub bytes : a .bytes ≡ b .bytes
   pub response : SameBut (judgedIn i a) (a .response) (b .response)

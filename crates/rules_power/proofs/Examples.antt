@@ -6,7 +6,7 @@ use Rattle.rules_store.specs.Store.{markAt, raised, raise, writeAt, write, fits
 use Rattle.rules_store.specs.Cuts.{Attempt, stops, tries}
 use Rattle.rules_store.proofs.Parts.{torn-byte}
 use Rattle.rules_power.specs.Day as day
-use Rattle.rules_power.specs.Day.{Machine, told, cut, idle, found, Day, Run, SeenOf}
+use Rattle.rules_power.specs.Day.{Machine, replied, cut, idle, found, Day, Run, SeenOf}
 
 layout : Unit {0}
 unfolding imageAt marks sum counter evenCounter currentAt spareAt current spare
@@ -53,7 +53,7 @@ third : Attempt (5 ∷ []) dusk night
 unfolding layout step
 third = tries 0 0 5 refl (torn-byte 1 0 dusk 5) (tries 1 3 1 refl (torn-byte 1 3 (set dusk 0 5) 1) stops)
 
-pub a-day : Day cell 7 morning (told 9 7 ∷ cut 5 ∷ idle ∷ cut 5 ∷ []) 5 night
+pub a-day : Day cell 7 morning (replied 9 7 ∷ cut 5 ∷ idle ∷ cut 5 ∷ []) 5 night
 unfolding layout step found
 a-day = day.answers 9 7 (refl, refl) first 3 refl (day.cuts 5 9 (refl, refl) second (day.idles (day.cuts 5 9 (refl, refl) third day.ends)))
 
@@ -61,5 +61,5 @@ a-day = day.answers 9 7 (refl, refl) first 3 refl (day.cuts 5 9 (refl, refl) sec
 pub its-run : Run cell 7 (9 ∷ 5 ∷ []) (7 ∷ 9 ∷ []) 5
 its-run = day.more 9 7 (refl, refl) (day.more 5 9 (refl, refl) day.none)
 
-pub its-events : SeenOf {Input = ℕ} {Answer = ℕ} (9 ∷ 5 ∷ []) (7 ∷ 9 ∷ []) (told 9 7 ∷ cut 5 ∷ idle ∷ cut 5 ∷ [])
+pub its-events : SeenOf {Input = ℕ} {Answer = ℕ} (9 ∷ 5 ∷ []) (7 ∷ 9 ∷ []) (replied 9 7 ∷ cut 5 ∷ idle ∷ cut 5 ∷ [])
 its-events = day.transition 9 7 (day.left-out 5 (day.unseen (day.counted 5 9 day.none)))

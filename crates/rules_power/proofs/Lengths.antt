@@ -21,12 +21,12 @@ use Rattle.rules.proofs.Answers.{passed}
 use Rattle.rules.proofs.CheckLaws.{check-cases}
 use Rattle.rules.proofs.BodyLaws.{sized}
 use Rattle.rules.proofs.SoundKept.{SoundRows, Passed, passed-all, default-sound, stored-sound, removed-sound, asserted-sound}
-use Rattle.rules_waiting.specs.Slots.{queueSize}
-use Rattle.rules_waiting.specs.Terminal.{Terminal, soundTerminal, handInChecks, handedIn, takeChecks, due, taken, directChecks, judged, freshTerminal}
-use Rattle.rules_waiting.specs.Inputs.{Input, handIn, takeAt, direct, next}
-use Rattle.rules_waiting.proofs.SlotLaws.{queue-parts}
-use Rattle.rules_waiting.proofs.Sound.{terminal-parts, sound-next, fresh-terminal}
-use Rattle.rules_waiting.proofs.Refused.{unsound-run}
+use Rattle.rules_terminal.specs.Slots.{queueSize}
+use Rattle.rules_terminal.specs.Terminal.{Terminal, soundTerminal, handInChecks, handedIn, takeChecks, due, taken, directChecks, judged, freshTerminal}
+use Rattle.rules_terminal.specs.Inputs.{Input, handIn, takeAt, direct, next}
+use Rattle.rules_terminal.proofs.SlotLaws.{queue-parts}
+use Rattle.rules_terminal.proofs.Sound.{terminal-parts, sound-next, fresh-terminal}
+use Rattle.rules_terminal.proofs.Refused.{unsound-run}
 use Rattle.rules_power.specs.Image.{SizedTables, SizedTerminal}
 
 -- ---- tables

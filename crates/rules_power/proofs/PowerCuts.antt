@@ -5,20 +5,20 @@ use Rattle.rows.specs.Rows.{same, some}
 use Rattle.rules.specs.Defaults.{Defaults}
 use Rattle.rules.specs.declared.Sender.{Sender}
 use Rattle.rules.specs.Run.{replies, final}
-use Rattle.rules_waiting.specs.Terminal.{Terminal, Transition, soundTerminal}
-use Rattle.rules_waiting.specs.Inputs.{Input, handIn, takeAt, direct, transition, next, takes, recordsIn}
-use Rattle.rules_waiting.specs.CallRun.{Call, Meets, left, Built, handedBack, allShown}
-use Rattle.rules_handed.specs.Events.{gathered}
-use Rattle.rules_handed.specs.Isolation.{BookPremise, Isolated, answersTo}
-use Rattle.rules_handed.specs.Waits.{recordTaken, QuietFor}
-use Rattle.rules_handed.proofs.Served.{waiting-served}
-use Rattle.rules_handed.proofs.Calls.{handed-isolation, built-served}
+use Rattle.rules_terminal.specs.Terminal.{Terminal, Transition, soundTerminal}
+use Rattle.rules_terminal.specs.Inputs.{Input, handIn, takeAt, direct, transition, next, takes, recordsIn}
+use Rattle.rules_terminal.specs.CallRun.{Call, Meets, left, Built, handedBack, allShown}
+use Rattle.rules_runs.specs.Events.{gathered}
+use Rattle.rules_runs.specs.Isolation.{BookPremise, Isolated, answersTo}
+use Rattle.rules_runs.specs.Waits.{recordTaken, QuietFor}
+use Rattle.rules_runs.proofs.Served.{waiting-served}
+use Rattle.rules_runs.proofs.Calls.{handed-isolation, built-served}
 use Rattle.rules_store.specs.Store.{sizeFor}
 use Rattle.rules_power.specs.Image.{tablesSize, terminalSize}
 use Rattle.rules_power.specs.Day as day
-use Rattle.rules_power.specs.Day.{Machine, Event, told, found, Day, Restarts, Run, SeenOf, AsRun, inRounds}
+use Rattle.rules_power.specs.Day.{Machine, Event, replied, found, Day, Restarts, Run, SeenOf, AsRun, inRounds}
 use Rattle.rules_power.specs.Kept as acted
-use Rattle.rules_power.specs.Kept.{Act, input, clear, isInput, noClear, Answers, Calls, takeOf, takesTold, nothingWaits}
+use Rattle.rules_power.specs.Kept.{Act, input, clear, isInput, noClear, Answers, Calls, takeOf, takesAnswered, nothingWaits}
 use Rattle.rules_power.specs.Kept.{byRules, byCalls, tablesByRules, tablesByCalls, AsCalls}
 use Rattle.rules_power.proofs.Terminals as terminals
 use Rattle.rules_power.proofs.Terminals.{answers-next, calls-next}
@@ -40,7 +40,7 @@ module _ (d : Defaults) where
 
   -- a store of any content, and the first image
   pub whole-first : (s end : List ℕ) (c : Call) (es : List (Event Act Call)) (z : Terminal) → length s ≡ sizeFor terminalSize
-      → Day (byCalls d) (found (byCalls d) s) s (told clear c ∷ es) z end → soundTerminal z ≡ true
+      → Day (byCalls d) (found (byCalls d) s) s (replied clear c ∷ es) z end → soundTerminal z ≡ true
   whole-first s end c es z f = terminals.any-whole-first (Calls d) d (calls-next d) s end f c es z
 
   -- several inputs, stored at once and then answered
@@ -65,7 +65,7 @@ module _ (d : Defaults) where
   tables-sound s end es z f = terminals.any-tables-sound (Calls d) d (calls-next d) s end f es z
 
   pub tables-first : (s end : List ℕ) (c : Call) (es : List (Event Act Call)) (z : Terminal) → length s ≡ sizeFor tablesSize
-      → Day (tablesByCalls d) (found (tablesByCalls d) s) s (told clear c ∷ es) z end → soundTerminal z ≡ true
+      → Day (tablesByCalls d) (found (tablesByCalls d) s) s (replied clear c ∷ es) z end → soundTerminal z ≡ true
   tables-first s end c es z f = terminals.any-tables-first (Calls d) d (calls-next d) s end f c es z
 
   -- several inputs, stored at once and then answered
@@ -146,12 +146,12 @@ module _ (d : Defaults) where
   takesIn [] = 0
   takesIn (act ∷ acts) = takeOf act + takesIn acts
 
-  takes-told : {Answer : Type 0} (acts : List Act) (rs : List Answer) (es : List (Event Act Answer)) → SeenOf acts rs es → takesTold es ≤ takesIn acts
-  takes-told acts rs es day.none = omega arith
-  takes-told acts rs es (day.transition {is = is} {bs = bs} {es = later} act a seen) = omega (arith, takes-told is bs later seen)
-  takes-told acts rs es (day.counted {is = is} {bs = bs} {es = later} act a seen) = omega (arith, takes-told is bs later seen)
-  takes-told acts rs es (day.left-out {es = later} act seen) = takes-told acts rs later seen
-  takes-told acts rs es (day.unseen {es = later} seen) = takes-told acts rs later seen
+  takes-answered : {Answer : Type 0} (acts : List Act) (rs : List Answer) (es : List (Event Act Answer)) → SeenOf acts rs es → takesAnswered es ≤ takesIn acts
+  takes-answered acts rs es day.none = omega arith
+  takes-answered acts rs es (day.transition {is = is} {bs = bs} {es = later} act a seen) = omega (arith, takes-answered is bs later seen)
+  takes-answered acts rs es (day.counted {is = is} {bs = bs} {es = later} act a seen) = omega (arith, takes-answered is bs later seen)
+  takes-answered acts rs es (day.left-out {es = later} act seen) = takes-answered acts rs later seen
+  takes-answered acts rs es (day.unseen {es = later} seen) = takes-answered acts rs later seen
 
   takes-inputs : (is : List Input) → takesIn (map input is) ≡ takes is
   takes-inputs [] = refl
@@ -161,15 +161,15 @@ module _ (d : Defaults) where
 
   -- nothing is asked of the take that hands it out, nor of what comes later; that take may be one that was cut
   pub day-served : (x z : Terminal) (es : List (Event Act Call)) → (c : AsCalls d x es z) → (r : List ℕ)
-      → soundTerminal x ≡ true → some (same r) (recordsIn x) ≡ true → QuietFor r x (c .inputs) (allShown (c .inputs) (c .calls)) → 25 ≤ takesTold es
+      → soundTerminal x ≡ true → some (same r) (recordsIn x) ≡ true → QuietFor r x (c .inputs) (allShown (c .inputs) (c .calls)) → 25 ≤ takesAnswered es
       → some (same r) (gathered recordTaken (c .inputs) (allShown (c .inputs) (c .calls))) ≡ true
   day-served x z es c r h w q n =
       built-served d x (c .inputs) (c .calls) (c .built) h r w q
-      (omega (arith, takes-inputs (c .inputs), takes-told (map input (c .inputs)) (c .calls) es (c .seen)))
+      (omega (arith, takes-inputs (c .inputs), takes-answered (map input (c .inputs)) (c .calls) es (c .seen)))
 
   -- the same by the rules
   pub day-served-rules : (x : Terminal) (is : List Input) (rs : List Transition) (es : List (Event Act Transition)) → SeenOf (map input is) rs es → (r : List ℕ)
-      → soundTerminal x ≡ true → some (same r) (recordsIn x) ≡ true → QuietFor r x is (answersTo d x is) → 25 ≤ takesTold es
+      → soundTerminal x ≡ true → some (same r) (recordsIn x) ≡ true → QuietFor r x is (answersTo d x is) → 25 ≤ takesAnswered es
       → some (same r) (gathered recordTaken is (answersTo d x is)) ≡ true
   day-served-rules x is rs es seen r h w q n =
-      waiting-served d x is r h w q (omega (arith, takes-inputs is, takes-told (map input is) rs es seen))
+      waiting-served d x is r h w q (omega (arith, takes-inputs is, takes-answered (map input is) rs es seen))

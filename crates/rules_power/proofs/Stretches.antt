@@ -10,21 +10,21 @@ use Rattle.rules.specs.Defaults.{Defaults}
 use Rattle.rules.specs.Outcome.{Response, responseTo, tablesAfter}
 use Rattle.rules.specs.Run.{replies, final}
 use Rattle.rules.proofs.Isolated.{isolation}
-use Rattle.rules_waiting.specs.Slots.{anew}
-use Rattle.rules_waiting.specs.Terminal.{Terminal, terminal, soundTerminal}
-use Rattle.rules_waiting.specs.Inputs.{Input, handIn, takeAt, direct, recordsIn}
-use Rattle.rules_waiting.specs.CallRun.{Call, left, Built, handedBack, shown, allShown}
-use Rattle.rules_waiting.proofs.SlotLaws.{waiting-back}
-use Rattle.rules_waiting.proofs.Sound.{terminal-parts, sound-next, fresh-is}
-use Rattle.rules_waiting.proofs.Direct.{fresh-whole}
-use Rattle.rules_waiting.proofs.Built.{call-left}
-use Rattle.rules_handed.specs.Isolation.{AsRules}
-use Rattle.rules_handed.proofs.Calls.{built-rules, built-served}
+use Rattle.rules_terminal.specs.Slots.{anew}
+use Rattle.rules_terminal.specs.Terminal.{Terminal, terminal, soundTerminal}
+use Rattle.rules_terminal.specs.Inputs.{Input, handIn, takeAt, direct, recordsIn}
+use Rattle.rules_terminal.specs.CallRun.{Call, left, Built, handedBack, shown, allShown}
+use Rattle.rules_terminal.proofs.SlotLaws.{waiting-back}
+use Rattle.rules_terminal.proofs.Sound.{terminal-parts, sound-next, fresh-is}
+use Rattle.rules_terminal.proofs.Direct.{fresh-whole}
+use Rattle.rules_terminal.proofs.Built.{call-left}
+use Rattle.rules_runs.specs.Isolation.{AsRules}
+use Rattle.rules_runs.proofs.Calls.{built-rules, built-served}
 use Rattle.rules_power.specs.Day as day
 use Rattle.rules_power.specs.Day.{Machine, Event, Day, Restarts, Run, found, inRounds}
 use Rattle.rules_power.specs.Kept.{Act, input, clear, nothingWaits, tablesByCalls}
 use Rattle.rules_power.specs.Stretches as across
-use Rattle.rules_power.specs.Stretches.{BuiltAcross, leftAcross, shownAcross, requestsAcross, toldAcross, PremiseAcross, IsolatedAcross}
+use Rattle.rules_power.specs.Stretches.{BuiltAcross, leftAcross, shownAcross, requestsAcross, responsesAcross, PremiseAcross, IsolatedAcross}
 use Rattle.rules_power.specs.Stretches.{ServesAlways, ServesAcross, allInputs, noClearIn, AsStretches, alone}
 use Rattle.rules_power.proofs.PowerCuts.{run-built}
 
@@ -47,9 +47,9 @@ final-append d t (q ∷ qs) rs = final-append d (tablesAfter d t q) qs rs
 rules-joined : (d : Defaults) (t u v : Tables) (qs rs : List Request) (xs ys : List Response) → AsRules d t qs xs u → AsRules d u rs ys v
     → AsRules d t (qs ++ rs) (xs ++ ys) v
 rules-joined d t u v qs rs xs ys one two = record {
-  told-same =
-      ap₂ (λ (k l : List Response). k ++ l) (one .told-same)
-      (two .told-same ∙ ap (λ (w : Tables). replies (responseTo d) (tablesAfter d) w rs) (one .tables-same))
+  responses-same =
+      ap₂ (λ (k l : List Response). k ++ l) (one .responses-same)
+      (two .responses-same ∙ ap (λ (w : Tables). replies (responseTo d) (tablesAfter d) w rs) (one .tables-same))
       ∙ sym (replies-append d t qs rs);
   tables-same =
       two .tables-same
@@ -64,8 +64,8 @@ left-later x cs (ds ∷ css) = refl
 
 module _ (d : Defaults) where
   pub across-rules : (x : Terminal) (iss : List (List Input)) (css : List (List Call)) → BuiltAcross d x iss css
-      → AsRules d (x .tables) (requestsAcross (recordsIn x) iss (shownAcross iss css)) (toldAcross iss (shownAcross iss css)) (leftAcross x css .tables)
-  across-rules x [] [] b = record { told-same = refl; tables-same = refl }
+      → AsRules d (x .tables) (requestsAcross (recordsIn x) iss (shownAcross iss css)) (responsesAcross iss (shownAcross iss css)) (leftAcross x css .tables)
+  across-rules x [] [] b = record { responses-same = refl; tables-same = refl }
   across-rules x [] (cs ∷ css) b = absurd b
   across-rules x (is ∷ iss) [] b = absurd b
   across-rules x (is ∷ iss) (cs ∷ css) b =
@@ -80,7 +80,7 @@ module _ (d : Defaults) where
   across-isolation x iss css b chosen premise =
       let r = across-rules x iss css b in
       let both = isolation d chosen (x .tables) (requestsAcross (recordsIn x) iss (shownAcross iss css)) premise in
-      record { told-same = rw (r .told-same) (both .0); tables-same = rw (r .tables-same) (both .1) }
+      record { responses-same = rw (r .responses-same) (both .0); tables-same = rw (r .tables-same) (both .1) }
 
   -- ---- within 25 takes
 

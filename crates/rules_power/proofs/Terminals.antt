@@ -3,16 +3,16 @@
 use Rattle.rows.proofs.Prelude.{_≡_, refl, ap, true, List, _∷_, ℕ, arith, length}
 use Rattle.rules.specs.declared.Tables.{Tables}
 use Rattle.rules.specs.Defaults.{Defaults}
-use Rattle.rules_waiting.specs.Slots.{emptyQueue}
-use Rattle.rules_waiting.specs.Terminal.{Terminal, terminal, Transition, soundTerminal, clearedTerminal}
-use Rattle.rules_waiting.specs.CallRun.{Call}
-use Rattle.rules_waiting.proofs.Sound.{terminal-parts, sound-next, fresh-terminal}
-use Rattle.rules_waiting.proofs.Direct.{fresh-whole}
-use Rattle.rules_waiting.proofs.Built.{call-left}
+use Rattle.rules_terminal.specs.Slots.{emptyQueue}
+use Rattle.rules_terminal.specs.Terminal.{Terminal, terminal, Transition, soundTerminal, clearedTerminal}
+use Rattle.rules_terminal.specs.CallRun.{Call}
+use Rattle.rules_terminal.proofs.Sound.{terminal-parts, sound-next, fresh-terminal}
+use Rattle.rules_terminal.proofs.Direct.{fresh-whole}
+use Rattle.rules_terminal.proofs.Built.{call-left}
 use Rattle.rules_store.specs.Store.{sizeFor}
 use Rattle.rules_power.specs.Image.{tablesSize, terminalSize, SizedTables, SizedTerminal}
 use Rattle.rules_power.specs.Day as day
-use Rattle.rules_power.specs.Day.{Machine, Event, told, found, Day, Restarts, AsRun, Kept, inRounds, Keeps}
+use Rattle.rules_power.specs.Day.{Machine, Event, replied, found, Day, Restarts, AsRun, Kept, inRounds, Keeps}
 use Rattle.rules_power.specs.Kept as kept
 use Rattle.rules_power.specs.Kept.{Act, input, clear, actNext, Answers, Calls, nothingWaits, whole, tablesAlone}
 use Rattle.rules_power.proofs.Days.{power-on, day-restarts, restarts-run, run-keeps, rounds-keep}
@@ -61,7 +61,7 @@ module _ {Input Answer : Type 0} (m : Machine Terminal Input Answer)
   restarts-sound x z es (day.idles {es = more} rest) h = restarts-sound (m .restart x) z more rest (restart-sound x h)
 
   -- after an input that leaves a sound terminal, whatever was there before
-  restarts-first : (x z : Terminal) (i : Input) (a : Answer) (es : List (Event Input Answer)) → Restarts m x (told i a ∷ es) z
+  restarts-first : (x z : Terminal) (i : Input) (a : Answer) (es : List (Event Input Answer)) → Restarts m x (replied i a ∷ es) z
       → ((y : Terminal) → m .Gives x i a y → soundTerminal y ≡ true) → soundTerminal z ≡ true
   restarts-first x z i a es (day.answers {y = y} _ _ g rest) first = restarts-sound y z es rest (first y g)
 
@@ -116,10 +116,10 @@ module _ {Answer : Type 0} (Gives : Terminal → Act → Answer → Terminal →
     any-whole-sound es z days = restarts-sound (whole Gives) sound-after (λ x h. h) start z es (whole-restarts es z days .0)
 
     -- whatever the store held before the clear button, or before the first image
-    pub any-whole-first : (a : Answer) (es : List (Event Act Answer)) (z : Terminal) → Day (whole Gives) start s (told clear a ∷ es) z end
+    pub any-whole-first : (a : Answer) (es : List (Event Act Answer)) (z : Terminal) → Day (whole Gives) start s (replied clear a ∷ es) z end
         → soundTerminal z ≡ true
     any-whole-first a es z days =
-        restarts-first (whole Gives) sound-after (λ x h. h) start z clear a es (whole-restarts (told clear a ∷ es) z days .0)
+        restarts-first (whole Gives) sound-after (λ x h. h) start z clear a es (whole-restarts (replied clear a ∷ es) z days .0)
         (λ y. cleared-sound start y a)
 
     -- several inputs are stored at once, and then answered
@@ -151,10 +151,10 @@ module _ {Answer : Type 0} (Gives : Terminal → Act → Answer → Terminal →
         → soundTerminal started ≡ true → soundTerminal z ≡ true
     any-tables-sound es z days = restarts-sound (tablesAlone Gives) sound-after nothing-sound started z es (any-tables-run es z days .0)
 
-    pub any-tables-first : (a : Answer) (es : List (Event Act Answer)) (z : Terminal) → Day (tablesAlone Gives) started s (told clear a ∷ es) z end
+    pub any-tables-first : (a : Answer) (es : List (Event Act Answer)) (z : Terminal) → Day (tablesAlone Gives) started s (replied clear a ∷ es) z end
         → soundTerminal z ≡ true
     any-tables-first a es z days =
-        restarts-first (tablesAlone Gives) sound-after nothing-sound started z clear a es (any-tables-run (told clear a ∷ es) z days .0)
+        restarts-first (tablesAlone Gives) sound-after nothing-sound started z clear a es (any-tables-run (replied clear a ∷ es) z days .0)
         (λ y. cleared-sound started y a)
 
     -- several inputs are stored at once, and then answered

@@ -5,8 +5,8 @@ use Rattle.rules.specs.declared.Tables.{Tables}
 use Rattle.rules.specs.Defaults.{Defaults}
 use Rattle.rules.specs.Checks.{verdict}
 use Rattle.rules.proofs.CheckLaws.{check-cases}
-use Rattle.rules_waiting.specs.Terminal.{Terminal, handInChecks, handedIn}
-use Rattle.rules_waiting.specs.Inputs.{handIn, next}
+use Rattle.rules_terminal.specs.Terminal.{Terminal, handInChecks, handedIn}
+use Rattle.rules_terminal.specs.Inputs.{handIn, next}
 use Rattle.rules_store.specs.declared.Step.the-variants.{Done}
 use Rattle.rules_store.specs.Store as store
 use Rattle.rules_store.specs.Store.{current}

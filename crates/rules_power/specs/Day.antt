@@ -22,7 +22,7 @@ pub record Machine (State Input Answer : Type 0) : Type 1 where
 
 -- what is seen of a day: an input and its answer; an input without one, since the power was cut; a power cut between two inputs
 pub data Event (Input Answer : Type 0) : Type 0 where
-  told : Input → Answer → Event Input Answer
+  replied : Input → Answer → Event Input Answer
   cut : Input → Event Input Answer
   idle : Event Input Answer
 
@@ -37,7 +37,7 @@ module _ {State Input Answer : Type 0} (m : Machine State Input Answer) where
     ends : {x : State} {s : Store} → Day x s [] x s
     answers : {x y z : State} {s t end : Store} {es : List (Event Input Answer)} (i : Input) (a : Answer) → m .Gives x i a y
         → Attempt (m .image y) s t → (from : Address) → store.next t (m .image y) from ≡ Done
-        → Day y t es z end → Day x s (told i a ∷ es) z end
+        → Day y t es z end → Day x s (replied i a ∷ es) z end
     cuts : {x y z : State} {s t end : Store} {es : List (Event Input Answer)} (i : Input) (a : Answer) → m .Gives x i a y
         → Attempt (m .image y) s t → Day (found t) t es z end → Day x s (cut i ∷ es) z end
     idles : {x z : State} {s end : Store} {es : List (Event Input Answer)} → Day (found s) s es z end → Day x s (idle ∷ es) z end
@@ -45,7 +45,7 @@ module _ {State Input Answer : Type 0} (m : Machine State Input Answer) where
   -- The same without a store. An input that was cut counts, or it is left out; and a restart leaves of the state what it does
   pub data Restarts : State → List (Event Input Answer) → State → Type 0 where
     ends : {x : State} → Restarts x [] x
-    answers : {x y z : State} {es : List (Event Input Answer)} (i : Input) (a : Answer) → m .Gives x i a y → Restarts y es z → Restarts x (told i a ∷ es) z
+    answers : {x y z : State} {es : List (Event Input Answer)} (i : Input) (a : Answer) → m .Gives x i a y → Restarts y es z → Restarts x (replied i a ∷ es) z
     counts : {x y z : State} {es : List (Event Input Answer)} (i : Input) (a : Answer) → m .Gives x i a y → Restarts (m .restart y) es z
         → Restarts x (cut i ∷ es) z
     leaves-out : {x z : State} {es : List (Event Input Answer)} (i : Input) → Restarts (m .restart x) es z → Restarts x (cut i ∷ es) z
@@ -61,7 +61,7 @@ module _ {State Input Answer : Type 0} (m : Machine State Input Answer) where
 pub data SeenOf {Input Answer : Type 0} : List Input → List Answer → List (Event Input Answer) → Type 0 where
   none : SeenOf [] [] []
   transition : {is : List Input} {bs : List Answer} {es : List (Event Input Answer)} (i : Input) (a : Answer) → SeenOf is bs es
-      → SeenOf (i ∷ is) (a ∷ bs) (told i a ∷ es)
+      → SeenOf (i ∷ is) (a ∷ bs) (replied i a ∷ es)
   counted : {is : List Input} {bs : List Answer} {es : List (Event Input Answer)} (i : Input) (a : Answer) → SeenOf is bs es
       → SeenOf (i ∷ is) (a ∷ bs) (cut i ∷ es)
   left-out : {is : List Input} {bs : List Answer} {es : List (Event Input Answer)} (i : Input) → SeenOf is bs es → SeenOf is bs (cut i ∷ es)
@@ -100,24 +100,24 @@ pub record Keeps {State Input Answer : Type 0} (m : Machine State Input Answer) 
 -- every input is answered
 abbrev pub allAnswered : {Input Answer : Type 0} → List (Event Input Answer) → Bool
 allAnswered [] = true
-allAnswered (told i a ∷ es) = allAnswered es
+allAnswered (replied i a ∷ es) = allAnswered es
 allAnswered (cut i ∷ es) = false
 allAnswered (idle ∷ es) = false
 
 -- the same event with another answer
 abbrev pub eventOf : {Input Answer Other : Type 0} → (Input → Answer → Other) → Event Input Answer → Event Input Other
-eventOf f (told i a) = told i (f i a)
+eventOf f (replied i a) = replied i (f i a)
 eventOf f (cut i) = cut i
 eventOf f idle = idle
 
 -- each input with its answer
-abbrev pub allTold : {Input Answer : Type 0} → List Input → List Answer → List (Event Input Answer)
-allTold [] bs = []
-allTold (i ∷ is) [] = []
-allTold (i ∷ is) (a ∷ bs) = told i a ∷ allTold is bs
+abbrev pub allResponses : {Input Answer : Type 0} → List Input → List Answer → List (Event Input Answer)
+allResponses [] bs = []
+allResponses (i ∷ is) [] = []
+allResponses (i ∷ is) (a ∷ bs) = replied i a ∷ allResponses is bs
 
 -- a day on which each input is stored to the end
 pub record Uncut {State Input Answer : Type 0} (m : Machine State Input Answer) (x : State) (s : List ℕ) (is : List Input) (bs : List Answer) (z : State)
     : Type 0 where
   pub end : List ℕ
-  pub seen : Day m x s (allTold is bs) z end
+  pub seen : Day m x s (allResponses is bs) z end

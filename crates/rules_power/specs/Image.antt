@@ -1,4 +1,4 @@
--- The image of a terminal: the bytes of the tables in the order of the struct, and with them the memory of waiting records.
+-- The image of a terminal: the bytes of the tables in the order of the struct, and with them the queue.
 -- Every field is a byte or an array of bytes, so no image depends on padding or on the order of bytes.
 use Prim.Native.Nat.{_+_}
 use mathlib.Core.Path.{_≡_}
@@ -7,8 +7,8 @@ use lib.ListN.{length, take, drop, getD}
 use Rattle.rules.specs.declared.Tables.{Tables}
 use Rattle.rules.specs.declared.Table.the-variants.{Creds, Aces}
 use Rattle.rules.specs.Tables.{tableSize}
-use Rattle.rules_waiting.specs.Slots.{queueSize}
-use Rattle.rules_waiting.specs.Terminal.{Terminal, terminal}
+use Rattle.rules_terminal.specs.Slots.{queueSize}
+use Rattle.rules_terminal.specs.Terminal.{Terminal, terminal}
 use Rattle.rules.specs.Types.{Bytes, Offset, Size}
 use Rattle.rules_store.specs.Store.{Image}
 

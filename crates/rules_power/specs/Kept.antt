@@ -1,15 +1,15 @@
--- What is stored of a terminal: the tables and what waits, as one image; or the tables alone, so that after a restart nothing waits.
+-- What is stored of a terminal: the tables and the queue, as one image; or only the tables, so that after a restart nothing waits.
 use Prim.Native.Nat.{ℕ, _+_}
 use mathlib.Core.Path.{_≡_}
 use mathlib.Core.Bool.{Bool, true, false, _&&_}
 use mathlib.Core.List.{List, [], _∷_, map}
 use Rattle.rules.specs.Defaults.{Defaults}
-use Rattle.rules_waiting.specs.Slots.{emptyQueue}
-use Rattle.rules_waiting.specs.Terminal.{Terminal, terminal, Transition, numberTransition, clearedTerminal}
-use Rattle.rules_waiting.specs.Inputs.{Input, transition, next, takes}
-use Rattle.rules_waiting.specs.CallRun.{Call, Meets, left, Built, handedBack}
+use Rattle.rules_terminal.specs.Slots.{emptyQueue}
+use Rattle.rules_terminal.specs.Terminal.{Terminal, terminal, Transition, numberTransition, clearedTerminal}
+use Rattle.rules_terminal.specs.Inputs.{Input, transition, next, takes}
+use Rattle.rules_terminal.specs.CallRun.{Call, Meets, left, Built, handedBack}
 use Rattle.rules_power.specs.Image.{tablesImage, terminalImage, tablesSize, terminalSize, tablesIn, terminalIn}
-use Rattle.rules_power.specs.Day.{Machine, Event, told, cut, idle, SeenOf}
+use Rattle.rules_power.specs.Day.{Machine, Event, replied, cut, idle, SeenOf}
 
 -- an input, or the clear button; the first image of a new terminal is stored as the button's is
 pub data Act : Type 0 where
@@ -25,7 +25,7 @@ pub data Answers (d : Defaults) : Terminal → Act → Transition → Terminal �
   gives : (x : Terminal) (i : Input) → Answers d x (input i) (transition d x i) (next d x i)
   clears : (x : Terminal) → Answers d x clear (numberTransition 0 (clearedTerminal d x)) (clearedTerminal d x)
 
--- by a call that meets its contract. Of the clear button's call the tables and the memory count alone
+-- by a call that meets its contract. Of the clear button's call only the tables and the queue count
 pub data Calls (d : Defaults) : Terminal → Act → Call → Terminal → Type 0 where
   gives : (x : Terminal) (i : Input) (c : Call) → Meets d x i c → Calls d x (input i) c (left c)
   clears : (x : Terminal) (c : Call) → left c ≡ clearedTerminal d x → Calls d x clear c (left c)
@@ -35,11 +35,11 @@ abbrev pub takeOf : Act → ℕ
 takeOf (input i) = takes (i ∷ [])
 takeOf clear = 0
 
-abbrev pub takesTold : {Answer : Type 0} → List (Event Act Answer) → ℕ
-takesTold [] = 0
-takesTold (told act a ∷ es) = takeOf act + takesTold es
-takesTold (cut act ∷ es) = takesTold es
-takesTold (idle ∷ es) = takesTold es
+abbrev pub takesAnswered : {Answer : Type 0} → List (Event Act Answer) → ℕ
+takesAnswered [] = 0
+takesAnswered (replied act a ∷ es) = takeOf act + takesAnswered es
+takesAnswered (cut act ∷ es) = takesAnswered es
+takesAnswered (idle ∷ es) = takesAnswered es
 
 -- the clear button is not pressed
 abbrev pub isInput : Act → Bool
@@ -48,7 +48,7 @@ isInput clear = false
 
 abbrev pub noClear : {Answer : Type 0} → List (Event Act Answer) → Bool
 noClear [] = true
-noClear (told act a ∷ es) = isInput act && noClear es
+noClear (replied act a ∷ es) = isInput act && noClear es
 noClear (cut act ∷ es) = isInput act && noClear es
 noClear (idle ∷ es) = noClear es
 

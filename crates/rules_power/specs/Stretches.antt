@@ -11,13 +11,13 @@ use Rattle.rules.specs.Defaults.{Defaults}
 use Rattle.rules.specs.Outcome.{Response, responseTo, tablesAfter}
 use Rattle.rules.specs.Run.{replies, final, Along, kept, keptOf}
 use Rattle.rules.specs.Isolation.{Premise, isOthers, compared}
-use Rattle.rules_waiting.specs.Terminal.{Terminal, Transition}
-use Rattle.rules_waiting.specs.Inputs.{Input, takes, recordsIn}
-use Rattle.rules_waiting.specs.CallRun.{Call, Built, handedBack, allShown}
-use Rattle.rules_handed.specs.Events.{requests, eventOf, gathered}
-use Rattle.rules_handed.specs.Isolation.{allTold}
-use Rattle.rules_handed.specs.Waits.{recordTaken, QuietFor}
-use Rattle.rules_power.specs.Day.{Event, told, cut, idle}
+use Rattle.rules_terminal.specs.Terminal.{Terminal, Transition}
+use Rattle.rules_terminal.specs.Inputs.{Input, takes, recordsIn}
+use Rattle.rules_terminal.specs.CallRun.{Call, Built, handedBack, allShown}
+use Rattle.rules_runs.specs.Events.{requests, eventOf, gathered}
+use Rattle.rules_runs.specs.Isolation.{allResponses}
+use Rattle.rules_runs.specs.Waits.{recordTaken, QuietFor}
+use Rattle.rules_power.specs.Day.{Event, replied, cut, idle}
 use Rattle.rules_power.specs.Kept.{Act, input, isInput, nothingWaits}
 
 -- ---- the calls
@@ -50,10 +50,10 @@ requestsAcross rs (is ∷ iss) [] = []
 requestsAcross rs (is ∷ iss) (first ∷ answers) = requests rs (gathered eventOf is first) ++ requestsAcross [] iss answers
 
 -- what their senders are told
-abbrev pub toldAcross : List (List Input) → List (List Transition) → List Response
-toldAcross [] answers = []
-toldAcross (is ∷ iss) [] = []
-toldAcross (is ∷ iss) (first ∷ answers) = allTold is first ++ toldAcross iss answers
+abbrev pub responsesAcross : List (List Input) → List (List Transition) → List Response
+responsesAcross [] answers = []
+responsesAcross (is ∷ iss) [] = []
+responsesAcross (is ∷ iss) (first ∷ answers) = allResponses is first ++ responsesAcross iss answers
 
 -- demand 3: the book is fed the others' records, byte for byte as they were handed in or waited at the start
 module _ (d : Defaults) (chosen : Sender → Bool) (x : Terminal) (iss : List (List Input)) (answers : List (List Transition)) where
@@ -64,9 +64,9 @@ module _ (d : Defaults) (chosen : Sender → Bool) (x : Terminal) (iss : List (L
   abbrev pub PremiseAcross : Type 0
   PremiseAcross = Along (tablesAfter d) (Premise chosen) (x .tables) othersAcross
 
-  -- the others are told what the book answers, and the tables at the end are the book's but for the chosen partners' asserted roles
+  -- the others get the book's responses, and the tables at the end are the book's except for the chosen partners' asserted roles
   pub record IsolatedAcross (end : Terminal) : Type 0 where
-    pub told-same : keptOf (isOthers chosen) (requestsAcross (recordsIn x) iss answers) (toldAcross iss answers)
+    pub responses-same : keptOf (isOthers chosen) (requestsAcross (recordsIn x) iss answers) (responsesAcross iss answers)
         ≡ replies (responseTo d) (tablesAfter d) (x .tables) othersAcross
     pub tables-same : compared chosen (end .tables) ≡ compared chosen (final (tablesAfter d) (x .tables) othersAcross)
 
@@ -98,7 +98,7 @@ pub data SeenAcross {Input Answer : Type 0} : List (List Input) → List (List A
   none : SeenAcross ([] ∷ []) ([] ∷ []) []
   answered : {is : List Input} {bs : List Answer} {iss : List (List Input)} {bss : List (List Answer)} {es : List (Event (List Input) (List Answer))}
       (round : List Input) (answers : List Answer) → SeenAcross (is ∷ iss) (bs ∷ bss) es
-      → SeenAcross ((round ++ is) ∷ iss) ((answers ++ bs) ∷ bss) (told round answers ∷ es)
+      → SeenAcross ((round ++ is) ∷ iss) ((answers ++ bs) ∷ bss) (replied round answers ∷ es)
   counted : {iss : List (List Input)} {bss : List (List Answer)} {es : List (Event (List Input) (List Answer))}
       (round : List Input) (answers : List Answer) → SeenAcross iss bss es → SeenAcross (round ∷ iss) (answers ∷ bss) (cut round ∷ es)
   left-out : {iss : List (List Input)} {bss : List (List Answer)} {es : List (Event (List Input) (List Answer))} (round : List Input)
@@ -113,7 +113,7 @@ allInputs (act ∷ acts) = isInput act && allInputs acts
 
 abbrev pub noClearIn : {Answer : Type 0} → List (Event (List Act) (List Answer)) → Bool
 noClearIn [] = true
-noClearIn (told round answers ∷ es) = allInputs round && noClearIn es
+noClearIn (replied round answers ∷ es) = allInputs round && noClearIn es
 noClearIn (cut round ∷ es) = allInputs round && noClearIn es
 noClearIn (idle ∷ es) = noClearIn es
 
@@ -129,6 +129,6 @@ pub record AsStretches (d : Defaults) (x : Terminal) (es : List (Event (List Act
 
 -- each input stored and answered by itself: a round of one
 abbrev pub alone : {Input Answer : Type 0} → Event Input Answer → Event (List Input) (List Answer)
-alone (told i a) = told (i ∷ []) (a ∷ [])
+alone (replied i a) = replied (i ∷ []) (a ∷ [])
 alone (cut i) = cut (i ∷ [])
 alone idle = idle

@@ -90,13 +90,13 @@ module _ (n : ℕ) (s : List ℕ) (p : ℕ) (h : p < n) where
   pub copied-marks : (v : ℕ) → marks n (copied v) ≡ marks n s
   copied-marks v = torn-byte n (spareAt n s + p) s v .last in-images
 
-  pub copied-place : (v : ℕ) → spareAt n (copied v) ≡ spareAt n s
+  pub copied-address : (v : ℕ) → spareAt n (copied v) ≡ spareAt n s
   unfolding spareAt
-  copied-place v = ap (λ (b : Bool). cond b n 0) (even-kept n s (copied v) (copied-marks v))
+  copied-address v = ap (λ (b : Bool). cond b n 0) (even-kept n s (copied v) (copied-marks v))
 
   pub copied-spare : (v : ℕ) → spare n (copied v) ≡ set (spare n s) p v
   unfolding spare
-  copied-spare v = ap (λ (at : ℕ). imageAt n at (copied v)) (copied-place v) ∙ byte-in n (spareAt n s) s v p h
+  copied-spare v = ap (λ (at : ℕ). imageAt n at (copied v)) (copied-address v) ∙ byte-in n (spareAt n s) s v p h
 
 -- ---- a mark
 

@@ -7,7 +7,7 @@ use Rattle.rules_store.specs.declared.Step.{Step}
 use Rattle.rules_store.specs.declared.Step.the-variants.{Write, Done}
 use Rattle.rules_store.specs.Store.{sizeFor, counter, current, spare, spareAt, markAt, raised, raise, toCopy, writeAt, write, settled, next}
 use Rattle.rules_store.specs.Run.{writes, written, differences}
-use Rattle.rules_store.proofs.Parts.{spare-at-most, mark-after, same-marks, copied-marks, copied-place, copied-spare, marked-counter, marked-current}
+use Rattle.rules_store.proofs.Parts.{spare-at-most, mark-after, same-marks, copied-marks, copied-address, copied-spare, marked-counter, marked-current}
 use Rattle.rules_store.proofs.Mismatch.{copy-here, copy-same}
 use Rattle.rules_store.proofs.Steps.{is-write, is-done}
 
@@ -94,7 +94,7 @@ module _ (new : List ℕ) where
     on = record {
       size = length-set store at y ∙ c .size;
       busy = rw (ne-eqb (at + 1) 0 (omega arith), le-ltb (n + n) (at + 1) (omega (arith, spare-at-most n store, inside)));
-      reached = rw (copied-place n store (length done) inside y, length-append) (omega arith);
+      reached = rw (copied-address n store (length done) inside y, length-append) (omega arith);
       half = copied-spare n store (length done) inside y ∙ rw (c .half) (set-append-seam done x old y ∙ sym (append-snoc done y old));
       whole = c .whole ∙ sym (append-snoc done y rest);
     }
@@ -152,7 +152,7 @@ module _ (new : List ℕ) where
       let c′ = over store from done x old y rest (eqb-true x y q) c in
       rw (q, ← s) (ending (suc k) store from more-done old rest c′ (omega arith) (omega arith)))
       (λ q.
-      let p = copied-place n store (length done) (inside store from done x old y rest c) y in
+      let p = copied-address n store (length done) (inside store from done x old y rest c) y in
       let m = same-raise store from done x old y rest c in
       let ih = ending k (set store at y) (at + 1) more-done old rest (on store from done x old y rest c) (omega arith) (omega arith) in
       rw q (more store from done x old y rest c k _ (eqb-false x y q) (rw (p, m, s) at ih)))

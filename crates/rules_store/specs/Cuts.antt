@@ -10,7 +10,7 @@ use Rattle.rows.specs.Types.{Bytes}
 use mathlib.Core.Bool.{true}
 use Rattle.rows.specs.Rows.{same, some}
 
--- What a write at place `at` may leave of a store: anything in the part that it writes to, which is the first image, the second image
+-- What a write at address `at` may leave of a store: anything in the part that it writes to, which is the first image, the second image
 -- or the marks. The other two parts stay. A byte with any value is a case of it; so is a page written whole, and a cell that is worn out.
 pub record Torn (n at : ℕ) (store after : List ℕ) : Type 0 where
   pub size : length after ≡ length store

@@ -27,7 +27,7 @@ pub data Justified (store : Store) (new : Image) : Step → Type 0 where
 
 -- ---- what a program writes
 
--- the writes of at most k steps: each is made, and the program asks again with the place after it
+-- the writes of at most k steps: each is made, and the program asks again with the address after it
 unfoldable pub writes : ℕ → Store → Image → Address → List Step
 writes zero store new from = []
 writes (suc k) store new from = ifWrite (λ at byte. Write at byte ∷ writes k (set store at byte) new (at + 1)) [] (next store new from)

@@ -63,17 +63,17 @@ spare size store = imageAt size (spareAt size store) store
 
 -- ---- the byte to copy
 
--- the first place in which two images differ; the shorter one's length, if there is none
+-- the first offset at which two images differ; the shorter one's length, if there is none
 unfoldable pub mismatch : Image → Image → Offset
 mismatch [] new = 0
 mismatch (x ∷ old) [] = 0
 mismatch (x ∷ old) (y ∷ new) = cond (eqb x y) (suc (mismatch old new)) 0
 
--- the first one from place `from` on
+-- the first one from offset `from` on
 unfoldable pub mismatchFrom : Offset → Image → Image → Offset
 mismatchFrom from old new = from + mismatch (drop from old) (drop from new)
 
--- that one, else the first of all: no place is left out, wherever the search begins
+-- that one, else the first of all: no offset is left out, wherever the search begins
 unfoldable pub toCopy : Offset → Image → Image → Offset
 toCopy from old new = cond (ltb (mismatchFrom from old new) (length new)) (mismatchFrom from old new) (mismatchFrom 0 old new)
 
@@ -91,7 +91,7 @@ raise size store = Write (markAt size store) (raised (getD store (markAt size st
 
 -- a byte of the spare image, or a mark where no byte is left to copy
 unfoldable pub writeAt : Offset → Store → Image → Step
-writeAt place store new = cond (ltb place (length new)) (Write (spareAt (length new) store + place) (getD new place 0)) (raise (length new) store)
+writeAt offset store new = cond (ltb offset (length new)) (Write (spareAt (length new) store + offset) (getD new offset 0)) (raise (length new) store)
 
 unfoldable pub write : Store → Image → Address → Step
 write store new from = writeAt (toCopy (from - spareAt (length new) store) (spare (length new) store) new) store new
@@ -103,6 +103,6 @@ fits store new = eqb (length store) (sizeFor (length new))
 unfoldable pub settled : Store → Image → Address → Bool
 settled store new from = (eqb from 0 || ltb (length new + length new) from) && same (current (length new) store) new
 
--- what to do next to store the image `new`. `from` is 0 at the start, and then the place after the last write
+-- what to do next to store the image `new`. `from` is 0 at the start, and then the address after the last write
 unfoldable pub next : Store → Image → Address → Step
 next store new from = cond (fits store new) (cond (settled store new from) Done (write store new from)) Unfit

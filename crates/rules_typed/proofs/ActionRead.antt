@@ -25,7 +25,7 @@ use Rattle.rules_typed.proofs.ReplyRead.{uuid-back, owned-number}
 use Rattle.rows.proofs.Kept.{same-refl}
 use Rattle.rules_typed.specs.States.{stateNumber}
 use Rattle.rules_typed.proofs.StateRead.{to-four, verbNumber}
-use Rattle.rules.specs.Roles.{noRole, unasserted, rolesOf, credHeld}
+use Rattle.rules.specs.Roles.{noRole, unasserted, rolesOf, credSound}
 use Rattle.rules_typed.proofs.WriteBack.{asserted-back}
 use Rattle.rules_typed.proofs.ByteLaws.{bits-take, part-within, bytes-take, bytes-drop}
 use Rattle.rules.proofs.RoleLaws.{unasserted-is}
@@ -159,7 +159,7 @@ module _ (c : List ℕ) (l : length c ≡ 23) where
         none-asserted,
       )
 
-  pub cred-body : isBytes c ≡ true → credHeld w ≡ (validCredential (credentialIn c []) && same (credentialBytes (credentialIn c [])) c)
+  pub cred-body : isBytes c ≡ true → credSound w ≡ (validCredential (credentialIn c []) && same (credentialBytes (credentialIn c [])) c)
   cred-body h = unasserted-is c l ∙ cred-exact c h
 
 long-authority : (b : List ℕ) → length b ≡ 21 → length (withAuthority b) ≡ 23
@@ -169,7 +169,7 @@ bytes-authority : (b : List ℕ) → isBytes b ≡ true → isBytes (withAuthori
 unfolding isBytes
 bytes-authority b h = bytes-join (take 20 b) (0 ∷ 0 ∷ drop 20 b) (bytes-take 20 b h) (bytes-drop 20 b h)
 
-zeros-held : credHeld (unasserted (replicate 23 0)) ≡ false
+zeros-held : credSound (unasserted (replicate 23 0)) ≡ false
 unfolding credStorable bits bit isNil nil same
 zeros-held = unasserted-is (replicate 23 0) refl
 
@@ -211,13 +211,13 @@ module _ (b : List ℕ) (h : isBytes b ≡ true) where
   unfolding storeRow readCredential
   cred-of c e l i =
       rw (asked-when StoreCredential (validCredential (credentialIn c []) && same (credentialBytes (credentialIn c [])) c) (credentialIn c []))
-      (allowed-read b (credHeld (rowOf Creds b)) _ (Store Creds) (StoreCredential (credentialIn c []))
-      (ap credHeld e ∙ cred-body c l i) (ap (λ (w : List ℕ). just (StoreCredential (credentialAs w))) e
+      (allowed-read b (credSound (rowOf Creds b)) _ (Store Creds) (StoreCredential (credentialIn c []))
+      (ap credSound e ∙ cred-body c l i) (ap (λ (w : List ℕ). just (StoreCredential (credentialAs w))) e
       ∙ ap (λ (x : Credential). just (StoreCredential x)) (stored-read c l)))
 
   no-cred : rowOf Creds b ≡ unasserted (replicate 23 0) → AsRead b (storeRow Creds b) none
   unfolding storeRow ifAllowed
-  no-cred e = rw (ap credHeld e ∙ zeros-held) (record { is = refl })
+  no-cred e = rw (ap credSound e ∙ zeros-held) (record { is = refl })
 
   cred-read : AsRead b (updateRows 2 Creds b) (update Cred b)
   unfolding updateRows newRowOwner ownedBy credRowOf

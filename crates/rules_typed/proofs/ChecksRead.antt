@@ -13,7 +13,7 @@ use Rattle.rules.specs.declared.Sender.{Sender}
 use Rattle.rules.specs.declared.Sender.the-variants.{Unauthenticated, Partner}
 use Rattle.rules.specs.Record.{Request as ByteRequest, headerOf, body, sender, verb, connection, resource, headerZeros, credential}
 use Rattle.rules.specs.Bodies.{newOwner, rowNumber, aceStorable}
-use Rattle.rules.specs.Roles.{credHeld, rolesInForce as rolesInForceBytes}
+use Rattle.rules.specs.Roles.{credSound, rolesInForce as rolesInForceBytes}
 use Rattle.rules.specs.Keys.{goes}
 use Rattle.rules.specs.Tables.{headOf, rows, rowOf, capacity}
 use Rattle.rules.specs.States.{moveAllowed, stateAllows as stateAllowsBytes}
@@ -54,7 +54,7 @@ use Rattle.rules.specs.declared.Header.{Header}
 no-credential : (t : ByteTables) → Given t → (s : Sender) → noCredential (tablesOf t) s ≡ noRow (rows Creds t) s
 no-credential t g Unauthenticated = refl
 no-credential t g (Partner n) =
-    rw (find-read credentialAs (Good credHeld) (numbered n) (λ c. eqb (c .number) n) (number-of n) (rows Creds t) (creds-good t g))
+    rw (find-read credentialAs (Good credSound) (numbered n) (λ c. eqb (c .number) n) (number-of n) (rows Creds t) (creds-good t g))
     (bool-cases (some (numbered n) (rows Creds t)) (λ e. rw e) (λ e. rw e))
 
 takes-read : (e : Resource) (s : Sender) (c : ℕ) → c ≡ connectionBit s
@@ -94,9 +94,9 @@ module _ (t : ByteTables) (g : Given t) (s : Sender) where
   has-owner = owned-one (t .devowner) (t .owned) (g .struct .owner-long) (owned-is t g s)
 
   -- a new credential, and a new access row
-  held-cred : (new : Row) → Good credHeld new → any (hasNumber (rowNumber new)) (map credentialAs (rows Creds t)) ≡ some (numberedAs new) (rows Creds t)
+  held-cred : (new : Row) → Good credSound new → any (hasNumber (rowNumber new)) (map credentialAs (rows Creds t)) ≡ some (numberedAs new) (rows Creds t)
   held-cred new n =
-      any-read credentialAs (Good credHeld) (numberedAs new) (hasNumber (rowNumber new))
+      any-read credentialAs (Good credSound) (numberedAs new) (hasNumber (rowNumber new))
       (λ w k. sym (number-read w (k .1) (cred-long w k) new (n .1) (cred-long new n))) (rows Creds t) (creds-good t g)
 
   held-ace : (new : Row) → Good aceStorable new → any (isNumbered (rowNumber new)) (map accessOf (rows Aces t)) ≡ some (numberedAs new) (rows Aces t)
@@ -113,11 +113,11 @@ module _ (t : ByteTables) (g : Given t) (s : Sender) where
 
     gone-cred : length b ≡ 2 → any (hasNumber (rowNumber b)) (map credentialAs (rows Creds t)) ≡ some (goes Number b) (rows Creds t)
     gone-cred l =
-        any-read credentialAs (Good credHeld) (goes Number b) (hasNumber (rowNumber b)) (λ w k. number-key b w h l (k .1) (cred-long w k)) (rows Creds t)
+        any-read credentialAs (Good credSound) (goes Number b) (hasNumber (rowNumber b)) (λ w k. number-key b w h l (k .1) (cred-long w k)) (rows Creds t)
         (creds-good t g)
 
     gone-subject : length b ≡ 16 → any (hasSubject b) (map credentialAs (rows Creds t)) ≡ some (goes Subject b) (rows Creds t)
-    gone-subject l = any-read credentialAs (Good credHeld) (goes Subject b) (hasSubject b) (λ w k. subject-key b w l) (rows Creds t) (creds-good t g)
+    gone-subject l = any-read credentialAs (Good credSound) (goes Subject b) (hasSubject b) (λ w k. subject-key b w l) (rows Creds t) (creds-good t g)
 
     gone-ace : length b ≡ 2 → any (isNumbered (rowNumber b)) (map accessOf (rows Aces t)) ≡ some (goes Number b) (rows Aces t)
     gone-ace l =

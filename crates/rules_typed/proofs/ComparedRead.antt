@@ -2,7 +2,7 @@
 use Rattle.rows.proofs.Prelude.{_≡_, refl, sym, ap, ap₂, _∙_, Bool, true, List, [], _∷_, map, ℕ, _-_, arith, length, _++_, replicate, bool-cases, length-append}
 use Rattle.rows.proofs.Prelude.{length-take, length-replicate, _≤_, length-map, false}
 use Rattle.rules_typed.proofs.ByteLaws.{Good, bits-take, part-within}
-use Rattle.rules.specs.Roles.{credHeld, withoutRoles, bodyOf}
+use Rattle.rules.specs.Roles.{credSound, withoutRoles, bodyOf}
 use Rattle.rules_typed.specs.Reading.{credentialAs, credentialIn, tablesOf, readTables}
 use Rattle.rules.proofs.BodyLaws.{sized}
 use Rattle.rules.specs.declared.Table.the-variants.{Creds}
@@ -27,12 +27,12 @@ use Rattle.rows.specs.Rows.{Row}
 use Rattle.rules_typed.proofs.SoundExact.{read-is}
 
 -- a row without its asserted roles
-bare-read : (w : Row) → Good credHeld w → credentialAs (withoutRoles w) ≡ credentialIn w []
+bare-read : (w : Row) → Good credSound w → credentialAs (withoutRoles w) ≡ credentialIn w []
 unfolding withoutRoles
 bare-read w g =
     let l : length w ≡ 39 = sized Creds w (g .0) in
-    let places : length w - 23 ≡ 16 = omega arith in
-    ap (λ (n : ℕ). credentialAs (bodyOf w ++ replicate n 0)) places
+    let store : length w - 23 ≡ 16 = omega arith in
+    ap (λ (n : ℕ). credentialAs (bodyOf w ++ replicate n 0)) store
     ∙ stored-read (bodyOf w) (body-long w l)
     ∙ rw (
       bits-take 23 w 0 16 (omega arith),
@@ -43,22 +43,22 @@ bare-read w g =
     )
 
 module _ (chosen : Sender → Bool) where
-  redacted-read : (w : Row) → Good credHeld w → credentialAs (redactedBytes chosen w) ≡ redacted chosen (credentialAs w)
+  redacted-read : (w : Row) → Good credSound w → credentialAs (redactedBytes chosen w) ≡ redacted chosen (credentialAs w)
   unfolding redactedBytes redacted
   redacted-read w g = bool-cases (chosen (Partner (bits w 0 16))) (λ e. rw e (bare-read w g)) (λ e. rw e)
 
-  all-redacted : (ws : List Row) → Each (Good credHeld) ws → map credentialAs (map (redactedBytes chosen) ws) ≡ map (redacted chosen) (map credentialAs ws)
+  all-redacted : (ws : List Row) → Each (Good credSound) ws → map credentialAs (map (redactedBytes chosen) ws) ≡ map (redacted chosen) (map credentialAs ws)
   all-redacted [] q = refl
   all-redacted (w ∷ ws) q = ap₂ (λ (x : Credential) (xs : List Credential). x ∷ xs) (redacted-read w (q .0)) (all-redacted ws (q .1))
 
-  one-long : (w : Row) → Good credHeld w → length (redactedBytes chosen w) ≡ 39
+  one-long : (w : Row) → Good credSound w → length (redactedBytes chosen w) ≡ 39
   unfolding redactedBytes withoutRoles
   one-long w g =
       let l : length w ≡ 39 = sized Creds w (g .0) in
       let bare : length (bodyOf w ++ replicate (length w - 23) 0) ≡ 39 = simp (length-append, length-take, length-replicate) (omega arith) in
       bool-cases (chosen (Partner (bits w 0 16))) (λ e. rw e bare) (λ e. rw e l)
 
-  all-long : (ws : List Row) → Each (Good credHeld) ws → AllLong 39 (map (redactedBytes chosen) ws)
+  all-long : (ws : List Row) → Each (Good credSound) ws → AllLong 39 (map (redactedBytes chosen) ws)
   all-long [] q = tt
   all-long (w ∷ ws) q = (one-long w (q .0), all-long ws (q .1))
 

@@ -13,7 +13,7 @@ use Rattle.rules.specs.declared.Action.{Action as ByteAction}
 use Rattle.rules.specs.declared.Action.the-variants.{Serve, Read, SetRowOwner, SetOwner, SetState, Store, Remove, Assert, Malformed}
 use Rattle.rules.specs.Record.{Request as ByteRequest, body, sender}
 use Rattle.rules.specs.Bodies.{rowNumber, aceStorable}
-use Rattle.rules.specs.Roles.{credHeld, asserted, noRole, bothTaken, rolesInForce}
+use Rattle.rules.specs.Roles.{credSound, asserted, noRole, bothTaken, rolesInForce}
 use Rattle.rules.specs.Keys.{goes}
 use Rattle.rules.specs.Tables.{rows, rowOf, withRows}
 use Rattle.rules.specs.Defaults.{Defaults, fresh}
@@ -85,10 +85,10 @@ aces-put : (t : ByteTables) (ws : List Row) → SoundRows Aces ws → map access
 aces-put t ws x = ap (map accessOf) (rows-with Aces t ws (x .few) (x .stores))
 
 module _ (t : ByteTables) (g : Given t) where
-  cred-stored : (new : Row) → Good credHeld new
+  cred-stored : (new : Row) → Good credSound new
       → put (hasNumber (rowNumber new)) (credentialAs new) (map credentialAs (rows Creds t)) ≡ map credentialAs (storedRows new (rows Creds t))
   cred-stored new n =
-      put-read credentialAs (Good credHeld) new (hasNumber (rowNumber new))
+      put-read credentialAs (Good credSound) new (hasNumber (rowNumber new))
       (λ w k. sym (number-read w (k .1) (cred-long w k) new (n .1) (cred-long new n))) (rows Creds t) (creds-good t g)
 
   ace-stored : (new : Row) → Good aceStorable new
@@ -103,7 +103,7 @@ module _ (t : ByteTables) (g : Given t) where
   abbrev readBeside : List Access → Tables
   readBeside xs = withAccesses xs (tablesOf t)
 
-  assert-read : (clock : ℕ) (b : List ℕ) → isBytes b ≡ true → length b ≡ 8 → noRole b ≡ false → (w : Row) (m : Maybe Credential) → Reads w m → credHeld w ≡ true
+  assert-read : (clock : ℕ) (b : List ℕ) → isBytes b ≡ true → length b ≡ 8 → noRole b ≡ false → (w : Row) (m : Maybe Credential) → Reads w m → credSound w ≡ true
       → bothTaken b (rolesInForce clock w) ≡ false
       → asserting clock (assertedOf b) m (tablesOf t) ≡ readWith (map credentialAs (storedRows (asserted clock b w) (rows Creds t)))
   assert-read clock b h l v w m absent e room = let z = sized Creds w e in absurd (omega arith)
@@ -133,14 +133,14 @@ module _ (t : ByteTables) (g : Given t) where
         ap readBeside (aces-put t _ (stored-sound Aces t q (g .isSound) x) ∙ sym (ace-stored (rowOf Aces b) (x .valid, row-bytes Aces b b-bytes)))
     effect-read (Remove Creds All) x k =
         ap readWith (creds-put t _ (removed-sound Creds t (goes All b) (g .isSound))
-        ∙ sym (without-read credentialAs (Good credHeld) (goes All b) (ofCredentials AllRows) (λ w y. refl) (rows Creds t) (creds-good t g)))
+        ∙ sym (without-read credentialAs (Good credSound) (goes All b) (ofCredentials AllRows) (λ w y. refl) (rows Creds t) (creds-good t g)))
     effect-read (Remove Creds Number) x k =
         ap readWith (creds-put t _ (removed-sound Creds t (goes Number b) (g .isSound))
-        ∙ sym (without-read credentialAs (Good credHeld) (goes Number b) (hasNumber (rowNumber b)) (λ w y. number-key b w b-bytes k (y .1) (cred-long w y))
+        ∙ sym (without-read credentialAs (Good credSound) (goes Number b) (hasNumber (rowNumber b)) (λ w y. number-key b w b-bytes k (y .1) (cred-long w y))
         (rows Creds t) (creds-good t g)))
     effect-read (Remove Creds Subject) x k =
         ap readWith (creds-put t _ (removed-sound Creds t (goes Subject b) (g .isSound))
-        ∙ sym (without-read credentialAs (Good credHeld) (goes Subject b) (hasSubject b) (λ w y. subject-key b w k) (rows Creds t) (creds-good t g)))
+        ∙ sym (without-read credentialAs (Good credSound) (goes Subject b) (hasSubject b) (λ w y. subject-key b w k) (rows Creds t) (creds-good t g)))
     effect-read (Remove Aces All) x k =
         ap readBeside (aces-put t _ (removed-sound Aces t (goes All b) (g .isSound))
         ∙ sym (without-read accessOf (Good aceStorable) (goes All b) (ofAccesses AllRows) (λ w y. refl) (rows Aces t) (aces-good t g)))

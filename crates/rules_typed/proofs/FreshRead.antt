@@ -9,7 +9,7 @@ use Rattle.rules_typed.specs.Reading.{readAll, readCredential, credentia
 use Rattle.rules_typed.specs.Reading.{readTables}
 use Rattle.rules_typed.specs.Tables.{isBytes, sameCredential, sameAccess, defaultCredentials, defaultAccesses, freshTables, cleared}
 use Rattle.rules_typed.proofs.ByteLaws.{bytes-take, bytes-drop, Good}
-use Rattle.rules.specs.Roles.{credHeld, unasserted}
+use Rattle.rules.specs.Roles.{credSound, unasserted}
 use Rattle.rules_typed.proofs.ActionRead.{cred-body, stored-read}
 use Rattle.rules.specs.Bodies.{aceStorable, nil as nilBytes}
 use Rattle.rules_typed.proofs.RowExact.{access-exact}
@@ -47,7 +47,7 @@ rows-sized n (suc k) b l h =
     let more : n + k * n ≤ length b = rw (mul-front k n) at l in
     ((length-take-le n b (omega arith), bytes-take n b h), rows-sized n k (drop n b) (rw length-drop (omega arith)) (bytes-drop n b h))
 
-cred-read : (w : Row) → Sized 23 w → readCredential w ≡ when (credHeld (unasserted w)) (credentialAs (unasserted w))
+cred-read : (w : Row) → Sized 23 w → readCredential w ≡ when (credSound (unasserted w)) (credentialAs (unasserted w))
 unfolding readCredential
 cred-read w q = ap₂ (λ (b : Bool) (c : Credential). when b c) (sym (cred-body w (q .0) (q .1))) (sym (stored-read w (q .0)))
 
@@ -116,11 +116,11 @@ same-bytes : (ws : List Row) → Each (Sized 36) ws → Each (λ w. isBytes w �
 same-bytes [] q = tt
 same-bytes (w ∷ ws) q = (q .0 .1, same-bytes ws (q .1))
 
-distinct-creds : (ws : List Row) → Each (Sized 23) ws → every credHeld (map unasserted ws) ≡ true
+distinct-creds : (ws : List Row) → Each (Sized 23) ws → every credSound (map unasserted ws) ≡ true
     → distinct sameCredential (map credentialAs (map unasserted ws)) ≡ distinctNumbers (map unasserted ws)
 distinct-creds ws q h =
-    distinct-read credentialAs (Good credHeld) sameCredential same-credential (map unasserted ws)
-    (good-each credHeld (map unasserted ws) h (unasserted-bytes ws q))
+    distinct-read credentialAs (Good credSound) sameCredential same-credential (map unasserted ws)
+    (good-each credSound (map unasserted ws) h (unasserted-bytes ws q))
 
 distinct-aces : (ws : List Row) → Each (Sized 36) ws → every aceStorable (map (λ w. w) ws) ≡ true
     → distinct sameAccess (map accessOf (map (λ w. w) ws)) ≡ distinctNumbers (map (λ w. w) ws)
@@ -128,7 +128,7 @@ distinct-aces ws q h =
     distinct-read accessOf (Good aceStorable) sameAccess same-access (map (λ w. w) ws) (good-each aceStorable (map (λ w. w) ws) h (same-bytes ws q))
 
 same-default-creds : (m : Maybe (List Credential))
-    → defaultCredentials m ≡ default 23 (λ m. omega arith) readCredential unasserted credHeld credentialAs sameCredential cred-read distinct-creds m
+    → defaultCredentials m ≡ default 23 (λ m. omega arith) readCredential unasserted credSound credentialAs sameCredential cred-read distinct-creds m
 same-default-creds none = refl
 same-default-creds (just cs) = refl
 
@@ -142,7 +142,7 @@ module _ (d : Defaults) (e : DefaultBytes d) where
   unfolding defaultRows goodList
   creds-are =
       same-default-creds (readRows 23 readCredential (d .creds))
-      ∙ default-read 23 (λ m. omega arith) readCredential unasserted credHeld credentialAs sameCredential cred-read distinct-creds (d .creds) (e .creds)
+      ∙ default-read 23 (λ m. omega arith) readCredential unasserted credSound credentialAs sameCredential cred-read distinct-creds (d .creds) (e .creds)
 
   aces-are : defaultAccesses (readRows 36 readAccess (d .aces)) ≡ map accessOf (defaultRows Aces (d .aces))
   unfolding defaultRows goodList

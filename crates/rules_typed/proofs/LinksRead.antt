@@ -10,7 +10,7 @@ use Rattle.rules.specs.Directory.{yard, resourceOf as byteResource, known as kn
 use Rattle.rules.specs.Permission.{permission}
 use Rattle.rules.specs.Action.{actionOf, action}
 use Rattle.rules.specs.Checks.{verdict, isPass, badLength, noVerb, zeroBitSet, mismatch, unknownResource, checks as checksBytes}
-use Rattle.rules.specs.Groups.{headerChecks}
+use Rattle.rules.specs.Contracts.Groups.{headerChecks}
 use Rattle.rules.specs.Links.{ownRecord, permits, setOf, asksLinks as asksLinksBytes, linkSet, linksOf as linksOfBytes}
 use Rattle.rules.proofs.BitLaws.{bits-small}
 use Rattle.rules.proofs.CheckLaws.{skip-all}

@@ -119,7 +119,7 @@ module _ (d : Defaults) (t : ByteTables) (g : Given t) (q : ByteRequest) (h : is
                 permission = p;
                 payload = y;
                 contents = replyOf (q .clock) t r;
-                places = storeRangeOf t (body r)
+                store = storeRangeOf t (body r)
                     (action r);
                 links = linksOfBytes (q .clock) t r;
               }) payload-read);

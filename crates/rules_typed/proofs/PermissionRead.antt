@@ -11,7 +11,7 @@ use Rattle.rules.specs.declared.Sender.{Sender}
 use Rattle.rules.specs.declared.Sender.the-variants.{Unauthenticated, Partner}
 use Rattle.rules.specs.Bodies.{nil, isNil, rowNumber, credSubject, credRole, credAuthority, credStorable, aceKind, aceRole, aceAuthority, aceSubject}
 use Rattle.rules.specs.Bodies.{aceConnection, aceStorable, subjectStorable}
-use Rattle.rules.specs.Roles.{bodyOf, noRole, free, rolesOf, credHeld, assertedRole, assertedAuthority, assertedLast, rolesInForce as rolesInForceBytes}
+use Rattle.rules.specs.Roles.{bodyOf, noRole, free, rolesOf, credSound, assertedRole, assertedAuthority, assertedLast, rolesInForce as rolesInForceBytes}
 use Rattle.rules.specs.Sizes.{credBodySize}
 use Rattle.rules.specs.Tables.{headOf, rows, headSound, rowOwner as rowOwnerBytes}
 use Rattle.rules.specs.Permission.{isRow, senderRow, forRole, roleFits, subjectIs, inForce, rowFits, grants, isOwner as isOwnerBytes, numbered}
@@ -37,10 +37,10 @@ use Rattle.rules_typed.specs.Directory.{securityNumber}
 
 -- ---- the rows of sound tables
 
-pub creds-good : (t : ByteTables) → Given t → Each (Good credHeld) (rows Creds t)
+pub creds-good : (t : ByteTables) → Given t → Each (Good credSound) (rows Creds t)
 creds-good t g =
     let is = rows-are Creds t (g .isSound) in
-    rw is (good-rows credHeld _ _ (t .creds) (g .struct .creds-bytes) (rw is at (table-parts Creds t (g .isSound) .stores)))
+    rw is (good-rows credSound _ _ (t .creds) (g .struct .creds-bytes) (rw is at (table-parts Creds t (g .isSound) .stores)))
 
 pub aces-good : (t : ByteTables) → Given t → Each (Good aceStorable) (rows Aces t)
 aces-good t g =
@@ -57,21 +57,21 @@ is-state t g =
 
 pub data Reads : Row → Maybe Credential → Type 0 where
   absent : Reads [] none
-  present : (w : Row) → Good credHeld w → Reads w (just (credentialAs w))
+  present : (w : Row) → Good credSound w → Reads w (just (credentialAs w))
 
 first-each : (Q : Row → Type 0) (p : Row → Bool) (ws : List Row) → Each Q ws → some p ws ≡ true → Q (firstRow p ws)
 unfolding some firstRow
 first-each Q p [] q h = contradiction h refl
 first-each Q p (w ∷ ws) q h = bool-cases (p w) (λ e. rw e (q .0)) (λ e. rw e (first-each Q p ws (q .1) (rw e at h)))
 
-pub cred-long : (w : Row) → Good credHeld w → 2 ≤ length w
+pub cred-long : (w : Row) → Good credSound w → 2 ≤ length w
 cred-long w g = omega (arith, sized Creds w (g .0))
 
 pub ace-long : (w : Row) → Good aceStorable w → 2 ≤ length w
 ace-long w k = omega (arith, sized Aces w (k .0))
 
 -- a row's number, read
-pub number-of : (n : ℕ) (w : Row) → Good credHeld w → eqb (rowNumber w) n ≡ numbered n w
+pub number-of : (n : ℕ) (w : Row) → Good credSound w → eqb (rowNumber w) n ≡ numbered n w
 number-of n w g = sym (numbered-read w (g .1) (cred-long w g) n)
 
 pub own-reads : (t : ByteTables) → Given t → (s : Sender) → Reads (senderRow t s) (credentialOf (tablesOf t) s)
@@ -79,9 +79,9 @@ own-reads t g Unauthenticated = absent
 own-reads t g (Partner n) =
     let ws = rows Creds t in
     let good = creds-good t g in
-    let found = find-read credentialAs (Good credHeld) (numbered n) (λ c. eqb (c .number) n) (number-of n) ws good in
+    let found = find-read credentialAs (Good credSound) (numbered n) (λ c. eqb (c .number) n) (number-of n) ws good in
     bool-cases (some (numbered n) ws)
-    (λ e. rw (found, e) (present (firstRow (numbered n) ws) (first-each (Good credHeld) (numbered n) ws good e)))
+    (λ e. rw (found, e) (present (firstRow (numbered n) ws) (first-each (Good credSound) (numbered n) ws good e)))
     (λ e. rw (found, e, first-none (numbered n) ws e) absent)
 
 -- ---- 1. access rows
@@ -113,10 +113,10 @@ stored-role a role authority h =
     (λ e. let z : role ≡ 0 = eqb-true role 0 e in rw (e, z, h))
     (λ e. rw e)
 
-row-there : (w : Row) → Good credHeld w → isRow w ≡ true
+row-there : (w : Row) → Good credSound w → isRow w ≡ true
 row-there w g = ap not (ne-eqb (length w) 0 (λ z. let l = cred-long w g in absurd (omega arith)))
 
-role-read : (clock : ℕ) (w : Row) (a : Row) → Good credHeld w → eqb (aceRole a) 0 ≡ false
+role-read : (clock : ℕ) (w : Row) (a : Row) → Good credSound w → eqb (aceRole a) 0 ≡ false
     → hasRole clock (record { role = aceRole a; authority = aceAuthority a }) (credentialAs w) ≡ roleFits clock w a
 unfolding hasRole roleFits forRole sameRole
 role-read clock w a g h =
@@ -171,7 +171,7 @@ module _ (clock : ℕ) (s : Sender) where
 
 -- ---- 2. owners
 
-module _ (w : Row) (g : Good credHeld w) where
+module _ (w : Row) (g : Good credSound w) where
   subject-same : credSubject (bodyOf w) ≡ credSubject w
   subject-same = part-within 2 16 credBodySize w (omega arith)
 
@@ -204,7 +204,7 @@ nil-none u l =
 pub owned-one : (u : List ℕ) (o : ℕ) → length u ≡ 16 → o ≡ cond (isNil u) 0 1 → not (isNone (ownerOf u)) ≡ eqb o 1
 owned-one u o l e = rw (e, nil-none u l) (bool-cases (isNil u) (λ n. rw n) (λ n. rw n))
 
-pub names-read : (u : List ℕ) (w : Row) → Good credHeld w → names (ownerOf u) (credentialAs w) ≡ namesBytes u w
+pub names-read : (u : List ℕ) (w : Row) → Good credSound w → names (ownerOf u) (credentialAs w) ≡ namesBytes u w
 unfolding ownerOf namesBytes
 names-read u w g =
     bool-cases (allZero u)

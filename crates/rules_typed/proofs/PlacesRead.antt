@@ -6,7 +6,7 @@ use Rattle.rules.specs.declared.Key.the-variants.{All, Number, Subject}
 use Rattle.rules.specs.declared.Action.{Action as ByteAction}
 use Rattle.rules.specs.declared.Action.the-variants.{Serve, Read, SetRowOwner, SetOwner, SetState, Store, Remove, Assert, Malformed}
 use Rattle.rules.specs.Bodies.{rowNumber, aceStorable}
-use Rattle.rules.specs.Roles.{credHeld}
+use Rattle.rules.specs.Roles.{credSound}
 use Rattle.rules.specs.Keys.{goes}
 use Rattle.rules.specs.Tables.{rows}
 use Rattle.rules.specs.StoreRange.{storeRangeOf}
@@ -34,12 +34,12 @@ places-read t g b h (SetState n) k = refl
 places-read t g b h (Store Creds) k = refl
 places-read t g b h (Store Aces) k = refl
 places-read t g b h (Remove Creds All) k =
-    gap-read credentialAs (Good credHeld) (goes All b) (ofCredentials AllRows) (λ w y. refl) (rows Creds t) (creds-good t g)
+    gap-read credentialAs (Good credSound) (goes All b) (ofCredentials AllRows) (λ w y. refl) (rows Creds t) (creds-good t g)
 places-read t g b h (Remove Creds Number) k =
-    gap-read credentialAs (Good credHeld) (goes Number b) (ofCredentials (Numbered (rowNumber b))) (λ w y. number-key b w h k (y .1) (cred-long w y))
+    gap-read credentialAs (Good credSound) (goes Number b) (ofCredentials (Numbered (rowNumber b))) (λ w y. number-key b w h k (y .1) (cred-long w y))
     (rows Creds t) (creds-good t g)
 places-read t g b h (Remove Creds Subject) k =
-    gap-read credentialAs (Good credHeld) (goes Subject b) (hasSubject b) (λ w y. subject-key b w k) (rows Creds t) (creds-good t g)
+    gap-read credentialAs (Good credSound) (goes Subject b) (hasSubject b) (λ w y. subject-key b w k) (rows Creds t) (creds-good t g)
 places-read t g b h (Remove Aces All) k = gap-read accessOf (Good aceStorable) (goes All b) (ofAccesses AllRows) (λ w y. refl) (rows Aces t) (aces-good t g)
 places-read t g b h (Remove Aces Number) k =
     gap-read accessOf (Good aceStorable) (goes Number b) (ofAccesses (Numbered (rowNumber b))) (λ w y. number-key b w h k (y .1) (ace-long w y)) (rows Aces t)

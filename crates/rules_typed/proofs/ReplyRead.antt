@@ -7,7 +7,7 @@ use Rattle.rules.specs.declared.Tables.{Tables as ByteTables}
 use Rattle.rules.specs.declared.Table.the-variants.{Creds, Aces}
 use Rattle.rules.specs.declared.Sender.{Sender}
 use Rattle.rules.specs.Bodies.{isNil, aceStorable}
-use Rattle.rules.specs.Roles.{bodyOf, credHeld, rolesInForce as rolesInForceBytes}
+use Rattle.rules.specs.Roles.{bodyOf, credSound, rolesInForce as rolesInForceBytes}
 use Rattle.rules.specs.Tables.{headOf, rows, rowOwner as rowOwnerBytes}
 use Rattle.rules.specs.Permission.{senderRow}
 use Rattle.rules.specs.Reading.{ownBody, rowBytes, contents as contentsBytes}
@@ -59,7 +59,7 @@ owner-back u o l e =
 
 -- ---- rows
 
-creds-back : (ws : List Row) → Each (Good credHeld) ws → map credentialBytes (map credentialAs ws) ≡ map bodyOf ws
+creds-back : (ws : List Row) → Each (Good credSound) ws → map credentialBytes (map credentialAs ws) ≡ map bodyOf ws
 creds-back [] q = refl
 creds-back (w ∷ ws) q = ap₂ (λ (x : List ℕ) (xs : List (List ℕ)). x ∷ xs) (credential-back w (q .0)) (creds-back ws (q .1))
 

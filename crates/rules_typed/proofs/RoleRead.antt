@@ -4,10 +4,10 @@ use Rattle.rows.proofs.Prelude.{replicate}
 use Rattle.rows.specs.Rows.{Row, joined, packed, without as withoutRows}
 use Rattle.rules.specs.Bits.{bits}
 use Rattle.rules.specs.Bodies.{credSubject}
-use Rattle.rules.specs.Roles.{bodyOf, noRole, rolesOf, credHeld, asserted, withRole as withRoleBytes, bothTaken as bothTakenBytes}
+use Rattle.rules.specs.Roles.{bodyOf, noRole, rolesOf, credSound, asserted, withRole as withRoleBytes, bothTaken as bothTakenBytes}
 use Rattle.rules.specs.Roles.{rolesInForce as rolesInForceBytes, sameRole as sameRoleBytes}
 use Rattle.rules.specs.Sizes.{credBodySize, rolesSize}
-use Rattle.rules.proofs.RoleLaws.{Held, held-parts, body-long, Few, few-in-force, few-with-role, placesIn, few-places, no-role-zeros, asserted-body}
+use Rattle.rules.proofs.RoleLaws.{Held, held-parts, body-long, Few, few-in-force, few-with-role, slotsIn, few-slots, no-role-zeros, asserted-body}
 use Rattle.rules.proofs.RoleLaws.{asserted-storable}
 use Rattle.rules_typed.specs.Lists.{put}
 use Rattle.rules_typed.specs.Checks.{sameAsserted}
@@ -44,7 +44,7 @@ put-role b h l (p ∷ ps) q =
     rw (role-same b p h (omega arith) (q .0 .0) (omega (arith, q .0 .1)))
     (bool-cases (sameRoleBytes b p) (λ e. rw e) (λ e. rw (e, put-role b h l ps (q .1))))
 
-module _ (clock : ℕ) (b w : Row) (g : Good credHeld w) (h : isBytes b ≡ true) (l : length b ≡ 8) (v : noRole b ≡ false)
+module _ (clock : ℕ) (b w : Row) (g : Good credSound w) (h : isBytes b ≡ true) (l : length b ≡ 8) (v : noRole b ≡ false)
     (room : bothTakenBytes b (rolesInForceBytes clock w) ≡ false) where
   held : Held w
   held = held-parts w (g .0)
@@ -58,8 +58,8 @@ module _ (clock : ℕ) (b w : Row) (g : Good credHeld w) (h : isBytes b ≡ true
   places-are : withoutRows noRole (rolesOf (asserted clock b w)) ≡ new
   unfolding asserted
   places-are =
-      ap (λ (x : List ℕ). withoutRows noRole (placesIn x)) (drop-at (bodyOf w) (packed rolesSize new) credBodySize (body-long w (held .long)))
-      ∙ few-places noRole no-role-zeros new few
+      ap (λ (x : List ℕ). withoutRows noRole (slotsIn x)) (drop-at (bodyOf w) (packed rolesSize new) credBodySize (body-long w (held .long)))
+      ∙ few-slots noRole no-role-zeros new few
       ∙ few-there new few
 
   roles-are : map assertedOf (withoutRows noRole (rolesOf (asserted clock b w))) ≡ withRole clock (assertedOf b) (credentialAs w) .asserted
@@ -89,7 +89,7 @@ module _ (clock : ℕ) (b w : Row) (g : Good credHeld w) (h : isBytes b ≡ true
   each-put [] q = ((h, l), tt)
   each-put (p ∷ ps) q = cond-cases (Each Place) (sameRoleBytes b p) (λ _. ((h, l), q .1)) (λ _. (q .0, each-put ps (q .1)))
 
-  pub asserted-good : Good credHeld (asserted clock b w)
+  pub asserted-good : Good credSound (asserted clock b w)
   unfolding asserted packed
   asserted-good = (
     asserted-storable clock b w held l v room,

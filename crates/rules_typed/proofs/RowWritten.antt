@@ -12,9 +12,9 @@ use Rattle.rows.proofs.Kept.{same-refl}
 use Rattle.rules.proofs.BitLaws.{bits-split, bits-in-byte}
 use Rattle.rules_typed.specs.Types.{Role, Asserted, Credential}
 use Rattle.rules_typed.specs.Reading.{assertedOf, roleOf, credentialAs, credentialIn}
-use Rattle.rules.specs.Roles.{noRole, sameRole as sameRoleBytes, bodyOf, rolesOf, distinctRoles, credHeld, rolesSound}
+use Rattle.rules.specs.Roles.{noRole, sameRole as sameRoleBytes, bodyOf, rolesOf, distinctRoles, credSound, rolesSound}
 use Rattle.rules_typed.specs.Lists.{all, distinct, Maybe, none, just, any}
-use Rattle.rules.proofs.RoleLaws.{Few, placesIn, few-places, no-role-zeros}
+use Rattle.rules.proofs.RoleLaws.{Few, slotsIn, few-slots, no-role-zeros}
 use Rattle.rows.specs.Rows.{joined, packed, Row, without as withoutRows, some, same}
 use Rattle.rules_typed.proofs.RowExact.{uuid-long, role-long, cred-exact}
 use Rattle.rules_typed.proofs.RoleRead.{few-there}
@@ -165,8 +165,8 @@ module _ (c : Credential) (v : validCredential c ≡ true) where
   abbrev w : List ℕ
   w = credentialRow c
 
-  abbrev places : List ℕ
-  places = packed 16 (map assertedBytes (c .asserted))
+  abbrev store : List ℕ
+  store = packed 16 (map assertedBytes (c .asserted))
 
   subject-is : isUuid (c .subject) ≡ true
   unfolding validCredential
@@ -216,13 +216,13 @@ module _ (c : Credential) (v : validCredential c ≡ true) where
   unfolding credentialBytes be16
   body-size = simp (length-append, role-long (c .role), sixteen) (omega arith)
 
-  places-size : length places ≡ 16
+  places-size : length store ≡ 16
   places-size = packed-few (map assertedBytes (c .asserted)) few
 
   pub row-bytes : isBytes w ≡ true
   unfolding credentialRow packed
   row-bytes =
-      bytes-join (credentialBytes c) places body-bytes
+      bytes-join (credentialBytes c) store body-bytes
       (bytes-join (joined (map assertedBytes (c .asserted))) _ (joined-written (c .asserted) asserted-valid)
       (zero-bytes (16 - length (joined (map assertedBytes (c .asserted))))))
 
@@ -232,30 +232,30 @@ module _ (c : Credential) (v : validCredential c ≡ true) where
 
   body-read : bodyOf w ≡ credentialBytes c
   unfolding credentialRow
-  body-read = take-at (credentialBytes c) places 23 body-size
+  body-read = take-at (credentialBytes c) store 23 body-size
 
-  places-read : drop 23 w ≡ places
+  places-read : drop 23 w ≡ store
   unfolding credentialRow
-  places-read = drop-at (credentialBytes c) places 23 body-size
+  places-read = drop-at (credentialBytes c) store 23 body-size
 
   -- the fields
-  behind : drop 18 w ≡ (roleBytes (c .role) ++ (c .kind * 4 ∷ [])) ++ places
+  behind : drop 18 w ≡ (roleBytes (c .role) ++ (c .kind * 4 ∷ [])) ++ store
   unfolding credentialRow credentialBytes be16
   behind =
-      ap (drop 16) (append-assoc (c .subject) (roleBytes (c .role) ++ (c .kind * 4 ∷ [])) places)
-      ∙ drop-at (c .subject) ((roleBytes (c .role) ++ (c .kind * 4 ∷ [])) ++ places) 16 sixteen
+      ap (drop 16) (append-assoc (c .subject) (roleBytes (c .role) ++ (c .kind * 4 ∷ [])) store)
+      ∙ drop-at (c .subject) ((roleBytes (c .role) ++ (c .kind * 4 ∷ [])) ++ store) 16 sixteen
 
   subject-again : take 16 (drop 2 w) ≡ c .subject
   unfolding credentialRow credentialBytes be16
   subject-again =
-      ap (take 16) (append-assoc (c .subject) (roleBytes (c .role) ++ (c .kind * 4 ∷ [])) places)
-      ∙ take-at (c .subject) ((roleBytes (c .role) ++ (c .kind * 4 ∷ [])) ++ places) 16 sixteen
+      ap (take 16) (append-assoc (c .subject) (roleBytes (c .role) ++ (c .kind * 4 ∷ [])) store)
+      ∙ take-at (c .subject) ((roleBytes (c .role) ++ (c .kind * 4 ∷ [])) ++ store) 16 sixteen
 
   number-again : bits w 0 16 ≡ c .number
   unfolding credentialRow credentialBytes be16
   number-again = word-read w row-bytes 0 (c .number) (omega (arith, row-size)) refl
 
-  role-again : (m : Maybe Role) → roleOrNone m ≡ true → drop 18 w ≡ (roleBytes m ++ (c .kind * 4 ∷ [])) ++ places → roleOf (bits w 144 16) (bits w 160 16) ≡ m
+  role-again : (m : Maybe Role) → roleOrNone m ≡ true → drop 18 w ≡ (roleBytes m ++ (c .kind * 4 ∷ [])) ++ store → roleOf (bits w 144 16) (bits w 160 16) ≡ m
   unfolding roleOf be16
   role-again none h e =
       let role = word-read w row-bytes 18 0 (omega (arith, row-size)) (ap (take 2) e) in rw role
@@ -268,16 +268,16 @@ module _ (c : Credential) (v : validCredential c ≡ true) where
 
   kind-again : bits w 176 6 ≡ c .kind
   kind-again =
-      let one : drop 22 w ≡ c .kind * 4 ∷ places =
-      sym (drop-drop 4 18 w) ∙ ap (drop 4) (behind ∙ append-assoc (roleBytes (c .role)) (c .kind * 4 ∷ []) places)
-      ∙ drop-at (roleBytes (c .role)) (c .kind * 4 ∷ places) 4 (role-long (c .role)) in
+      let one : drop 22 w ≡ c .kind * 4 ∷ store =
+      sym (drop-drop 4 18 w) ∙ ap (drop 4) (behind ∙ append-assoc (roleBytes (c .role)) (c .kind * 4 ∷ []) store)
+      ∙ drop-at (roleBytes (c .role)) (c .kind * 4 ∷ store) 4 (role-long (c .role)) in
       let byte : getD w 22 0 ≡ c .kind * 4 = sym (getD-drop 22 w 0 0) ∙ ap (λ (y : List ℕ). getD y 0 0) one in
       bits-in-byte w 22 0 6 (omega arith) ∙ omega (arith, byte, kind-is)
 
   held-again : withoutRows noRole (rolesOf w) ≡ map assertedBytes (c .asserted)
   held-again =
-      ap (λ (x : List ℕ). withoutRows noRole (placesIn x)) places-read
-      ∙ few-places noRole no-role-zeros (map assertedBytes (c .asserted)) few
+      ap (λ (x : List ℕ). withoutRows noRole (slotsIn x)) places-read
+      ∙ few-slots noRole no-role-zeros (map assertedBytes (c .asserted)) few
       ∙ few-there (map assertedBytes (c .asserted)) few
 
   pub credential-again : credentialAs w ≡ c
@@ -321,9 +321,9 @@ module _ (c : Credential) (v : validCredential c ≡ true) where
       ∙ ap (λ (x : Credential). validCredential x && same (credentialBytes x) (bodyOf w)) bare-again
       ∙ and-both _ _ bare-valid (ap (same (credentialBytes c)) body-read ∙ same-refl (credentialBytes c))
 
-  pub row-held : credHeld w ≡ true
-  unfolding credHeld rolesSound
+  pub row-held : credSound w ≡ true
+  unfolding credSound rolesSound
   row-held =
       let roles : (same (drop 23 w) (packed 16 (withoutRows noRole (rolesOf w))) && distinctRoles (withoutRows noRole (rolesOf w))) ≡ true =
-      rw (held-again, places-read) (and-both _ _ (same-refl places) (distinct-few (map assertedBytes (c .asserted)) few)) in
+      rw (held-again, places-read) (and-both _ _ (same-refl store) (distinct-few (map assertedBytes (c .asserted)) few)) in
       and-both _ _ (and-both _ _ (eq-eqb (length w) 39 row-size) body-stored) roles

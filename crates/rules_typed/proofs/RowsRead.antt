@@ -8,7 +8,7 @@ use Rattle.rules.specs.declared.Table.{Table}
 use Rattle.rules.specs.declared.Table.the-variants.{Creds, Aces}
 use Rattle.rules.specs.Bits.{bit, bits, be16}
 use Rattle.rules.specs.Bodies.{rowNumber, credSubject, credRowOf, aceRowOf, everySecond}
-use Rattle.rules.specs.Roles.{noRole, free, rolesOf, credHeld, assertedRole, assertedAuthority, sameRole as sameRoleBytes, bothTaken as bothTakenBytes}
+use Rattle.rules.specs.Roles.{noRole, free, rolesOf, credSound, assertedRole, assertedAuthority, sameRole as sameRoleBytes, bothTaken as bothTakenBytes}
 use Rattle.rules.specs.Roles.{rolesInForce as rolesInForceBytes}
 use Rattle.rules.specs.Sizes.{credBodySize, rolesSize}
 use Rattle.rules.specs.Tables.{rowOf}
@@ -99,7 +99,7 @@ unfolding withoutRows
 each-without Q f [] q = tt
 each-without Q f (w ∷ ws) q = cond-cases (Each Q) (f w) (λ _. each-without Q f ws (q .1)) (λ _. (q .0, each-without Q f ws (q .1)))
 
-pub places-good : (w : Row) → Good credHeld w → Each Place (rolesOf w)
+pub places-good : (w : Row) → Good credSound w → Each Place (rolesOf w)
 unfolding rowsOf
 places-good w g =
     let x = drop credBodySize w in
@@ -109,7 +109,7 @@ places-good w g =
       ((bytes-take 8 (drop 8 x) (bytes-drop 8 x h), length-take-le 8 (drop 8 x) (rw length-drop (omega arith))), tt),
     )
 
-pub in-force-good : (clock : ℕ) (w : Row) → Good credHeld w → Each Place (rolesInForceBytes clock w)
+pub in-force-good : (clock : ℕ) (w : Row) → Good credSound w → Each Place (rolesInForceBytes clock w)
 unfolding rolesInForceBytes
 in-force-good clock w g = each-without Place (free clock) (rolesOf w) (places-good w g)
 

@@ -13,7 +13,7 @@ use Rattle.rules_typed.specs.Writing.{credentialRow, accessBytes, uuidBy
 use Rattle.rules_typed.proofs.RowWritten.{all-parts, credential-again, row-held, row-bytes, uuid-bytes}
 use Rattle.rules_typed.proofs.AccessWritten.{access-again, access-stored, access-good}
 use Rattle.rows.specs.Rows.{every, Row, numberedAs, distinctNumbers, allZero, same, rowsOf, packed, without as withoutRows}
-use Rattle.rules.specs.Roles.{credHeld, free, noRole, rolesInForce as rolesInForceBytes, bodyOf, rolesOf}
+use Rattle.rules.specs.Roles.{credSound, free, noRole, rolesInForce as rolesInForceBytes, bodyOf, rolesOf}
 use Rattle.rules.specs.Bodies.{aceStorable, isNil, nil as nilBytes}
 use Rattle.rules_typed.proofs.ListLaws.{Each, any-read}
 use Rattle.rules_typed.proofs.ByteLaws.{Good, number-read, bytes-take, bits-take, part-within, bytes-drop}
@@ -48,7 +48,7 @@ access-rows : (xs : List Access) → all validAccess xs ≡ true → map accessO
 access-rows [] v = refl
 access-rows (a ∷ xs) v = let x = all-parts validAccess a xs v in ap₂ (λ (y : Access) (ys : List Access). y ∷ ys) (access-again a (x .0)) (access-rows xs (x .1))
 
-credentials-held : (cs : List Credential) → all validCredential cs ≡ true → every credHeld (map credentialRow cs) ≡ true
+credentials-held : (cs : List Credential) → all validCredential cs ≡ true → every credSound (map credentialRow cs) ≡ true
 unfolding every
 credentials-held [] v = refl
 credentials-held (c ∷ cs) v = let x = all-parts validCredential c cs v in and-both _ _ (row-held c (x .0)) (credentials-held cs (x .1))
@@ -76,7 +76,7 @@ module _ {A : Type 0} (read : Row → A) (Q : Row → Type 0) (sameAs : A → A 
   distinct-read (w ∷ ws) q =
       ap₂ (λ (x y : Bool). not x && y) (any-read read Q (numberedAs w) (sameAs (read w)) (λ v k. e w v (q .0) k) ws (q .1)) (distinct-read ws (q .1))
 
-pub same-credential : (v w : Row) → Good credHeld v → Good credHeld w → sameCredential (credentialAs v) (credentialAs w) ≡ numberedAs v w
+pub same-credential : (v w : Row) → Good credSound v → Good credSound w → sameCredential (credentialAs v) (credentialAs w) ≡ numberedAs v w
 same-credential v w g h = sym (number-read w (h .1) (cred-long w h) v (g .1) (cred-long v g))
 
 pub same-access : (v w : Row) → Good aceStorable v → Good aceStorable w → sameAccess (accessOf v) (accessOf w) ≡ numberedAs v w
@@ -252,8 +252,8 @@ module _ (T : Tables) (s : sound T ≡ true) where
         few = rw length-map few;
         stores = held;
         distinct =
-            sym (distinct-read credentialAs (Good credHeld) sameCredential same-credential cs
-            (good-each credHeld cs held (credentials-bytes (T .credentials) creds-valid)))
+            sym (distinct-read credentialAs (Good credSound) sameCredential same-credential cs
+            (good-each credSound cs held (credentials-bytes (T .credentials) creds-valid)))
             ∙ ap (distinct sameCredential) (credential-rows (T .credentials) creds-valid) ∙ apart;
       }
 
@@ -386,15 +386,15 @@ with-roles w rs h p =
     let k : (ltb (bits w 176 6) 64 && leb (ones (bits w 176 6)) 1) ≡ true = search (and-left, and-right) in
     and-both _ _ (and-both _ _ (and-both _ _ (and-both _ _ n s) r) k) p
 
-credential-valid : (w : Row) → Good credHeld w → validCredential (credentialAs w) ≡ true
+credential-valid : (w : Row) → Good credSound w → validCredential (credentialAs w) ≡ true
 unfolding rolesInForceBytes
 credential-valid w g =
     let held = held-parts w (g .0) in
     let body = and-left _ _ (sym (cred-exact (bodyOf w) (bytes-take 23 w (g .1))) ∙ held .body) in
     let is = withoutRows noRole (rolesOf w) in
     let few : Few is = rw (sym (without-same (free 0) noRole free-none (rolesOf w))) (few-in-force 0 w held) in
-    let places = few-valid is few (each-without Place noRole (rolesOf w) (places-good w g)) in
-    with-roles w (map assertedOf is) (ap validCredential (sym (body-same w)) ∙ body) places
+    let store = few-valid is few (each-without Place noRole (rolesOf w) (places-good w g)) in
+    with-roles w (map assertedOf is) (ap validCredential (sym (body-same w)) ∙ body) store
 
 access-is-valid : (w : Row) → Good aceStorable w → validAccess (accessOf w) ≡ true
 access-is-valid w g = and-left _ _ (sym (access-exact w (g .1)) ∙ g .0)
@@ -432,7 +432,7 @@ module _ (t : ByteTables) (g : Given t) where
       let few-creds : leb (length (map credentialAs (rows Creds t))) 24 ≡ true = rw length-map (le-leb _ 24 (few-rows Creds t (g .isSound))) in
       let few-aces : leb (length (map accessOf (rows Aces t))) 32 ≡ true = rw length-map (le-leb _ 32 (few-rows Aces t (g .isSound))) in
       let creds-apart =
-      distinct-read credentialAs (Good credHeld) sameCredential same-credential (rows Creds t) cs ∙ table-parts Creds t (g .isSound) .distinct in
+      distinct-read credentialAs (Good credSound) sameCredential same-credential (rows Creds t) cs ∙ table-parts Creds t (g .isSound) .distinct in
       let aces-apart = distinct-read accessOf (Good aceStorable) sameAccess same-access (rows Aces t) xs ∙ table-parts Aces t (g .isSound) .distinct in
       let owner = owner-valid (t .devowner) (g .struct .owner-long) (g .struct .owner-bytes) in
       let owners =
@@ -445,7 +445,7 @@ module _ (t : ByteTables) (g : Given t) where
       (and-both _ _
       (and-both _ _
       (and-both _ _ few-creds few-aces)
-      (all-valid credentialAs validCredential (Good credHeld) credential-valid (rows Creds t) cs))
+      (all-valid credentialAs validCredential (Good credSound) credential-valid (rows Creds t) cs))
       (all-valid accessOf validAccess (Good aceStorable) access-is-valid (rows Aces t) xs))
       creds-apart)
       aces-apart)

@@ -10,7 +10,7 @@ use Rattle.rules.specs.declared.Action.{Action as ByteAction}
 use Rattle.rules.specs.declared.Action.the-variants.{Serve, Read, SetRowOwner, SetOwner, SetState, Store, Remove, Assert, Malformed}
 use Rattle.rules.specs.Record.{Request as ByteRequest, body, sender}
 use Rattle.rules.specs.Bodies.{nil, newOwner}
-use Rattle.rules.specs.Roles.{credHeld, asserted}
+use Rattle.rules.specs.Roles.{credSound, asserted}
 use Rattle.rules.specs.Sizes.{rolesSize}
 use Rattle.rules.specs.Keys.{goes}
 use Rattle.rules.specs.Tables.{rows, rowOf, rowFrom, withRows, stride, storable, longest, empty, tableSize, withRowOwner, withOwner, withState}
@@ -175,7 +175,7 @@ module _ (d : Defaults) (e : DefaultBytes d) (t : ByteTables) (g : Given t) (q :
   b-bytes = bytes-drop 4 (q .bytes) h
 
   all-bytes : (k : Table) → Each IsBytes (rows k t)
-  all-bytes Creds = each-bytes credHeld (rows Creds t) (creds-good t g)
+  all-bytes Creds = each-bytes credSound (rows Creds t) (creds-good t g)
   all-bytes Aces = each-bytes (storable Aces) (rows Aces t) (aces-good t g)
 
   effect-struct : (a : ByteAction) → Passed t q a → IsStruct (effectBy d t q a)

@@ -6,7 +6,7 @@ use Rattle.rows.proofs.Laws.{kept}
 use Rattle.rows.proofs.Kept.{same-true}
 use Rattle.rules.specs.declared.Tables.{Tables as ByteTables}
 use Rattle.rules.specs.declared.Table.the-variants.{Creds, Aces}
-use Rattle.rules.specs.Roles.{noRole, rolesOf, rolesSound, distinctRoles, credHeld}
+use Rattle.rules.specs.Roles.{noRole, rolesOf, rolesSound, distinctRoles, credSound}
 use Rattle.rules.specs.Sizes.{credBodySize, credRowSize, aceRowSize, rolesSize}
 use Rattle.rules.specs.Tables.{rows, tableSize}
 use Rattle.rules.proofs.Answers.{rows-are, rows-count}
@@ -26,7 +26,7 @@ use Rattle.rules.specs.declared.Sender.the-variants.{Unauthenticated}
 
 -- ---- a credential row
 
-pub row-back : (w : Row) → Good credHeld w → credentialRow (credentialAs w) ≡ w
+pub row-back : (w : Row) → Good credSound w → credentialRow (credentialAs w) ≡ w
 unfolding credentialRow rolesSound
 row-back w g =
     let held = withoutRows noRole (rolesOf w) in
@@ -35,7 +35,7 @@ row-back w g =
     ap₂ (λ (x y : List ℕ). x ++ y) (credential-back w g) (ap (packed rolesSize) roles ∙ sym behind)
     ∙ take-append-drop credBodySize w
 
-rows-back : (ws : List Row) → Each (Good credHeld) ws → map credentialRow (map credentialAs ws) ≡ ws
+rows-back : (ws : List Row) → Each (Good credSound) ws → map credentialRow (map credentialAs ws) ≡ ws
 rows-back [] q = refl
 rows-back (w ∷ ws) q = ap₂ (λ (x : List ℕ) (xs : List (List ℕ)). x ∷ xs) (row-back w (q .0)) (rows-back ws (q .1))
 

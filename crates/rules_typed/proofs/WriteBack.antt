@@ -8,7 +8,7 @@ use Rattle.rows.proofs.Laws.{zeros-replicate}
 use Rattle.rules.specs.Bits.{bit, bits, be16}
 use Rattle.rules.specs.Bodies.{rowNumber, credSubject, credRole, credAuthority, credType, credStorable, aceKind, acePermission, aceSubject, aceAuthority}
 use Rattle.rules.specs.Bodies.{aceRole, aceConnection, aceStorable, subjectStorable, setKnown, inSet as inSetBytes}
-use Rattle.rules.specs.Roles.{bodyOf, credHeld}
+use Rattle.rules.specs.Roles.{bodyOf, credSound}
 use Rattle.rules.proofs.BitLaws.{bits-split, bits-byte, bits-small, bit-small}
 use Rattle.rules.proofs.RecordLaws.{key-is}
 use Rattle.rules_typed.specs.Reading.{connectionAs, roleOf, assertedOf, credentialAs, subjectOf, accessOf}
@@ -98,7 +98,7 @@ body-back v h e =
     (sym (sym (take-all 23 v (omega arith)) ∙ piece v h 23 0 (omega arith)))
 
 -- the row's body, without what is asserted
-pub credential-back : (w : Row) → Good credHeld w → credentialBytes (credentialAs w) ≡ bodyOf w
+pub credential-back : (w : Row) → Good credSound w → credentialBytes (credentialAs w) ≡ bodyOf w
 unfolding credentialBytes
 credential-back w g =
     let b = held-parts w (g .0) .body in

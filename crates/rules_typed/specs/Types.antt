@@ -192,7 +192,7 @@ pub record Response : Type 0 where
   pub permission : Permission
   pub payload : Bytes
   pub reply : Reply
-  pub places : Places
+  pub store : Places
   -- the links of /yard that would be permitted (U9)
   pub links : List ApplicationResource
 

@@ -130,7 +130,7 @@ writtenTables t = record {
   aces = packed 1152 (map accessBytes (t .accesses));
 }
 
--- ---- what the sender is told
+-- ---- the response
 
 abbrev pub replyBytes : Reply → Bytes
 replyBytes NoReply = []
@@ -153,7 +153,7 @@ written r = record {
   permission = r .permission;
   payload = r .payload;
   contents = replyBytes (r .reply);
-  places = writtenPlaces (r .places);
+  store = writtenPlaces (r .store);
   links = writtenLinks (map (λ a. numberOf (Application a)) (r .links));
 }
 

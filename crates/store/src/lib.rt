@@ -8,15 +8,16 @@ ghost use mathlib.Core.Bool.{cond};
 ghost use Prim.Native.Nat.{_-_, _%_};
 ghost use lib.Dec.{eqb};
 ghost use lib.ListN.{length};
+ghost use Rattle.rows.specs.Words.{was};
 ghost use Rattle.rules_store.specs.Store.{sizeFor, sum, counter, currentAt, mismatchFrom, toCopy, write, settled, next};
 
 const MARKS: usize = 8;
 
-// What to do next to store the image `new`; `from` is 0 at the start, and then the place after the last write.
+// What to do next to store the image `new`; `from` is 0 at the start, and then the address after the last write.
 // Rules out: a mark before the last byte that differs; a byte of the current image; a byte that is there already; Done while another image
 // is current; a write to a store of another length.
 pub fn next(store: &[u8], new: &[u8], from: usize) -> Step
-    ensures { λ r. ⌜ r ≡ next (now (store .entry)) (now (new .entry)) from ⌝ }
+    ensures { λ r. ⌜ r ≡ next (was store) (was new) from ⌝ }
 {
     if !fits(store.len(), new.len()) {
         return Step::Unfit;
@@ -30,12 +31,12 @@ pub fn next(store: &[u8], new: &[u8], from: usize) -> Step
 // Where the current image starts, in a store for images of n bytes.
 // Rules out: the spare image; the image that was current before the last mark.
 pub fn current_at(store: &[u8], n: usize) -> usize
-    ensures { λ r. ⌜ r ≡ currentAt n (now (store .entry)) ⌝ }
+    ensures { λ r. ⌜ r ≡ currentAt n (was store) ⌝ }
 {
     by_parity(counter(store, n), 0, n)
 }
 
-// One place for an even counter, the other one for an odd counter.
+// One address for an even counter, the other one for an odd counter.
 fn by_parity(counter: u8, even: usize, odd: usize) -> usize
     ensures { λ r. ⌜ r ≡ cond (eqb (counter % 2) 0) even odd ⌝ }
 {
@@ -44,7 +45,7 @@ fn by_parity(counter: u8, even: usize, odd: usize) -> usize
 
 // The sum of the marks, modulo 256.
 fn counter(store: &[u8], n: usize) -> u8
-    ensures { λ r. ⌜ r ≡ counter n (now (store .entry)) ⌝ }
+    ensures { λ r. ⌜ r ≡ counter n (was store) ⌝ }
 {
     if store.len() / 2 < n {
         return 0;
@@ -55,7 +56,7 @@ fn counter(store: &[u8], n: usize) -> u8
 
 // The sum of bytes, modulo 256.
 fn sum(bytes: &[u8]) -> u8
-    ensures { λ r. ⌜ r ≡ sum (now (bytes .entry)) % 256 ⌝ }
+    ensures { λ r. ⌜ r ≡ sum (was bytes) % 256 ⌝ }
 {
     let mut total: u8 = 0;
     let mut i = 0;
@@ -80,7 +81,7 @@ pub fn fits(length: usize, n: usize) -> bool
 // Whether the new image is the current one, where that is asked.
 fn settled(store: &[u8], new: &[u8], from: usize) -> bool
     requires { ⌜ length (now store) ≡ sizeFor (length (now new)) ⌝ }
-    ensures { λ r. ⌜ r ≡ settled (now (store .entry)) (now (new .entry)) from ⌝ }
+    ensures { λ r. ⌜ r ≡ settled (was store) (was new) from ⌝ }
 {
     let n = new.len();
     let asked = (from == 0) | (n + n < from);
@@ -93,16 +94,16 @@ fn settled(store: &[u8], new: &[u8], from: usize) -> bool
 // The next write, where the new image is not the current one.
 fn write(store: &[u8], new: &[u8], from: usize) -> Step
     requires { ⌜ length (now store) ≡ sizeFor (length (now new)) ⌝ }
-    ensures { λ r. ⌜ r ≡ write (now (store .entry)) (now (new .entry)) from ⌝ }
+    ensures { λ r. ⌜ r ≡ write (was store) (was new) from ⌝ }
 {
     let n = new.len();
     let count = counter(store, n);
     let spare = by_parity(count, n, 0);
-    let place = to_copy(less(from, spare), part(store, spare, n), new);
-    if place < n {
+    let offset = to_copy(less(from, spare), part(store, spare, n), new);
+    if offset < n {
         return Step::Write {
-            at: spare + place,
-            byte: new[place],
+            at: spare + offset,
+            byte: new[offset],
         };
     }
     let turn = count % 8;
@@ -120,20 +121,20 @@ fn less(a: usize, b: usize) -> usize
     if b < a { a - b } else { 0 }
 }
 
-// The place of the byte to copy: the first from `from` on in which the images differ, else the first of all.
+// The offset of the byte to copy: the first from `from` on at which the images differ, else the first of all.
 fn to_copy(from: usize, old: &[u8], new: &[u8]) -> usize
-    ensures { λ r. ⌜ r ≡ toCopy from (now (old .entry)) (now (new .entry)) ⌝ }
+    ensures { λ r. ⌜ r ≡ toCopy from (was old) (was new) ⌝ }
 {
-    let place = mismatch_from(from, old, new);
-    if place < new.len() {
-        return place;
+    let offset = mismatch_from(from, old, new);
+    if offset < new.len() {
+        return offset;
     }
     mismatch_from(0, old, new)
 }
 
-// The first place from `from` on in which the images differ.
+// The first offset from `from` on at which the images differ.
 fn mismatch_from(from: usize, old: &[u8], new: &[u8]) -> usize
-    ensures { λ r. ⌜ r ≡ mismatchFrom from (now (old .entry)) (now (new .entry)) ⌝ }
+    ensures { λ r. ⌜ r ≡ mismatchFrom from (was old) (was new) ⌝ }
 {
     let mut i = from;
     while i < old.len() {

@@ -12,14 +12,15 @@ use Rattle.rules.specs.Tables.{rows, tablesOf}
 use Rattle.rules.specs.Defaults.{Defaults}
 use Rattle.rules.specs.Reading.{filled}
 use Rattle.rules.specs.Checks.{verdict, numberOf}
-use Rattle.rules.specs.Outcome.{Said, outcome, responseTo, judgementOf, refusal}
-use Rattle.rules_waiting.specs.Slots.{Seat, after, padded, roundOf, waiting, queueOf}
-use Rattle.rules_waiting.specs.Terminal.{Terminal, terminal, slotSound, soundTerminal, queueAfter, takeChecks, turn, due, taken, takenOf}
-use Rattle.rules_waiting.specs.Calls.{Takes}
-use Rattle.rules_waiting.proofs.SlotLaws.{queue-sound, waiting-back, round-back, slots-long}
-use Rattle.rules_waiting.proofs.Held.{few-slots}
-use Rattle.rules_waiting.proofs.Built.{padded-back}
-use Rattle.rules_waiting.proofs.Sound.{Sound, terminal-parts, turn-is, take-passed}
+use Rattle.rules.specs.Outcome.{outcome, responseTo}
+use Rattle.rules.specs.Contracts.Results.{Result, resultOf, numberJudgement}
+use Rattle.rules_terminal.specs.Slots.{Seat, afterSeat, padded, roundOf, waiting, queueOf}
+use Rattle.rules_terminal.specs.Terminal.{Terminal, terminal, slotSound, soundTerminal, queueAfter, takeChecks, turn, due, taken, takenOf}
+use Rattle.rules_terminal.specs.Calls.{Takes}
+use Rattle.rules_terminal.proofs.SlotLaws.{queue-sound, waiting-back, round-back, slots-long}
+use Rattle.rules_terminal.proofs.Held.{few-slots}
+use Rattle.rules_terminal.proofs.Built.{padded-back}
+use Rattle.rules_terminal.proofs.Sound.{Sound, terminal-parts, turn-is, take-passed}
 use Rattle.queue.specs.Queue.{IsQueue}
 use Rattle.queue.proofs.Queues.{queue-queue, sound-queue}
 use Rattle.queue_turn.specs.declared.Due.{Due}
@@ -59,15 +60,15 @@ module _ (t : Tables) (m : List ℕ) (h : soundTerminal (terminal t m) ≡ true)
   pub can-leave : (p : Seat) → p ≡ turn (terminal t m) → IsQueue m × (length p ≡ 2)
   can-leave p e = (sound-queue t m h, ap length e ∙ two)
 
-  pub left-queue : (m′ : List ℕ) → m′ ≡ queueOf (after (turn (terminal t m))) others → IsQueue m′
+  pub left-queue : (m′ : List ℕ) → m′ ≡ queueOf (afterSeat (turn (terminal t m))) others → IsQueue m′
   left-queue m′ e =
-      rw e (queue-queue t (queueOf (after (turn (terminal t m))) others) (queue-sound t (after (turn (terminal t m))) others two few all distinct))
+      rw e (queue-queue t (queueOf (afterSeat (turn (terminal t m))) others) (queue-sound t (afterSeat (turn (terminal t m))) others two few all distinct))
 
-  pub left-round : roundOf (queueOf (after (turn (terminal t m))) others) ≡ after (turn (terminal t m))
-  left-round = round-back (after (turn (terminal t m))) others two
+  pub left-round : roundOf (queueOf (afterSeat (turn (terminal t m))) others) ≡ afterSeat (turn (terminal t m))
+  left-round = round-back (afterSeat (turn (terminal t m))) others two
 
-  pub left-waiting : waiting (queueOf (after (turn (terminal t m))) others) ≡ others
-  left-waiting = waiting-back (after (turn (terminal t m))) others two few (slots-long t others all)
+  pub left-waiting : waiting (queueOf (afterSeat (turn (terminal t m))) others) ≡ others
+  left-waiting = waiting-back (afterSeat (turn (terminal t m))) others two few (slots-long t others all)
 
 -- ---- the take
 
@@ -83,8 +84,8 @@ module _ (d : Defaults) (t : Tables) (m : List ℕ) (clock capacity : ℕ) (c : 
     handed-is = ap (λ (r : List ℕ). received clock r capacity) (front ∙ prefix-is (terminal t m) q is)
 
     -- by the memory that is left
-    pub one-taken : (s : Said) (m′ b b′ : List ℕ) → s ≡ judgementOf (outcome d t handed) → b′ ≡ filled b (responseTo d t handed .contents)
-        → m′ ≡ queueAfter d t handed (after (turn (terminal t m))) (without (hasKey 0 (turn (terminal t m))) (waiting m))
+    pub one-taken : (s : Result) (m′ b b′ : List ℕ) → s ≡ resultOf (outcome d t handed) → b′ ≡ filled b (responseTo d t handed .contents)
+        → m′ ≡ queueAfter d t handed (afterSeat (turn (terminal t m))) (without (hasKey 0 (turn (terminal t m))) (waiting m))
         → Takes d (terminal t m) clock capacity (record { judgement = s; size = q .size; bytes = q .bytes }) b m′ b′
     unfolding taken
     one-taken s m′ b b′ f g h =
@@ -93,7 +94,7 @@ module _ (d : Defaults) (t : Tables) (m : List ℕ) (clock capacity : ℕ) (c : 
 
 pub nothing-taken : (d : Defaults) (f : Head) (cs es m : List ℕ) (clock capacity : ℕ) (c : Check)
     → c ≡ verdict (takeChecks (terminal (tablesOf f cs es) m)) → (n : ℕ) → c ≡ Refuse n
-    → (j : Judgement) → j ≡ refusal f (numberOf c) → (z : List ℕ) → z ≡ replicate 256 0 → (b : List ℕ)
+    → (j : Judgement) → j ≡ numberJudgement f (numberOf c) → (z : List ℕ) → z ≡ replicate 256 0 → (b : List ℕ)
     → Takes d (terminal (tablesOf f cs es) m) clock capacity (takenOf (record { judgement = j; size = 0; bytes = z }) cs es) b m b
 unfolding taken padded filled
 nothing-taken d f cs es m clock capacity c told n e j i z l b =

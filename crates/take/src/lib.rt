@@ -10,15 +10,15 @@ use rules::CRED_ROWS;
 use rules::Check;
 use rules::Head;
 use rules::Judgement;
-use rules_waiting::QUEUE;
-use rules_waiting::Taken;
+use rules_terminal::QUEUE;
+use rules_terminal::Taken;
 ghost use mathlib.Core.Path.{_≡_};
 ghost use lib.ListN.{length};
 ghost use Rattle.rules.specs.Defaults.{defaults};
 ghost use Rattle.rules.specs.Checks.{verdict};
-ghost use Rattle.rules_waiting.specs.Terminal.{terminal, takeChecks, takenOf};
-ghost use Rattle.rules_waiting.specs.Calls.{Takes};
-ghost use Rattle.rules.specs.Words.{was, became, before};
+ghost use Rattle.rules_terminal.specs.Terminal.{terminal, takeChecks, takenOf};
+ghost use Rattle.rules_terminal.specs.Calls.{Takes};
+ghost use Rattle.rules.specs.Contracts.Words.{was, became, before};
 
 // The first of the checks 1 and 27 that applies.
 fn check_take<'a>(
@@ -60,7 +60,7 @@ pub fn take(
     let c = check_take(h, creds, aces, queue);
     let Check::Pass = c else {
         return Taken {
-            judgement: Judgement::refused(h, c),
+            judgement: Judgement::number_alone(h, c),
             size: 0,
             bytes: [0; 256],
         };
@@ -73,7 +73,7 @@ pub fn take(
     let c = d.check;
     let Check::Pass = c else {
         return Taken {
-            judgement: Judgement::refused(h, c),
+            judgement: Judgement::number_alone(h, c),
             size: u.size,
             bytes: u.bytes,
         };

@@ -13,12 +13,12 @@ use crate::tillerclover_judge_at;
 use crate::tillerclover_take_at;
 use rules::ACE_ROWS;
 use rules::CRED_ROWS;
-use rules_waiting::QUEUE;
+use rules_terminal::QUEUE;
 ghost use lib.ListN.{length};
-ghost use Rattle.rules.specs.Words.{was, became};
+ghost use Rattle.rules.specs.Contracts.Words.{was, became};
 ghost use Rattle.rules.specs.Record.{received};
 ghost use Rattle.rules.specs.Defaults.{noDefaults, defaults};
-ghost use Rattle.rules_waiting.specs.Inputs.{handIn, takeAt, direct};
+ghost use Rattle.rules_terminal.specs.Inputs.{handIn, takeAt, direct};
 ghost use Rattle.rules_interface.specs.Memory.{memoryBefore, memoryAfter, withQueue};
 ghost use Rattle.rules_interface.specs.Interface.{FreshAt, ClearsAt, IsSoundAt, ListsAt, TestsAt, ConvertsAt};
 ghost use Rattle.rules_interface.specs.Storing.{StoresNext, StoresCurrent};
@@ -99,12 +99,12 @@ pub fn judge(
     clock: u32,
     rec: &[u8],
     reply: &mut [u8],
-    said: &mut [u64; 9],
+    words: &mut [u64; 9],
 )
     ensures { λ _. ⌜
         Promised (defaults (was «default_creds») (was «default_aces»)) (memoryBefore counts devowner rowners creds aces queue)
         (direct (received clock (was rec) (length (was reply))))
-        (judgeCall (became said) (memoryAfter counts devowner rowners creds aces queue) (was reply) (became reply)) ⌝ }
+        (judgeCall (became words) (memoryAfter counts devowner rowners creds aces queue) (was reply) (became reply)) ⌝ }
 {
     tillerclover_judge_at(
         counts,
@@ -118,7 +118,7 @@ pub fn judge(
         clock,
         rec,
         reply,
-        said,
+        words,
     );
 }
 
@@ -130,13 +130,13 @@ pub fn hand_in<'a>(
     aces: &'a [u8; ACE_ROWS],
     queue: &mut [u8; QUEUE],
     rec: &[u8],
-    said: &mut [u64; 9],
+    words: &mut [u64; 9],
 )
     ensures { λ _. ⌜
         Promised noDefaults (memoryBefore counts devowner rowners creds aces queue) (handIn (was rec))
-        (handInCall (became said) (withQueue (memoryBefore counts devowner rowners creds aces queue) (became queue))) ⌝ }
+        (handInCall (became words) (withQueue (memoryBefore counts devowner rowners creds aces queue) (became queue))) ⌝ }
 {
-    tillerclover_hand_in_at(counts, devowner, rowners, creds, aces, queue, rec, said);
+    tillerclover_hand_in_at(counts, devowner, rowners, creds, aces, queue, rec, words);
 }
 
 pub fn take(
@@ -150,14 +150,14 @@ pub fn take(
     default_aces: &[u8],
     clock: u32,
     reply: &mut [u8],
-    said: &mut [u64; 9],
+    words: &mut [u64; 9],
     size: &mut [u64; 1],
     bytes: &mut [u8; 256],
 )
     ensures { λ _. ⌜
         Promised (defaults (was «default_creds») (was «default_aces»)) (memoryBefore counts devowner rowners creds aces queue)
         (takeAt clock (length (was reply)))
-        (takeCall (became said) (became size) (became bytes) (memoryAfter counts devowner rowners creds aces queue) (was reply) (became reply)) ⌝ }
+        (takeCall (became words) (became size) (became bytes) (memoryAfter counts devowner rowners creds aces queue) (was reply) (became reply)) ⌝ }
 {
     tillerclover_take_at(
         counts,
@@ -170,7 +170,7 @@ pub fn take(
         default_aces,
         clock,
         reply,
-        said,
+        words,
         size,
         bytes,
     );
@@ -184,39 +184,39 @@ pub fn access_list<'a>(
     aces: &'a [u8; ACE_ROWS],
     queue: &[u8; QUEUE],
     text: &mut [u8],
-    said: &mut [u64; 2],
+    words: &mut [u64; 2],
 )
-    ensures { λ _. ⌜ ListsAt (memoryBefore counts devowner rowners creds aces queue) (became said) (was text) (became text) ⌝ }
+    ensures { λ _. ⌜ ListsAt (memoryBefore counts devowner rowners creds aces queue) (became words) (was text) (became text) ⌝ }
 {
-    tillerclover_access_list_at(counts, devowner, rowners, creds, aces, queue, text, said);
+    tillerclover_access_list_at(counts, devowner, rowners, creds, aces, queue, text, words);
 }
 
-pub fn test_list(rows: &[u8], said: &mut [u64; 2])
-    ensures { λ _. ⌜ TestsAt (was rows) (became said) ⌝ }
+pub fn test_list(rows: &[u8], words: &mut [u64; 2])
+    ensures { λ _. ⌜ TestsAt (was rows) (became words) ⌝ }
 {
-    tillerclover_test_list_at(rows, said);
+    tillerclover_test_list_at(rows, words);
 }
 
-pub fn convert_list(file: &[u8], rows: &mut [u8], said: &mut [u64; 2])
-    ensures { λ _. ⌜ ConvertsAt (was file) (became said) (was rows) (became rows) ⌝ }
+pub fn convert_list(file: &[u8], rows: &mut [u8], words: &mut [u64; 2])
+    ensures { λ _. ⌜ ConvertsAt (was file) (became words) (was rows) (became rows) ⌝ }
 {
-    tillerclover_convert_list_at(file, rows, said);
+    tillerclover_convert_list_at(file, rows, words);
 }
 
 pub fn store_next(
     store: &[u8],
     image: &[u8],
     from: usize,
-    place: &mut [u64; 1],
+    address: &mut [u64; 1],
     byte: &mut [u8; 1],
 ) -> u64
-    ensures { λ r. ⌜ StoresNext (was store) (was image) from r (was place) (was byte) (became place) (became byte) ⌝ }
+    ensures { λ r. ⌜ StoresNext (was store) (was image) from r (was address) (was byte) (became address) (became byte) ⌝ }
 {
-    tillerclover_store_next(store, image, from, place, byte)
+    tillerclover_store_next(store, image, from, address, byte)
 }
 
-pub fn store_current(store: &[u8], n: usize, place: &mut [u64; 1]) -> u64
-    ensures { λ r. ⌜ StoresCurrent (was store) n r (was place) (became place) ⌝ }
+pub fn store_current(store: &[u8], n: usize, address: &mut [u64; 1]) -> u64
+    ensures { λ r. ⌜ StoresCurrent (was store) n r (was address) (became address) ⌝ }
 {
-    tillerclover_store_current(store, n, place)
+    tillerclover_store_current(store, n, address)
 }

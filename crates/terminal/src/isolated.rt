@@ -1,19 +1,19 @@
 // The C interface of two questions: are the senders of a list isolated, and which library is this. Declared in
 // include/tillerclover_yards.h: pointers, 64-bit lengths and scalars alone; the tables as five arrays, in the order of their bytes.
+use c_memory::head_at;
 use isolation::isolation_of;
-use lent::head_at;
 use rules::ACE_ROWS;
 use rules::CRED_ROWS;
 use rules::Tables;
 ghost use mathlib.Core.Path.{_≡_};
 ghost use lib.Dec.{eqb};
-ghost use Rattle.rules.specs.Words.{was, became};
+ghost use Rattle.rules.specs.Contracts.Words.{was, became};
 ghost use Rattle.rules_isolation.specs.Question.{reportOf, isolationOf};
 ghost use Rattle.rules_interface.specs.Memory.{tablesAt};
 ghost use Rattle.rules_interface.specs.Isolated.{reportWords, identity};
 
-// Whether the senders of a list are isolated from all others: the reason why not, 0 for none, the entry and the access row, in `said`.
-// Rules out: tables whose counts are exchanged; a reason in the place of an entry; a word of `said` left as it was.
+// Whether the senders of a list are isolated from all others: the reason why not, 0 for none, the entry and the access row, in `words`.
+// Rules out: tables whose counts are exchanged; a reason instead of an entry; a word left as it was.
 #[no_mangle]
 pub extern "C" fn tillerclover_isolated_at<'a>(
     counts: &[u8; 4],
@@ -22,15 +22,15 @@ pub extern "C" fn tillerclover_isolated_at<'a>(
     creds: &'a [u8; CRED_ROWS],
     aces: &'a [u8; ACE_ROWS],
     senders: &[u8],
-    said: &mut [u64; 3],
+    words: &mut [u64; 3],
 )
     ensures { λ _. ⌜
-        became said
+        became words
         ≡ reportWords (reportOf (isolationOf (tablesAt (was counts) (was devowner) (was rowners) (was creds) (was aces)) (was senders))) ⌝ }
 {
     let h = head_at(counts, devowner, rowners);
     let report = isolation_of(h, creds, aces, senders).report();
-    *said = [report.reason as u64, report.entry as u64, report.row as u64];
+    *words = [report.reason as u64, report.entry as u64, report.row as u64];
 }
 
 // The library's format and interface, in one number.
@@ -44,7 +44,7 @@ pub extern "C" fn tillerclover_identity() -> u64
 
 // ---- callers in this language: what they promise can only be kept by what the two functions above promise
 
-// The same question of tables by value, with the three words as they are said.
+// The same question of tables by value, with the three words.
 // Rules out: a contract above that leaves a word open.
 pub fn isolated(t: Tables, senders: &[u8]) -> [u64; 3]
     ensures { λ r. ⌜ r ≡ reportWords (reportOf (isolationOf t (was senders))) ⌝ }
@@ -54,7 +54,7 @@ pub fn isolated(t: Tables, senders: &[u8]) -> [u64; 3]
     let rowners = t.rowners;
     let creds = t.creds;
     let aces = t.aces;
-    let mut said = [0; 3];
+    let mut words = [0; 3];
     tillerclover_isolated_at(
         &counts,
         &devowner,
@@ -62,9 +62,9 @@ pub fn isolated(t: Tables, senders: &[u8]) -> [u64; 3]
         &creds,
         &aces,
         senders,
-        &mut said,
+        &mut words,
     );
-    said
+    words
 }
 
 // Whether a caller that was made for this identity may use the library.

@@ -1,20 +1,20 @@
 // The C interface: one call each of the library, declared in include/tillerclover.h.
-// Pointers, 64-bit lengths and scalars alone: tables, what waits, buffers and what is said are lent, and changed in place.
+// Arguments are pointers, 64-bit lengths and scalars only. Tables, queue, buffers and results belong to the caller and are changed in place.
 mod calls;
 mod isolated;
 mod lists;
 mod storing;
 
+use c_memory::head_at;
+use c_memory::put_head;
+use c_memory::words_of;
 use check_waiting::terminal_sound;
 use effect_fresh::defaults::fresh_in;
-use lent::head_at;
-use lent::put_head;
-use lent::words_of;
 use rules::ACE_ROWS;
 use rules::CRED_ROWS;
-use rules_waiting::QUEUE;
+use rules_terminal::QUEUE;
 ghost use lib.ListN.{length};
-ghost use Rattle.rules.specs.Words.{was, became};
+ghost use Rattle.rules.specs.Contracts.Words.{was, became};
 ghost use Rattle.rules.specs.Record.{received};
 ghost use Rattle.rules.specs.Defaults.{defaults};
 ghost use Rattle.rules_interface.specs.Memory.{memoryBefore, memoryAfter};
@@ -107,12 +107,12 @@ pub extern "C" fn tillerclover_judge_at(
     clock: u32,
     rec: &[u8],
     reply: &mut [u8],
-    said: &mut [u64; 9],
+    words: &mut [u64; 9],
 )
     ensures { λ _. ⌜
         JudgesAt (defaults (was «default_creds») (was «default_aces»)) (memoryBefore counts devowner rowners creds aces queue)
         (received clock (was rec) (length (was reply)))
-        (became said) (memoryAfter counts devowner rowners creds aces queue) (was reply) (became reply) ⌝ }
+        (became words) (memoryAfter counts devowner rowners creds aces queue) (was reply) (became reply) ⌝ }
 {
     let h = head_at(counts, devowner, rowners);
     let j = judge::judge(
@@ -127,7 +127,7 @@ pub extern "C" fn tillerclover_judge_at(
         reply,
     );
     put_head(j.head, counts, devowner, rowners);
-    *said = words_of(j);
+    *words = words_of(j);
 }
 
 // Hands a record in. The tables are read alone.
@@ -141,13 +141,13 @@ pub extern "C" fn tillerclover_hand_in_at<'a>(
     aces: &'a [u8; ACE_ROWS],
     queue: &mut [u8; QUEUE],
     rec: &[u8],
-    said: &mut [u64; 9],
+    words: &mut [u64; 9],
 )
-    ensures { λ _. ⌜ HandsInAt (memoryBefore counts devowner rowners creds aces queue) (was rec) (became said) (became queue) ⌝ }
+    ensures { λ _. ⌜ HandsInAt (memoryBefore counts devowner rowners creds aces queue) (was rec) (became words) (became queue) ⌝ }
 {
     let h = head_at(counts, devowner, rowners);
-    let kept = queue_intake::hand_in(h, creds, aces, queue, rec);
-    *said = words_of(kept);
+    let kept = hand_in::hand_in(h, creds, aces, queue, rec);
+    *words = words_of(kept);
 }
 
 // Takes the record whose turn it is, and judges it. With 1 and with 27 its length is 0.
@@ -164,14 +164,14 @@ pub extern "C" fn tillerclover_take_at(
     default_aces: &[u8],
     clock: u32,
     reply: &mut [u8],
-    said: &mut [u64; 9],
+    words: &mut [u64; 9],
     size: &mut [u64; 1],
     bytes: &mut [u8; 256],
 )
     ensures { λ _. ⌜
         TakesAt (defaults (was «default_creds») (was «default_aces»)) (memoryBefore counts devowner rowners creds aces queue)
         clock (length (was reply))
-        (became said) (became size) (became bytes) (memoryAfter counts devowner rowners creds aces queue) (was reply) (became reply) ⌝ }
+        (became words) (became size) (became bytes) (memoryAfter counts devowner rowners creds aces queue) (was reply) (became reply) ⌝ }
 {
     let h = head_at(counts, devowner, rowners);
     let u = take::take(
@@ -189,5 +189,5 @@ pub extern "C" fn tillerclover_take_at(
     put_head(told.head, counts, devowner, rowners);
     *size = [u.size as u64];
     *bytes = taken;
-    *said = words_of(told);
+    *words = words_of(told);
 }

@@ -3,11 +3,12 @@
 use crate::advance;
 use crate::copy;
 ghost use Rattle.text.specs.Buffer.{Puts};
+ghost use Rattle.rows.specs.Words.{was, became};
 
 // A text.
 // Rules out: a text cut one byte early; bytes before the position touched.
 pub fn put(out: &mut [u8], at: usize, text: &[u8]) -> usize
-    ensures { λ r. ⌜ Puts (now (out .entry)) at (now (text .entry)) (now (out .exit)) r ⌝ }
+    ensures { λ r. ⌜ Puts (was out) at (was text) (became out) r ⌝ }
 {
     let size = out.len();
     if size <= at {

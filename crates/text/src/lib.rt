@@ -6,13 +6,14 @@ ghost use mathlib.Core.Path.{_≡_};
 ghost use mathlib.Core.List.{[], _∷_};
 ghost use Prim.Native.Nat.{min, _+_, _≤_};
 ghost use lib.ListN.{length};
+ghost use Rattle.rows.specs.Words.{was, became};
 ghost use Rattle.text.specs.Text.{decimal};
 ghost use Rattle.text.specs.Buffer.{largest, Puts, Counts};
 
 // One byte. The largest position stays where it is.
 // Rules out: a byte written past the end; a position that stops at the end.
 pub fn put_byte(out: &mut [u8], at: usize, b: u8) -> usize
-    ensures { λ r. ⌜ Puts (now (out .entry)) at (b ∷ []) (now (out .exit)) r ⌝ }
+    ensures { λ r. ⌜ Puts (was out) at (b ∷ []) (became out) r ⌝ }
 {
     if at < out.len() {
         out[at] = b;
@@ -24,7 +25,7 @@ pub fn put_byte(out: &mut [u8], at: usize, b: u8) -> usize
 // A text that fits, in one copy.
 fn copy(out: &mut [u8], at: usize, text: &[u8]) -> usize
     requires { ⌜ at + length (now text) ≤ length (now out) ⌝ }
-    ensures { λ r. ⌜ Puts (now (out .entry)) at (now (text .entry)) (now (out .exit)) r ⌝ }
+    ensures { λ r. ⌜ Puts (was out) at (was text) (became out) r ⌝ }
 {
     let mut p = at;
     let mut i = 0;
@@ -51,7 +52,7 @@ fn advance(at: usize, count: usize) -> usize
 // It calls itself, one deep, so it stands in the code once: crate `reply`, which must be fast, has `direct::put`.
 // Rules out: a text cut one byte early; bytes before the position touched.
 pub fn put(out: &mut [u8], at: usize, text: &[u8]) -> usize
-    ensures { λ r. ⌜ Puts (now (out .entry)) at (now (text .entry)) (now (out .exit)) r ⌝ }
+    ensures { λ r. ⌜ Puts (was out) at (was text) (became out) r ⌝ }
 {
     let size = out.len();
     if size <= at {
@@ -68,7 +69,7 @@ pub fn put(out: &mut [u8], at: usize, text: &[u8]) -> usize
 // A number in decimal: the digits of its tenth, and then its last digit.
 // Rules out: zeros before the number; the digits the other way round.
 pub fn put_decimal(out: &mut [u8], at: usize, n: usize) -> usize
-    ensures { λ r. ⌜ Puts (now (out .entry)) at (decimal n) (now (out .exit)) r ⌝ }
+    ensures { λ r. ⌜ Puts (was out) at (decimal n) (became out) r ⌝ }
 {
     let digit = (48 + n % 10) as u8;
     if n < 10 {
@@ -81,8 +82,8 @@ pub fn put_decimal(out: &mut [u8], at: usize, n: usize) -> usize
 // How many bytes stand in the buffer of a text that was put from its start and ends at a position.
 // Rules out: a count that goes past the buffer; 0 where the text is cut.
 pub fn within(out: &[u8], at: usize) -> usize
-    ensures { λ r. ⌜ r ≡ min at (length (now (out .entry))) ⌝ }
-    ensures { λ r. ⌜ Counts r (now (out .entry)) ⌝ }
+    ensures { λ r. ⌜ r ≡ min at (length (was out)) ⌝ }
+    ensures { λ r. ⌜ Counts r (was out) ⌝ }
 {
     if at < out.len() { at } else { out.len() }
 }

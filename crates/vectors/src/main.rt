@@ -1,15 +1,15 @@
 // Judges the records of vectors.bin, which the second model wrote, and compares what comes of each.
 // The file's form stands in model/src/vectors.rs: tables to take, records with their outcome, tables that
 // must be reached, default lists, lists to load, older lists, what waits, hand-ins and takes.
-use fields::after;
 use fields::be16;
 use fields::be32;
+use fields::skip;
 use list_convert::Converted;
 use rows::part;
 use rules::ACE_ROWS;
 use rules::CRED_ROWS;
 use rules::Tables;
-use rules_waiting::QUEUE;
+use rules_terminal::QUEUE;
 use terminal::tillerclover_hand_in_at;
 use terminal::tillerclover_judge_at;
 use terminal::tillerclover_take_at;
@@ -48,7 +48,7 @@ impl Tag {
 
 // What is said of a record, in words, and the tables afterwards.
 struct Told {
-    said: [u64; 9],
+    words: [u64; 9],
     tables: Tables,
 }
 
@@ -134,7 +134,7 @@ fn walk(bytes: &[u8]) -> Progress {
         if size == 0 {
             return differing(p);
         }
-        p = entry_done(p, part(rest, 0, size), after(bytes, p.lists));
+        p = entry_done(p, part(rest, 0, size), skip(bytes, p.lists));
         p = moved(p, size);
         rest = &rest[size..];
     }
@@ -177,51 +177,51 @@ fn entry_size(s: &[u8]) -> usize {
 
 // Tag, fields before the rows, length and bytes of the credential rows, length and bytes of the access rows.
 fn tables_size(s: &[u8]) -> usize {
-    let creds = be16(after(s, 85)) as usize;
-    let aces = be16(after(after(s, 87), creds)) as usize;
+    let creds = be16(skip(s, 85)) as usize;
+    let aces = be16(skip(skip(s, 87), creds)) as usize;
     89 + creds + aces
 }
 
 // Tag, clock, length and bytes of the record, room, answer, permission, payload start and length,
 // length of the reply, first place and how many, the links and their number, the reply.
 fn record_size(s: &[u8]) -> usize {
-    let length = be16(after(s, 5)) as usize;
-    let reply = be16(after(after(s, 15), length)) as usize;
+    let length = be16(skip(s, 5)) as usize;
+    let reply = be16(skip(skip(s, 15), length)) as usize;
     28 + length + reply
 }
 
 // Tag, length and bytes of a list to load, answer, row.
 fn list_size(s: &[u8]) -> usize {
-    5 + be16(after(s, 1)) as usize
+    5 + be16(skip(s, 1)) as usize
 }
 
 // Tag, length and bytes of an older list, room, answer, length and bytes of the result.
 fn older_size(s: &[u8]) -> usize {
-    let length = be16(after(s, 1)) as usize;
-    let made = be16(after(after(s, 6), length)) as usize;
+    let length = be16(skip(s, 1)) as usize;
+    let made = be16(skip(skip(s, 6), length)) as usize;
     8 + length + made
 }
 
 // Tag, length and bytes of what waits.
 fn memory_size(s: &[u8]) -> usize {
-    3 + be16(after(s, 1)) as usize
+    3 + be16(skip(s, 1)) as usize
 }
 
 // Tag, length and bytes of a record to hand in, answer.
 fn hand_in_size(s: &[u8]) -> usize {
-    4 + be16(after(s, 1)) as usize
+    4 + be16(skip(s, 1)) as usize
 }
 
 // Tag, clock, room, the outcome as of a record, the reply, length and bytes of the record taken.
 fn take_size(s: &[u8]) -> usize {
-    let reply = be16(after(s, 13)) as usize;
-    let record = be16(after(after(s, 26), reply)) as usize;
+    let reply = be16(skip(s, 13)) as usize;
+    let record = be16(skip(skip(s, 26), reply)) as usize;
     28 + reply + record
 }
 
 // Of an entry with default lists: the length of the second, the first, and the second.
 fn second_length(s: &[u8]) -> u8 {
-    byte_at(after(after(s, 2), byte_at(s, 1) as usize), 0)
+    byte_at(skip(skip(s, 2), byte_at(s, 1) as usize), 0)
 }
 
 fn default_creds(s: &[u8]) -> &[u8] {
@@ -230,7 +230,7 @@ fn default_creds(s: &[u8]) -> &[u8] {
 
 fn default_aces(s: &[u8]) -> &[u8] {
     part(
-        after(after(s, 3), byte_at(s, 1) as usize),
+        skip(skip(s, 3), byte_at(s, 1) as usize),
         0,
         second_length(s) as usize,
     )
@@ -257,16 +257,16 @@ fn moved(p: Progress, size: usize) -> Progress {
 fn entry_done(p: Progress, s: &[u8], lists: &[u8]) -> Progress {
     let tag = byte_at(s, 0);
     match tag {
-        Tag::TABLES => taken(p, after(s, 1)),
-        Tag::RECORD => judged(p, after(s, 1), lists),
-        Tag::REACHED => reached(p, after(s, 1)),
+        Tag::TABLES => taken(p, skip(s, 1)),
+        Tag::RECORD => judged(p, skip(s, 1), lists),
+        Tag::REACHED => reached(p, skip(s, 1)),
         Tag::DEFAULTS => listed(p),
-        Tag::LIST => tested(p, after(s, 1)),
-        Tag::OLDER_LIST => converted(p, after(s, 1)),
-        Tag::QUEUE => lent(p, after(s, 1)),
-        Tag::QUEUE_REACHED => kept(p, after(s, 1)),
-        Tag::HAND_IN => handed_in(p, after(s, 1)),
-        _ => taken_turn(p, after(s, 1), lists),
+        Tag::LIST => tested(p, skip(s, 1)),
+        Tag::OLDER_LIST => converted(p, skip(s, 1)),
+        Tag::QUEUE => lent(p, skip(s, 1)),
+        Tag::QUEUE_REACHED => kept(p, skip(s, 1)),
+        Tag::HAND_IN => handed_in(p, skip(s, 1)),
+        _ => taken_turn(p, skip(s, 1), lists),
     }
 }
 
@@ -291,7 +291,7 @@ fn reached(p: Progress, bytes: &[u8]) -> Progress {
 // Tests the list behind its length, and compares what is said of it with what follows.
 fn tested(p: Progress, s: &[u8]) -> Progress {
     let length = be16(s) as usize;
-    let expected = after(after(s, 2), length);
+    let expected = skip(skip(s, 2), length);
     let found = list_validation::test_list(part(s, 2, length));
     let mut next = p;
     next.tested = more(p.tested);
@@ -305,9 +305,9 @@ fn tested(p: Progress, s: &[u8]) -> Progress {
 // Converts the older list behind its length with a buffer of the room behind it, and compares the result with the one that follows.
 fn converted(p: Progress, s: &[u8]) -> Progress {
     let length = be16(s) as usize;
-    let behind = after(after(s, 2), length);
-    let expected = after(behind, 2);
-    let made = part(expected, 3, be16(after(expected, 1)) as usize);
+    let behind = skip(skip(s, 2), length);
+    let expected = skip(behind, 2);
+    let made = part(expected, 3, be16(skip(expected, 1)) as usize);
     let mut buffer = [165u8; 1300];
     let found = convert_within(part(s, 2, length), &mut buffer, be16(behind) as usize);
     let mut next = p;
@@ -356,18 +356,18 @@ fn handed_in(p: Progress, s: &[u8]) -> Progress {
     let length = be16(s) as usize;
     let mut queue = p.queue;
     let t = p.tables;
-    let said = hand_in(t, &mut queue, part(s, 2, length));
-    let expected = after(after(s, 2), length);
+    let words = hand_in(t, &mut queue, part(s, 2, length));
+    let expected = skip(skip(s, 2), length);
     let mut next = p;
     next.queue = queue;
     next.handed = more(p.handed);
-    if (said[0] == byte_at(expected, 0) as u64)
-        & (said[1] == 0)
-        & (said[2] == 0)
-        & (said[3] == 0)
-        & (said[4] == 0)
-        & same_places(&said, b"")
-        & same_links(&said, b"")
+    if (words[0] == byte_at(expected, 0) as u64)
+        & (words[1] == 0)
+        & (words[2] == 0)
+        & (words[3] == 0)
+        & (words[4] == 0)
+        & same_range(&words, b"")
+        & same_links(&words, b"")
     {
         next
     } else {
@@ -377,7 +377,7 @@ fn handed_in(p: Progress, s: &[u8]) -> Progress {
 
 // Takes at the clock with a buffer of the room behind it, and compares the outcome and the record with those that follow.
 fn taken_turn(p: Progress, s: &[u8], lists: &[u8]) -> Progress {
-    let expected = after(s, 6);
+    let expected = skip(s, 6);
     let mut buffer = [165u8; 1300];
     let mut queue = p.queue;
     let t = p.tables;
@@ -388,22 +388,22 @@ fn taken_turn(p: Progress, s: &[u8], lists: &[u8]) -> Progress {
         default_aces(lists),
         be32(s),
         &mut buffer,
-        be16(after(s, 4)) as usize,
+        be16(skip(s, 4)) as usize,
     );
     let j = u.told;
     let t = j.tables;
-    let said = j.said;
+    let words = j.words;
     let mut next = p;
     next.tables = t;
     next.queue = queue;
     next.takes = more(p.takes);
-    if same_outcome(&said, expected)
-        & same_reply(said[4], &buffer, after(expected, 6))
-        & same_places(&said, after(expected, 8))
-        & same_links(&said, after(expected, 10))
+    if same_outcome(&words, expected)
+        & same_reply(words[4], &buffer, skip(expected, 6))
+        & same_range(&words, skip(expected, 8))
+        & same_links(&words, skip(expected, 10))
         & same_record(
             u,
-            after(after(expected, 19), be16(after(expected, 6)) as usize),
+            skip(skip(expected, 19), be16(skip(expected, 6)) as usize),
         )
     {
         next
@@ -440,7 +440,7 @@ fn take(
     let mut rowners = t.rowners;
     let mut cred_rows = t.creds;
     let mut ace_rows = t.aces;
-    let mut said = [0u64; 9];
+    let mut words = [0u64; 9];
     let mut size = [0u64; 1];
     let mut bytes = [0u8; 256];
     tillerclover_take_at(
@@ -454,13 +454,13 @@ fn take(
         aces,
         clock,
         reply,
-        &mut said,
+        &mut words,
         &mut size,
         &mut bytes,
     );
     Turn {
         told: Told {
-            said: said,
+            words: words,
             tables: tables_with(counts, devowner, rowners, cred_rows, ace_rows),
         },
         size: size[0],
@@ -478,10 +478,10 @@ fn same_record(u: Turn, expected: &[u8]) -> bool {
 
 // Judges the record behind its clock and its length with a buffer of the room behind it, and compares the outcome with the one that follows.
 fn judged(p: Progress, s: &[u8], lists: &[u8]) -> Progress {
-    let length = be16(after(s, 4)) as usize;
+    let length = be16(skip(s, 4)) as usize;
     let record = part(s, 6, length);
-    let behind = after(after(s, 6), length);
-    let expected = after(behind, 2);
+    let behind = skip(skip(s, 6), length);
+    let expected = skip(behind, 2);
     let mut buffer = [165u8; 1300];
     let mut queue = p.queue;
     let t = p.tables;
@@ -496,15 +496,15 @@ fn judged(p: Progress, s: &[u8], lists: &[u8]) -> Progress {
         be16(behind) as usize,
     );
     let t = j.tables;
-    let said = j.said;
+    let words = j.words;
     let mut next = p;
     next.tables = t;
     next.queue = queue;
     next.records = more(p.records);
-    if same_outcome(&said, expected)
-        & same_reply(said[4], &buffer, after(expected, 6))
-        & same_places(&said, after(expected, 8))
-        & same_links(&said, after(expected, 10))
+    if same_outcome(&words, expected)
+        & same_reply(words[4], &buffer, skip(expected, 6))
+        & same_range(&words, skip(expected, 8))
+        & same_links(&words, skip(expected, 10))
     {
         next
     } else {
@@ -542,7 +542,7 @@ fn judge(
     let mut rowners = t.rowners;
     let mut cred_rows = t.creds;
     let mut ace_rows = t.aces;
-    let mut said = [0u64; 9];
+    let mut words = [0u64; 9];
     tillerclover_judge_at(
         &mut counts,
         &mut devowner,
@@ -555,10 +555,10 @@ fn judge(
         clock,
         record,
         reply,
-        &mut said,
+        &mut words,
     );
     Told {
-        said: said,
+        words: words,
         tables: tables_with(counts, devowner, rowners, cred_rows, ace_rows),
     }
 }
@@ -568,7 +568,7 @@ fn hand_in(t: Tables, queue: &mut [u8; QUEUE], record: &[u8]) -> [u64; 9] {
     let counts = counts_of(t);
     let devowner = t.devowner;
     let rowners = t.rowners;
-    let mut said = [0u64; 9];
+    let mut words = [0u64; 9];
     tillerclover_hand_in_at(
         &counts,
         &devowner,
@@ -577,9 +577,9 @@ fn hand_in(t: Tables, queue: &mut [u8; QUEUE], record: &[u8]) -> [u64; 9] {
         &t.aces,
         queue,
         record,
-        &mut said,
+        &mut words,
     );
-    said
+    words
 }
 
 fn counts_of(t: Tables) -> [u8; 4] {
@@ -618,25 +618,25 @@ fn same_filled(length: u64, buffer: &[u8], result: &[u8]) -> bool {
 }
 
 // Whether the first place to store and how many are those of these bytes.
-fn same_places(said: &[u64; 9], expected: &[u8]) -> bool {
-    (said[5] == byte_at(expected, 0) as u64) & (said[6] == byte_at(expected, 1) as u64)
+fn same_range(words: &[u64; 9], expected: &[u8]) -> bool {
+    (words[5] == byte_at(expected, 0) as u64) & (words[6] == byte_at(expected, 1) as u64)
 }
 
 // Whether the set of links and its size are those of these bytes.
-fn same_links(said: &[u64; 9], expected: &[u8]) -> bool {
+fn same_links(words: &[u64; 9], expected: &[u8]) -> bool {
     let high = be32(expected) as u64;
-    let low = be32(after(expected, 4)) as u64;
-    (said[7] / 4294967296 == high)
-        & (said[7] % 4294967296 == low)
-        & (said[8] == byte_at(expected, 8) as u64)
+    let low = be32(skip(expected, 4)) as u64;
+    (words[7] / 4294967296 == high)
+        & (words[7] % 4294967296 == low)
+        & (words[8] == byte_at(expected, 8) as u64)
 }
 
 // Whether what is said is what these bytes say: answer, permission, the payload's offset and its length.
-fn same_outcome(said: &[u64; 9], expected: &[u8]) -> bool {
-    (said[0] == byte_at(expected, 0) as u64)
-        & (said[1] == byte_at(expected, 1) as u64)
-        & (said[2] == be16(after(expected, 2)) as u64)
-        & (said[3] == be16(after(expected, 4)) as u64)
+fn same_outcome(words: &[u64; 9], expected: &[u8]) -> bool {
+    (words[0] == byte_at(expected, 0) as u64)
+        & (words[1] == byte_at(expected, 1) as u64)
+        & (words[2] == be16(skip(expected, 2)) as u64)
+        & (words[3] == be16(skip(expected, 4)) as u64)
 }
 
 fn same_tables(t: Tables, u: Tables) -> bool {

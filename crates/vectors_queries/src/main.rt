@@ -1,8 +1,8 @@
 // Puts the queries of queries.bin, which the second model wrote, to the library, and compares the answers.
 // The file's form stands in model/src/queries.rs: tables and lists of senders; stores and images, steps, whole runs and current images.
-use fields::after;
 use fields::be16;
 use fields::be32;
+use fields::skip;
 use isolation::isolation_of;
 use rows::part;
 use rules_store::Step;
@@ -45,7 +45,7 @@ struct Progress {
 // A step as numbers, as C has it: 0 done, 1 a byte to write at a place, 2 unfit.
 struct Write {
     answer: u8,
-    place: usize,
+    address: usize,
     byte: u8,
 }
 
@@ -98,11 +98,11 @@ fn walk(bytes: &[u8]) -> Progress {
     while 0 < rest.len() {
         p = counted(p);
         let tag = byte_at(rest, 0);
-        let size = 3 + be16(after(rest, 1)) as usize;
+        let size = 3 + be16(skip(rest, 1)) as usize;
         if rest.len() < size {
             return differing(p);
         }
-        let body = after(part(rest, 0, size), 3);
+        let body = skip(part(rest, 0, size), 3);
         let t = one_of(tag == Tag::TABLES, body, tables);
         let m = one_of(tag == Tag::STORE, body, store);
         let i = one_of(tag == Tag::IMAGE, body, image);
@@ -159,20 +159,20 @@ fn asked(p: Progress, s: &[u8], tables: &[u8]) -> Progress {
     let t = tables_of(tables);
     let creds = t.creds;
     let aces = t.aces;
-    let found = isolation_of(t.head(), &creds, &aces, after(s, 4)).report();
+    let found = isolation_of(t.head(), &creds, &aces, skip(s, 4)).report();
     let mut next = p;
     next.questions = more(p.questions);
     compared(
         next,
         (found.reason == byte_at(s, 0))
-            & (found.entry == be16(after(s, 1)) as usize)
+            & (found.entry == be16(skip(s, 1)) as usize)
             & (found.row == byte_at(s, 3) as usize),
     )
 }
 
 // A number of 64 bits.
 fn be64(s: &[u8]) -> usize {
-    be32(s) as usize * 4294967296 + be32(after(s, 4)) as usize
+    be32(s) as usize * 4294967296 + be32(skip(s, 4)) as usize
 }
 
 // Asks for the next step from a position.
@@ -181,7 +181,7 @@ fn stepped(p: Progress, s: &[u8], store: &[u8], image: &[u8]) -> Progress {
     next.steps = more(p.steps);
     compared(
         next,
-        same_step(step_from(store, image, be64(s)), after(s, 8)),
+        same_step(step_from(store, image, be64(s)), skip(s, 8)),
     )
 }
 
@@ -190,17 +190,17 @@ fn step_from(store: &[u8], image: &[u8], from: usize) -> Write {
     match step {
         Step::Write { at, byte } => Write {
             answer: 1,
-            place: at,
+            address: at,
             byte: byte,
         },
         Step::Done => Write {
             answer: 0,
-            place: 0,
+            address: 0,
             byte: 0,
         },
         Step::Unfit => Write {
             answer: 2,
-            place: 0,
+            address: 0,
             byte: 0,
         },
     }
@@ -209,7 +209,7 @@ fn step_from(store: &[u8], image: &[u8], from: usize) -> Write {
 // Whether a step is the one of these bytes: answer, place and byte.
 fn same_step(w: Write, expected: &[u8]) -> bool {
     (w.answer == byte_at(expected, 0))
-        & (w.place == be16(after(expected, 1)) as usize)
+        & (w.address == be16(skip(expected, 1)) as usize)
         & (w.byte == byte_at(expected, 3))
 }
 
@@ -218,15 +218,15 @@ fn located(p: Progress, s: &[u8], store: &[u8]) -> Progress {
     let n = be64(s);
     let mut next = p;
     next.currents = more(p.currents);
-    compared(next, same_current(store, n, after(s, 8)))
+    compared(next, same_current(store, n, skip(s, 8)))
 }
 
 // Whether the answer and the place are those of these bytes: 0 and the place, or 2 and 0 where the store is none for such images.
 fn same_current(store: &[u8], n: usize, expected: &[u8]) -> bool {
     if !store::fits(store.len(), n) {
-        return (byte_at(expected, 0) == 2) & (be16(after(expected, 1)) == 0);
+        return (byte_at(expected, 0) == 2) & (be16(skip(expected, 1)) == 0);
     }
-    (byte_at(expected, 0) == 0) & (store::current_at(store, n) == be16(after(expected, 1)) as usize)
+    (byte_at(expected, 0) == 0) & (store::current_at(store, n) == be16(skip(expected, 1)) as usize)
 }
 
 // Stores the image in a copy of the store, to the end.
@@ -245,15 +245,15 @@ fn same_run(memory: &mut [u8], image: &[u8], expected: &[u8]) -> bool {
     let mut rest = expected;
     while 4 <= rest.len() {
         let step = step_from(memory, image, from);
-        let place = step.place;
+        let address = step.address;
         if !same_step(step, rest) {
             return false;
         }
-        if memory.len() <= place {
+        if memory.len() <= address {
             return false;
         }
-        memory[place] = step.byte;
-        from = place + 1;
+        memory[address] = step.byte;
+        from = address + 1;
         rest = &rest[4..];
     }
     step_from(memory, image, from).answer == 0

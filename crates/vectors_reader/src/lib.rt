@@ -1,7 +1,7 @@
 // What the programs of test vectors share: a byte, a count, and tables as their files have them.
 // Any bytes are tables.
-use fields::after;
 use fields::be16;
+use fields::skip;
 use rows::part;
 use rules::ACE_ROWS;
 use rules::CRED_ROWS;
@@ -10,7 +10,7 @@ ghost use mathlib.Core.Path.{_≡_};
 ghost use Prim.Native.Nat.{_+_, min};
 ghost use lib.ListN.{getD, take, drop};
 ghost use Rattle.rules.specs.Bits.{bits};
-ghost use Rattle.rules.specs.Words.{was};
+ghost use Rattle.rules.specs.Contracts.Words.{was};
 ghost use Rattle.vectors_reader.specs.Reader.{counted, afterCounted, tablesIn};
 
 // The byte at an index, or 0.
@@ -32,7 +32,7 @@ fn counted(s: &[u8]) -> &[u8]
 fn after_counted(s: &[u8]) -> &[u8]
     ensures { λ r. ⌜ now r ≡ afterCounted (was s) ⌝ }
 {
-    after(after(s, 2), be16(s) as usize)
+    skip(skip(s, 2), be16(s) as usize)
 }
 
 // The fields of the head, one after the other, then the credential rows and the access rows.
@@ -40,13 +40,13 @@ fn after_counted(s: &[u8]) -> &[u8]
 pub fn tables_of(bytes: &[u8]) -> Tables
     ensures { λ r. ⌜ r ≡ tablesIn (was bytes) ⌝ }
 {
-    let rows = after(bytes, 84);
+    let rows = skip(bytes, 84);
     let mut devowner = [0u8; 16];
     let mut rowners = [0u8; 64];
     let mut creds = [0u8; CRED_ROWS];
     let mut aces = [0u8; ACE_ROWS];
-    text::put(&mut devowner, 0, after(bytes, 4));
-    text::put(&mut rowners, 0, after(bytes, 20));
+    text::put(&mut devowner, 0, skip(bytes, 4));
+    text::put(&mut rowners, 0, skip(bytes, 20));
     text::put(&mut creds, 0, counted(rows));
     text::put(&mut aces, 0, counted(after_counted(rows)));
     Tables {

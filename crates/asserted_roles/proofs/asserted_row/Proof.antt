@@ -1,5 +1,5 @@
 -- `asserted_row`: the body, the roles, and zeros behind them.
-use Rattle.asserted_roles.proofs.PlaceBytes.{row-is}
+use Rattle.asserted_roles.proofs.SlotBytes.{row-is}
 use borrow.Author.Needs.{needs}
 use Rattle.asserted_roles.proofs.asserted_row.Tie as tie
 

@@ -1,7 +1,7 @@
 -- `put_last`: another role and the new one, or the new one.
 use Rattle.rows.proofs.Prelude.{sym, _∙_, arith, needs}
 use Rattle.text.proofs.Buffers.{puts-then}
-use Rattle.asserted_roles.proofs.PlaceBytes.{last-other, last-new}
+use Rattle.asserted_roles.proofs.SlotBytes.{last-other, last-new}
 use Rattle.asserted_roles.proofs.put_last.Tie as tie
 
 returns : tie.Need-returns

@@ -2,7 +2,7 @@
 use Rattle.rows.proofs.Prelude.{sym, _∙_, _≤_, arith, length, now, needs, not-false, not-true}
 use Rattle.text.specs.Buffer.{largest}
 use Rattle.text.proofs.Buffers.{puts-then}
-use Rattle.asserted_roles.proofs.PlaceBytes.{with-free, with-same, with-other}
+use Rattle.asserted_roles.proofs.SlotBytes.{with-free, with-same, with-other}
 use Rattle.asserted_roles.proofs.put_with.Tie as tie
 
 bound : (c : tie.After-slice-known) → length (now (c .before .args .out)) ≤ largest
@@ -12,7 +12,7 @@ returns : tie.Need-returns
 returns c =
     let test = c .before .before .before .before in
     let second = test .before .before in
-    rw (with-free _ _ _ _ (second .before .role-place .ensures) (second .role-place2 .ensures)
+    rw (with-free _ _ _ _ (second .before .role-slot .ensures) (second .role-slot2 .ensures)
     _ (not-false _ (sym (test .before .in-force .ensures) ∙ not-true _ (test .if1 .taken))))
     (c .before .before .put-last .ensures)
 
@@ -23,10 +23,10 @@ returns-2 c =
     let same = put .before .before in
     let test = same .before .before in
     let second = test .before .before in
-    rw (with-same _ _ _ _ (second .before .role-place .ensures) (second .role-place2 .ensures)
+    rw (with-same _ _ _ _ (second .before .role-slot .ensures) (second .role-slot2 .ensures)
     _ (not-true _ (sym (test .before .in-force .ensures) ∙ not-false _ (test .if1 .left)))
     (sym (same .before .same-role .ensures) ∙ same .if2 .taken))
-    (puts-then (bound (second .before .before .before .before)) (put .put .ensures) (last .put-place .ensures))
+    (puts-then (bound (second .before .before .before .before)) (put .put .ensures) (last .put-role .ensures))
 
 returns-3 : tie.Need-returns-3
 returns-3 c =
@@ -35,7 +35,7 @@ returns-3 c =
     let same = put .before .before in
     let test = same .before .before in
     let second = test .before .before in
-    rw (with-other _ _ _ _ (second .before .role-place .ensures) (second .role-place2 .ensures)
+    rw (with-other _ _ _ _ (second .before .role-slot .ensures) (second .role-slot2 .ensures)
     _ (not-true _ (sym (test .before .in-force .ensures) ∙ not-false _ (test .if1 .left)))
     (sym (same .before .same-role .ensures) ∙ same .if2 .left))
     (puts-then (bound (second .before .before .before .before)) (put .put2 .ensures) (last .put-last2 .ensures))

@@ -1,6 +1,6 @@
 -- `check_caller`: the header, then the sender.
 use Rattle.rows.proofs.Prelude.{sym, Bool, List, ℕ, needs}
-use Rattle.rules.specs.Groups.{headerChecks}
+use Rattle.rules.specs.Contracts.Groups.{headerChecks}
 use Rattle.rules.proofs.CheckLaws.{last, stop-all, skip-all}
 use Rattle.caller.proofs.check_caller.Tie as tie
 

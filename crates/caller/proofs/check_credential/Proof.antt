@@ -7,14 +7,14 @@ use Rattle.rules.specs.declared.Sender.the-variants.{Unauthenticated, Partner}
 use Rattle.rules.specs.declared.Check.the-variants.{Pass, Refuse}
 use Rattle.rules.specs.Permission.{connectionOf}
 use Rattle.rules.specs.Checks.{refuseIf}
-use Rattle.rules.specs.Callers.{lacksRow}
+use Rattle.rules.specs.Contracts.Callers.{lacksRow}
 use Rattle.caller.proofs.check_credential.Tie as tie
 
 -- over connection 0 nobody needs a row
-clear : (who : Sender) (place : Found) → connectionOf who ≡ 0 → Pass ≡ refuseIf 7 (lacksRow who place)
+clear : (who : Sender) (found : Found) → connectionOf who ≡ 0 → Pass ≡ refuseIf 7 (lacksRow who found)
 unfolding refuseIf
-clear Unauthenticated place e = refl
-clear (Partner n) place e = absurd (omega (arith, e))
+clear Unauthenticated found e = refl
+clear (Partner n) found e = absurd (omega (arith, e))
 
 has-none : (who : Sender) → (connectionOf who ≡ 0 → ⊥) → Refuse 7 ≡ refuseIf 7 (lacksRow who Nothing)
 unfolding refuseIf

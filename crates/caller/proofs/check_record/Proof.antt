@@ -4,8 +4,8 @@ use Rattle.rows.specs.Rows.{Row}
 use Rattle.rules.specs.declared.Caller.{Caller}
 use Rattle.rules.specs.declared.Check.{Check}
 use Rattle.rules.specs.Checks.{verdict}
-use Rattle.rules.specs.Groups.{senderChecks}
-use Rattle.rules.specs.Callers.{callerOf, callerChecks}
+use Rattle.rules.specs.Contracts.Groups.{senderChecks}
+use Rattle.rules.specs.Contracts.Callers.{callerOf, callerChecks}
 use Rattle.rules.proofs.CallerLaws.{caller-checks}
 use Rattle.caller.proofs.check_record.Tie as tie
 

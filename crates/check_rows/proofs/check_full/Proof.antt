@@ -1,6 +1,6 @@
 -- `check_full`: a full table holds as many rows as it has room for, and a number that it holds is replaced.
 use Rattle.rows.proofs.Prelude.{_≡_, refl, sym, ap, _∙_, not, [], _∷_, now, needs, le-leb, lt-leb}
-use Rattle.rows.proofs.Laws.{some-place, isAt}
+use Rattle.rows.proofs.Laws.{some-index, isAt}
 use Rattle.rules.specs.Tables.{tablesOf}
 use Rattle.rules.specs.Checks.{refuseIf, full}
 use Rattle.rules.proofs.Others.{not-store}
@@ -12,13 +12,13 @@ abbrev tables : tie.Start → Tables
 tables s = tablesOf (s .args .h) (now (s .args .creds)) (now (s .args .aces))
 
 -- in a full table a row is new where its number has no place
-new-row : (c : tie.After-numbered-place) → let at = c .before .before .before .before .before in let s = at .before .before .before in
-    full (tables s) (now (s .args .b)) (s .args .a) ≡ not (isAt (c .numbered-place .result))
+new-row : (c : tie.After-numbered-index) → let at = c .before .before .before .before .before in let s = at .before .before .before in
+    full (tables s) (now (s .args .b)) (s .args .a) ≡ not (isAt (c .numbered-index .result))
 new-row c =
     let test = c .before in
     let at = test .before .before .before .before in
     rw (at .a .given .1, le-leb _ _ (rw (test .before .capacity-of .ensures, test .before .before .count-of .ensures) at (test .if1 .left)))
-    (ap not (some-place 0 _ _ ∙ sym (ap isAt (c .numbered-place .ensures))))
+    (ap not (some-index 0 _ _ ∙ sym (ap isAt (c .numbered-index .ensures))))
 
 pub check-full-spec : {M : Type 1} → Rattle.check_rows.proofs.check_full.Statement.statement M
 unfolding refuseIf

@@ -1,6 +1,6 @@
 -- `check_missing`: a row is there where its place is found.
 use Rattle.rows.proofs.Prelude.{_≡_, refl, sym, ap, _∙_, not, [], _∷_, now, needs}
-use Rattle.rows.proofs.Laws.{some-place, isAt}
+use Rattle.rows.proofs.Laws.{some-index, isAt}
 use Rattle.rules.specs.Tables.{tablesOf}
 use Rattle.rules.specs.Checks.{refuseIf, missing}
 use Rattle.rules.proofs.Others.{not-remove}
@@ -16,7 +16,7 @@ absent : (c : tie.After-picked) → let at = c .before .before .before .before i
     missing (tables s) (now (s .args .b)) (s .args .a) ≡ not (isAt (c .picked .result))
 absent c =
     rw (c .before .before .before .before .a .given .1, ← c .before .before .may-be-none .ensures, c .before .if1 .left)
-    (ap not (some-place 0 _ _ ∙ sym (ap isAt (c .picked .ensures))))
+    (ap not (some-index 0 _ _ ∙ sym (ap isAt (c .picked .ensures))))
 
 pub check-missing-spec : {M : Type 1} → Rattle.check_rows.proofs.check_missing.Statement.statement M
 unfolding refuseIf

@@ -4,7 +4,7 @@ use Rattle.rules.specs.declared.Check.{Check}
 use Rattle.rules.proofs.CheckLaws.{stop, skip, last}
 use Rattle.rules.specs.Tables.{tablesOf}
 use Rattle.rules.specs.Checks.{verdict}
-use Rattle.rules.specs.Groups.{rowChecks}
+use Rattle.rules.specs.Contracts.Groups.{rowChecks}
 use Rattle.check_rows.proofs.check_rows.Tie as tie
 
 abbrev list : tie.After-enum-told → List (ℕ × Bool)

@@ -2,17 +2,17 @@
 use Rattle.rows.proofs.Prelude.{refl, sym, _∙_, _*_, _≤_, _<_, arith, length, getD, length-take-le, needs, not-false, not-true}
 use Rattle.rows.proofs.Laws.{EveryInv, every-fails, every-turn, every-end, a-row, next-fits}
 use Rattle.rules.specs.Tables.{rowsIn}
-use Rattle.rules_waiting.specs.Terminal.{slotSound}
-use Rattle.rules_waiting.specs.Slots.{slotSize}
+use Rattle.rules_terminal.specs.Terminal.{slotSound}
+use Rattle.rules_terminal.specs.Slots.{slotSize}
 use Rattle.check_waiting.proofs.slots_sound.Tie as tie
 use Rattle.rules.specs.declared.Table.the-variants.{Creds}
 
 abbrev Inv-loop : tie.InvT-loop
-Inv-loop ncreds creds slots count places rest₀ left₀ rest left =
+Inv-loop ncreds creds slots count likely_rows rest₀ left₀ rest left =
     EveryInv (slotSound (rowsIn Creds ncreds creds)) slotSize count slots rest left × (left * slotSize ≤ length rest)
 
 abbrev μ-loop : tie.MeasureT-loop
-μ-loop ncreds creds slots count places rest₀ left₀ rest left = left
+μ-loop ncreds creds slots count likely_rows rest₀ left₀ rest left = left
 
 -- a turn has a row
 row-here : (c : tie.In-loop Inv-loop μ-loop) → slotSize ≤ length (c .before .loop .rest .now)

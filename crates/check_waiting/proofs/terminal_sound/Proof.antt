@@ -1,6 +1,6 @@
 -- `terminal_sound`: both tests.
 use Rattle.rows.proofs.Prelude.{ap₂, Bool, _&&_, needs}
-use Rattle.rules_waiting.specs.Terminal.{soundTerminal}
+use Rattle.rules_terminal.specs.Terminal.{soundTerminal}
 use Rattle.check_waiting.proofs.terminal_sound.Tie as tie
 
 returns : tie.Need-returns

@@ -10,9 +10,9 @@ use Rattle.rules.specs.declared.Decision.{Decision}
 use Rattle.rules.specs.Record.{Request, received, body}
 use Rattle.rules.specs.Tables.{tablesOf, rows}
 use Rattle.rules.specs.Checks.{verdict}
-use Rattle.rules.specs.Groups.{senderChecks}
-use Rattle.rules.specs.Callers.{callerOf, callerChecks}
-use Rattle.rules.specs.Decision.{nothingGranted, decisionBy, granted, decided}
+use Rattle.rules.specs.Contracts.Groups.{senderChecks}
+use Rattle.rules.specs.Contracts.Callers.{callerOf, callerChecks}
+use Rattle.rules.specs.Contracts.Decision.{nothingPermitted, decisionBy, decidedBy, decided}
 use Rattle.rules.proofs.CheckLaws.{stop-all, skip-all}
 use Rattle.rules.proofs.CallerLaws.{caller-row, caller-checks}
 use Rattle.decision.proofs.Laws.{turned}
@@ -23,13 +23,13 @@ module _ (t : Tables) (q : Request) (k : Caller) (c : Check) (is : k ≡ callerO
   checked : c ≡ verdict (senderChecks (rows Creds t) (q .bytes))
   checked = told ∙ ap (λ (x : Caller). verdict (callerChecks (length (q .bytes)) x)) is ∙ ap verdict (caller-checks (rows Creds t) (q .bytes))
 
-  refused : (n : ℕ) (d : Decision) → c ≡ Refuse n → d ≡ nothingGranted k c → d ≡ decided t q
+  refused : (n : ℕ) (d : Decision) → c ≡ Refuse n → d ≡ nothingPermitted k c → d ≡ decided t q
   unfolding decided
-  refused n d r f = turned _ _ _ _ c _ n d (stop-all (senderChecks (rows Creds t) (q .bytes)) _ n checked r) r (f ∙ ap (λ (x : Caller). nothingGranted x c) is)
+  refused n d r f = turned _ _ _ _ c _ n d (stop-all (senderChecks (rows Creds t) (q .bytes)) _ n checked r) r (f ∙ ap (λ (x : Caller). nothingPermitted x c) is)
 
   -- where 2 to 7 pass, the decision is that of the rest
-  rest-decides : (b : List ℕ) → b ≡ body (q .bytes) → c ≡ Pass → granted (q .clock) t k b (q .capacity) ≡ decided t q
-  unfolding granted decided
+  rest-decides : (b : List ℕ) → b ≡ body (q .bytes) → c ≡ Pass → decidedBy (q .clock) t k b (q .capacity) ≡ decided t q
+  unfolding decidedBy decided
   rest-decides b e p =
       rw (e, is, caller-row t (q .bytes)) (ap (decisionBy _ _ _ _) (skip-all (senderChecks (rows Creds t) (q .bytes)) _ checked p refl))
 
@@ -55,7 +55,7 @@ returns-2 c =
     let told = c .before .before in
     let call = told .before .before in
     let s = start call in
-    c .grant .ensures
+    c .decide-request .ensures
     ∙ rest-decides (tables s) (request s) _ _ (call .before .caller-of .ensures) (call .check-caller .ensures) _ (c .before .body-of .ensures) (told .enum-told .given .1)
 
 pub decide-spec : {M : Type 1} → Rattle.decision.proofs.decide.Statement.statement M

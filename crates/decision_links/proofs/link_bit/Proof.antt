@@ -3,7 +3,7 @@ use Rattle.rows.proofs.Prelude.{_≡_, ap, _∙_, Bool, List, _++_, ℕ, arith,
 use Rattle.rules.specs.declared.Header.{Header}
 use Rattle.rules.specs.declared.Action.the-variants.{Serve}
 use Rattle.rules.specs.Checks.{verdict}
-use Rattle.rules.specs.Groups.{requestChecks, stateChecks}
+use Rattle.rules.specs.Contracts.Groups.{requestChecks, stateChecks}
 use Rattle.rules.proofs.CheckLaws.{stop-all, skip-all}
 use Rattle.decision_links.specs.Linked.{linkHeader, linkPasses}
 use Rattle.decision_links.proofs.link_bit.Tie as tie

@@ -14,10 +14,10 @@ use Rattle.execute.proofs.execute.Tie as tie
 abbrev start : tie.After-put-reply → tie.Start
 start c = c .before .before .before .before .before .before .before .before .before
 
-abbrev wrote : tie.After-places-of → tie.After-put-reply
+abbrev wrote : tie.After-store-range-of → tie.After-put-reply
 wrote c = c .before .before .before .before .before .before
 
-abbrev placed : tie.After-payload → tie.After-places-of
+abbrev placed : tie.After-payload → tie.After-store-range-of
 placed c = c .before .before .before .before
 
 abbrev tables : tie.Start → Tables
@@ -48,7 +48,7 @@ returns c =
     record {
       says = says (tables s) (request s) (s .args .d) (s .pre .1) (s .pre .2) (s .pre .0) (lists s) _ _ _ _
           (ap length (measured .payload .ensures ∙ payload-as (tables s) (request s) (s .args .d) (s .pre .1) (s .pre .2)))
-          (at .places-of .ensures ∙ ap (λ (b : List ℕ). storeRangeOf (tables s) b (s .args .d .action)) body-is)
+          (at .store-range-of .ensures ∙ ap (λ (b : List ℕ). storeRangeOf (tables s) b (s .args .d .action)) body-is)
           (measured .before .links-of .ensures ∙ links-as (tables s) (request s) (s .args .d) (s .pre .1) (s .pre .2) (s .pre .0))
           (c .apply .ensures
           ∙ ap (λ (w : Row). effect (lists s) (s .args .clock) (tables s) w (body (request s .bytes)) (s .args .d .action))

@@ -4,19 +4,20 @@ use Rattle.rules.specs.declared.Tables.{Tables}
 use Rattle.rules.specs.Record.{Request, received}
 use Rattle.rules.specs.Tables.{tablesOf}
 use Rattle.rules.specs.Defaults.{Defaults, defaults}
-use Rattle.rules.specs.Outcome.{Said, tablesAfter}
+use Rattle.rules.specs.Outcome.{tablesAfter}
+use Rattle.rules.specs.Contracts.Results.{Result}
 use Rattle.rows.specs.Rows.{without}
-use Rattle.rules_waiting.specs.Slots.{Round, waiting, queueOf}
-use Rattle.rules_waiting.specs.Round.{seats, orphaned, heldRound}
+use Rattle.rules_terminal.specs.Slots.{Round, waiting, queueOf}
+use Rattle.rules_terminal.specs.Round.{seats, orphaned, validRound}
 use Rattle.execute.proofs.QueueLaws.{cleared-queue, same-queue, moved-queue}
 use Rattle.execute.proofs.execute_changing.Tie as tie
 
 -- back from the rows that changed to the round that was held, and to the start
-abbrev held-of : tie.After-execute → tie.After-round-held
-held-of c = c .before .before .before .before
+abbrev capped-of : tie.After-execute → tie.After-round-valid
+capped-of c = c .before .before .before .before
 
 abbrev start : tie.After-execute → tie.Start
-start c = held-of c .before .before .before .before .before .before .before .before
+start c = capped-of c .before .before .before .before .before .before .before .before
 
 -- back from the test of RESET, and from the rows that are counted
 abbrev ran : tie.After-is-reset → tie.After-execute
@@ -39,7 +40,7 @@ abbrev left : tie.After-execute → Tables
 left c = tablesOf (c .execute .result .head) (c .execute .last .1 .0) (c .execute .last .1 .1 .0)
 
 left-is : (c : tie.After-execute) → left c ≡ tablesAfter (lists (start c)) (tables (start c)) (request (start c))
-left-is c = ap (λ (s : Said). s .tables) (c .execute .ensures .says)
+left-is c = ap (λ (s : Result). s .tables) (c .execute .ensures .says)
 
 returns : tie.Need-returns
 returns c =
@@ -73,8 +74,8 @@ returns-3 c =
     let s = start call in (
       call .execute .ensures,
       c .settle .ensures
-          ∙ ap (λ (k : Round). queueOf (heldRound (seats (left call)) k) (without (orphaned (seats (left call))) (waiting (now (s .args .queue)))))
-          (sym (held-of call .round-held .ensures))
+          ∙ ap (λ (k : Round). queueOf (validRound (seats (left call)) k) (without (orphaned (seats (left call))) (waiting (now (s .args .queue)))))
+          (sym (capped-of call .round-valid .ensures))
           ∙ moved-queue (tables s) (request s) (s .args .d) (s .pre .0 .1) (s .pre .0 .2) (s .pre .0 .0) (lists s) _
           (reset .is-reset .ensures) (left call) (left-is call) _ _ (count .before .before .before .before .if1 .left) (count .if2 .left),
     )

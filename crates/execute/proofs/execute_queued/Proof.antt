@@ -7,7 +7,7 @@ use Rattle.rules.specs.Tables.{tablesOf}
 use Rattle.rules.specs.Defaults.{Defaults, defaults}
 use Rattle.rules.specs.Outcome.{effectBy}
 use Rattle.rules.specs.StoreRange.{storeRangeOf}
-use Rattle.rules_waiting.specs.Terminal.{isReset}
+use Rattle.rules_terminal.specs.Terminal.{isReset}
 use Rattle.execute.proofs.Laws.{serves, no-reply, says, fills, links-as, payload-as}
 use Rattle.execute.proofs.QueueLaws.{served, same-queue}
 use Rattle.execute.proofs.execute_queued.Tie as tie

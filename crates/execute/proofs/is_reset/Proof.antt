@@ -1,6 +1,6 @@
 -- `is_reset`: by the action; the target is compared as the definition does.
 use Rattle.rows.proofs.Prelude.{refl, sym, ap, [], _∷_, needs}
-use Rattle.rules_waiting.specs.Terminal.{isReset}
+use Rattle.rules_terminal.specs.Terminal.{isReset}
 use Rattle.rules.proofs.Others.{not-move}
 use Rattle.execute.proofs.is_reset.Tie as tie
 

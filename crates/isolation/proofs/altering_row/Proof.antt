@@ -1,7 +1,7 @@
 -- `altering_row`. The loop's invariant: the place asked for is the place in the rows from `i` on, counted from `i`.
 use Rattle.rows.proofs.Prelude.{_≡_, refl, sym, ap, _∙_, _-_, _*_, _≤_, add-one, length, take, drop, drop-of-length-le, arith, now, needs}
 use Rattle.rows.specs.Rows.{rowsOf}
-use Rattle.rows.specs.Contracts.{placeFrom}
+use Rattle.rows.specs.Contracts.{indexFrom}
 use Rattle.rows.proofs.Laws.{from-row, length-rowsOf}
 use Rattle.rules_isolation.specs.Question.{letsAlter}
 use Rattle.rules.specs.Sizes.{aceRowSize}
@@ -10,7 +10,7 @@ use Rattle.isolation.proofs.altering_row.Tie as tie
 abbrev Inv-loop : tie.InvT-loop
 Inv-loop aces count cred connection i₀ i =
     let passes = letsAlter cred connection in
-    (i ≤ count) × (placeFrom 0 passes (rowsOf aceRowSize count aces) ≡ placeFrom i passes (drop i (rowsOf aceRowSize count aces)))
+    (i ≤ count) × (indexFrom 0 passes (rowsOf aceRowSize count aces) ≡ indexFrom i passes (drop i (rowsOf aceRowSize count aces)))
 
 abbrev μ-loop : tie.MeasureT-loop
 μ-loop aces count cred connection i₀ i = count - i
@@ -23,19 +23,19 @@ told c =
     c .lets-alter .ensures ∙ ap (letsAlter (now (a .cred)) (a .connection)) (c .before .part .ensures)
 
 returns : tie.Need-returns Inv-loop μ-loop
-unfolding placeFrom
+unfolding indexFrom
 returns c =
     let turn = c .before .before .before in
     sym (turn .before .loop .inv .1 ∙ rw (from-row _ _ _ _ (turn .loop-test .taken), sym (told (c .before)) ∙ c .if1 .taken))
 
 loop-again : tie.Need-loop-again Inv-loop μ-loop
-unfolding placeFrom
+unfolding indexFrom
 loop-again c =
     let turn = c .before .before .before in
     (omega arith, turn .before .loop .inv .1 ∙ rw (from-row _ _ _ _ (turn .loop-test .taken), sym (told (c .before)) ∙ c .if1 .left, add-one))
 
 returns-2 : tie.Need-returns-2 Inv-loop μ-loop
-unfolding placeFrom
+unfolding indexFrom
 returns-2 c =
     let a = c .before .before .before .before .args in
     let few : length (rowsOf aceRowSize (a .count) (now (a .aces))) ≤ c .before .loop .i = rw length-rowsOf (c .loop-test .left) in

@@ -1,8 +1,8 @@
 -- `entry_answer`: an owner settles it, then the first access row that lets the sender alter, of as many as there is room for.
 use Rattle.rows.proofs.Prelude.{_≡_, sym, ap, _∙_, arith, now, needs}
 use Rattle.rows.specs.Rows.{Row}
-use Rattle.rows.specs.Contracts.{placeOf}
-use Rattle.rows.proofs.Laws.{place-row}
+use Rattle.rows.specs.Contracts.{indexOf}
+use Rattle.rows.proofs.Laws.{index-row}
 use Rattle.rules.specs.declared.Tables.{Tables}
 use Rattle.rules.specs.declared.Table.the-variants.{Aces, Creds}
 use Rattle.rules.specs.Directory.{someSecurity}
@@ -21,7 +21,7 @@ tables s = tablesOf (s .args .h) (now (s .args .creds)) (now (s .args .aces))
 own : (c : tie.After-row-of) → let s = c .before .before in now (c .row-of .result) ≡ senderRow (tables s) (s .args .who)
 own c =
     let s = c .before .before in
-    c .row-of .ensures ∙ rw (c .before .place-for .ensures) (row-for (rows Creds (tables s)) (s .args .who))
+    c .row-of .ensures ∙ rw (c .before .index-for .ensures) (row-for (rows Creds (tables s)) (s .args .who))
 
 names : (c : tie.After-names-owner) → let s = c .before .before .before in c .names-owner .result ≡ namesOwner (tables s) (s .args .who)
 unfolding namesOwner
@@ -29,12 +29,12 @@ names c =
     let s = c .before .before .before in
     c .names-owner .ensures ∙ ap (λ (w : Row). someSecurity (isOwner (headOf (tables s)) w)) (own (c .before))
 
-place : (c : tie.After-altering-row) → let s = c .before .before .before .before .before .before .before .before in
-    c .altering-row .result ≡ placeOf (letsAlter (senderRow (tables s) (s .args .who)) (connectionOf (s .args .who))) (rows Aces (tables s))
+row-number : (c : tie.After-altering-row) → let s = c .before .before .before .before .before .before .before .before in
+    c .altering-row .result ≡ indexOf (letsAlter (senderRow (tables s) (s .args .who)) (connectionOf (s .args .who))) (rows Aces (tables s))
 unfolding rowsIn
-place c =
+row-number c =
     let on = c .before .before in
-    c .altering-row .ensures ∙ rw (on .connection-of .ensures, on .before .held .ensures, own (on .before .before .before .before))
+    c .altering-row .ensures ∙ rw (on .connection-of .ensures, on .before .capped .ensures, own (on .before .before .before .before))
 
 returns : tie.Need-returns
 returns c = names-answer _ _ _ (sym (names (c .before)) ∙ c .if1 .taken)
@@ -43,18 +43,18 @@ returns-2 : tie.Need-returns-2
 returns-2 c =
     let found = c .before .before in
     let test = found .before .before .before .before in
-    none-answer _ _ _ (sym (names (test .before)) ∙ test .if1 .left) (sym (place found) ∙ c .enum-told .given .1)
+    none-answer _ _ _ (sym (names (test .before)) ∙ test .if1 .left) (sym (row-number found) ∙ c .enum-told .given .1)
 
 returns-3 : tie.Need-returns-3
 returns-3 c =
     let found = c .before .before .before in
     let test = found .before .before .before .before in
-    alters-answer _ _ _ (sym (names (test .before)) ∙ test .if1 .left) _ (sym (place found) ∙ c .before .j .given .1)
+    alters-answer _ _ _ (sym (names (test .before)) ∙ test .if1 .left) _ (sym (row-number found) ∙ c .before .j .given .1)
 
 pub entry-answer-spec : {M : Type 1} → Rattle.isolation.proofs.entry_answer.Statement.statement M
 entry-answer-spec = tie.close (tie.spec
     (λ c κs. search needs) (λ c κs. search needs) (λ c κs. search needs) returns
     (λ c κs. search needs) (λ c κs. search needs) (λ c κs. search needs) (λ c. search needs) (λ c. search needs) returns-2
     (λ c. let found = c .before .before .before in
-    omega (arith, found .before .before .before .held .ensures, place-row _ _ _ _ _ (sym (found .altering-row .ensures) ∙ c .before .j .given .1) .0))
+    omega (arith, found .before .before .before .capped .ensures, index-row _ _ _ _ _ (sym (found .altering-row .ensures) ∙ c .before .j .given .1) .0))
     returns-3)

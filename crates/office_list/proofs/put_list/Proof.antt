@@ -17,7 +17,7 @@ returns c =
     let key = count .before .before .before in
     let known = key .before .before .before in
     list-puts (known .before .args .naces) (now (known .before .args .aces)) _ (bound known)
-    (count .held .ensures) (key .put .ensures) (rows .put-rows .ensures) (end .put2 .ensures)
+    (count .capped .ensures) (key .put .ensures) (rows .put-rows .ensures) (end .put2 .ensures)
 
 pub put-list-spec : {M : Type 1} → Rattle.office_list.proofs.put_list.Statement.statement M
 put-list-spec = tie.close (tie.spec

@@ -8,4 +8,4 @@ pub effective-links-spec : {M : Type 1} → Rattle.permission.proofs.ef
 unfolding rowsIn
 effective-links-spec = tie.close (tie.spec
     (λ c κs. search needs) (λ c κs. search needs)
-    (λ c. rw (c .rows-grant-links .ensures, c .before .held .ensures) (links-alone _ _ _ _ _)))
+    (λ c. rw (c .rows-grant-links .ensures, c .before .capped .ensures) (links-alone _ _ _ _ _)))

@@ -1,7 +1,7 @@
 -- `role_fits`: the stored role, then the two places.
 use borrow.Author.Needs.{needs}
 use Rattle.rules.specs.Permission.{forRole, roleFits}
-use Rattle.rules.proofs.RolePlaces.{some-in-force}
+use Rattle.rules.proofs.RoleSlots.{some-in-force}
 use Rattle.permission_row.proofs.role_fits.Tie as tie
 
 returns : tie.Need-returns
@@ -12,10 +12,10 @@ returns c =
     let role = authority .before .before in
     rw (
       some-in-force,
-      c .place-fits2 .ensures,
-      c .before .role-place2 .ensures,
-      first .place-fits .ensures,
-      first .before .role-place .ensures,
+      c .slot-fits2 .ensures,
+      c .before .role-slot2 .ensures,
+      first .slot-fits .ensures,
+      first .before .role-slot .ensures,
       authority .authority2 .ensures,
       authority .before .authority .ensures,
       role .role2 .ensures,

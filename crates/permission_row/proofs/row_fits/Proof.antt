@@ -18,12 +18,12 @@ returns-4 : tie.Need-returns-4
 unfolding rowFits
 returns-4 c =
     let period = c .before in
-    let place = period .before .before .before .before in
+    let slot = period .before .before .before .before in
     rw (
       c .subject-fits .ensures,
       sym (period .before .in-force .ensures) ∙ not-false _ (period .if3 .left),
       and-true,
-      sym (place .before .resource-fits .ensures) ∙ not-false _ (place .if1 .left),
+      sym (slot .before .resource-fits .ensures) ∙ not-false _ (slot .if1 .left),
       and-true,
     )
 

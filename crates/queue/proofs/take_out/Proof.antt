@@ -2,7 +2,7 @@
 use Rattle.rows.proofs.Prelude.{sym, now, needs}
 use Rattle.queue.proofs.Laws.{used-long, used-rows, used-table, used-packed}
 use Rattle.queue.proofs.take_out.Tie as tie
-use Rattle.rules_waiting.specs.Slots.{slotSize}
+use Rattle.rules_terminal.specs.Slots.{slotSize}
 
 returns : tie.Need-returns
 returns c =

@@ -4,7 +4,7 @@ use Rattle.rules.specs.declared.Tables.{Tables}
 use Rattle.rules.specs.Tables.{tablesOf}
 use Rattle.queue_turn.proofs.DueLaws.{due-small, slot-whole-long, due-record-is}
 use Rattle.queue_turn.proofs.due_record.Tie as tie
-use Rattle.rules_waiting.specs.Slots.{slotSize}
+use Rattle.rules_terminal.specs.Slots.{slotSize}
 
 -- the tables, lent in parts
 abbrev tables : tie.Start → Tables
@@ -12,7 +12,7 @@ tables s = tablesOf (s .args .h) (now (s .args .creds)) (now (s .args .aces))
 
 slice-is : (c : tie.After-part)
     → let d = c .before .before in now (c .part .result) ≡ take slotSize (drop (d .due-slot .result * slotSize) (drop 4 (now (d .before .before .args .queue))))
-slice-is c = let d = c .before .before in c .part .ensures ∙ ap (λ (b : List ℕ). take slotSize (drop (d .due-slot .result * slotSize) b)) (c .before .after .ensures)
+slice-is c = let d = c .before .before in c .part .ensures ∙ ap (λ (b : List ℕ). take slotSize (drop (d .due-slot .result * slotSize) b)) (c .before .skip .ensures)
 
 slice-long : (c : tie.After-part) → length (now (c .part .result)) ≡ slotSize
 slice-long c =

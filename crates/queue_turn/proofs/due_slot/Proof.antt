@@ -22,7 +22,7 @@ next-slot-requires c κs =
     let h = c .before .before in
     let s = h .before .before .before in
     let l : length (now (s .args .creds)) ≡ tableSize Creds = search needs in (
-      omega (arith, h .held .ensures, min-le-right (s .args .h .ncreds) 24),
+      omega (arith, h .capped .ensures, min-le-right (s .args .h .ncreds) 24),
       omega (arith, queue s .long),
       slots-table (now (s .args .m)) (queue s) .fits,
     )
@@ -32,14 +32,14 @@ returns c =
     let call = c .before .before in
     let h = call .before .before .before in
     let s = h .before .before .before in
-    absurd (due-none (tables s) (now (s .args .m)) (s .pre .0) _ (h .held .ensures) _ (call .next-slot .ensures) (s .pre .1) (c .enum-told .given .1))
+    absurd (due-none (tables s) (now (s .args .m)) (s .pre .0) _ (h .capped .ensures) _ (call .next-slot .ensures) (s .pre .1) (c .enum-told .given .1))
 
 returns-2 : tie.Need-returns-2
 returns-2 c =
     let call = c .before .before .before in
     let h = call .before .before .before in
     let s = h .before .before .before in
-    due-found (tables s) (now (s .args .m)) (s .pre .0) _ (h .held .ensures) _ (call .next-slot .ensures) _ (c .before .i .given .1)
+    due-found (tables s) (now (s .args .m)) (s .pre .0) _ (h .capped .ensures) _ (call .next-slot .ensures) _ (c .before .i .given .1)
 
 pub due-slot-spec : {M : Type 1} → Rattle.queue_turn.proofs.due_slot.Statement.statement M
 due-slot-spec = tie.close (tie.spec

@@ -1,6 +1,6 @@
 -- `next_slot`: the three steps.
 use Rattle.rows.proofs.Prelude.{_≤_, arith, needs}
-use Rattle.rules_waiting.specs.Slots.{roundOf}
+use Rattle.rules_terminal.specs.Slots.{roundOf}
 use Rattle.queue_turn.proofs.TurnLaws.{before-bound, next-first, next-nobody, next-rest}
 use Rattle.queue_turn.proofs.next_slot.Tie as tie
 

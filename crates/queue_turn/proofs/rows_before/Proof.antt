@@ -3,8 +3,8 @@ use Rattle.rows.proofs.Prelude.{_≡_, sym, ap, _∙_, map, arith, take, needs}
 use Rattle.rows.specs.Rows.{rowsOf}
 use Rattle.rules.specs.declared.Table.the-variants.{Creds}
 use Rattle.rules.specs.Tables.{stride}
-use Rattle.rules_waiting.specs.Slots.{roundOf}
-use Rattle.queue_turn.specs.Turns.{before}
+use Rattle.rules_terminal.specs.Slots.{roundOf}
+use Rattle.queue_turn.specs.Turns.{rowsAhead}
 use Rattle.queue_turn.proofs.TurnLaws.{behind, before-anew, before-bound, before-zero, before-else}
 use Rattle.queue_turn.proofs.rows_before.Tie as tie
 
@@ -18,7 +18,7 @@ abbrev start : tie.After-find → tie.Start
 start f = f .before .before .before .before .before .before .before .before
 
 found : (f : tie.After-find) → behind (start f .args .count) (f .find .result)
-    ≡ before (roundOf (start f .args .m .now)) (map (take 2) (rowsOf (stride Creds) (start f .args .count) (start f .args .creds .now)))
+    ≡ rowsAhead (roundOf (start f .args .m .now)) (map (take 2) (rowsOf (stride Creds) (start f .args .count) (start f .args .creds .now)))
 found f =
     let s = start f in
     let two = f .before in

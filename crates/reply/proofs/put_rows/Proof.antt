@@ -10,7 +10,7 @@ put-creds-requires : tie.Need-put-creds-requires
 put-creds-requires c κs =
     let held = c .before .before in
     let l : length (now (held .before .before .before .args .creds)) ≡ tableSize Creds = search needs in
-    omega (arith, held .held .ensures)
+    omega (arith, held .capped .ensures)
 
 pub put-rows-spec : {M : Type 1} → Rattle.reply.proofs.put_rows.Statement.statement M
 unfolding rowBytes
@@ -19,11 +19,11 @@ put-rows-spec = tie.close (tie.spec
     (λ c κs. search needs) (λ c κs. search needs) (λ c. search needs) (λ c κs. search needs) (λ c. search needs)
     (λ c. let bodies = c .before .before in
     let held = bodies .before .before .before in
-    rw (held .before .match .keys1, ← bodies-held _ _ _ (held .held .ensures)) (bodies .put-creds .ensures))
+    rw (held .before .match .keys1, ← bodies-held _ _ _ (held .capped .ensures)) (bodies .put-creds .ensures))
     (λ c. search needs)
     (λ c. let put = c .before .before in
     let held = put .before .before .before .before in
-    rw (held .before .match .keys2, ← row-part _ _ _ _ (held .held2 .ensures) (put .before .part .ensures)) (put .put .ensures))
+    rw (held .before .match .keys2, ← row-part _ _ _ _ (held .capped2 .ensures) (put .before .part .ensures)) (put .put .ensures))
     (λ c. search needs)
     (λ c. let roles = c .before .before in
     let row = roles .before in

@@ -10,14 +10,14 @@ use Rattle.report.proofs.Lines.{Running, run-start, run-turn, run-cut, 
 use Rattle.report.proofs.put_lines.Tie as tie
 
 abbrev Inv-loop : tie.InvT-loop
-Inv-loop out₀ at input p₀ t₀ rest₀ place₀ out p t rest place = Running input out₀ at out p t rest place
+Inv-loop out₀ at input p₀ t₀ rest₀ number₀ out p t rest number = Running input out₀ at out p t rest number
 
 abbrev μ-loop : tie.MeasureT-loop
-μ-loop out₀ at input p₀ t₀ rest₀ place₀ out p t rest place = length rest
+μ-loop out₀ at input p₀ t₀ rest₀ number₀ out p t rest number = length rest
 
 -- the length that the rest has behind its clock
 long : (c : tie.After-be16 Inv-loop μ-loop) → c .be16 .result ≡ lengthOf (c .before .before .before .loop .rest .now)
-long c = rw (c .before .after .ensures) at (c .be16 .ensures)
+long c = rw (c .before .skip .ensures) at (c .be16 .ensures)
 
 small : (c : tie.After-be16 Inv-loop μ-loop) → c .be16 .result < 65536
 small c = field-below _ 0 16 16 _ (omega arith) (c .be16 .ensures)
@@ -41,10 +41,10 @@ returns c =
 bound : (c : tie.After-shared-slice-known Inv-loop μ-loop) → length (now (c .before .before .args .input)) ≤ largest
 bound c = omega arith
 
-add-place : tie.Need-add-place Inv-loop μ-loop
-add-place c =
+add-number : tie.Need-add-number Inv-loop μ-loop
+add-number c =
     let at = c .before .before .before .before .before .before .before .before .before .before .before .before .before in
-    omega (arith, at .loop .inv .places, bound (at .before .before))
+    omega (arith, at .loop .inv .numbers, bound (at .before .before))
 
 loop-again : tie.Need-loop-again Inv-loop μ-loop
 loop-again c =
@@ -65,5 +65,5 @@ put-lines-spec = tie.close (tie.spec
     (λ c. run-start _ _ (omega arith) (omega arith) (c .start-tables .ensures))
     (λ c κs. search needs) (λ c κs. search needs) (λ c. search needs) (λ c. omega (arith, small c)) (λ c κs. search needs) same-length
     returns (λ c κs. search needs) (λ c. search needs) (λ c. search needs) (λ c. search needs) (λ c κs. search needs)
-    (λ c κs. search needs) (λ c. search needs) (λ c. search needs) (λ c. search needs) add-place (λ c. search needs) loop-again
+    (λ c κs. search needs) (λ c. search needs) (λ c. search needs) (λ c. search needs) add-number (λ c. search needs) loop-again
     (λ c. writing-length (c .before .loop .inv .writing)) (λ c. run-end (c .before .loop .inv) (c .loop-test .left)))

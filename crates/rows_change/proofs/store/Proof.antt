@@ -3,8 +3,8 @@ use Rattle.rows.proofs.Prelude.{_≡_, sym, _∙_, List, _≤_, arith, length, 
 use native.Mathlib.Nat.{le-mul-of-pos-right}
 use Rattle.rows.specs.declared.Found.the-variants.{Nothing}
 use Rattle.rows.specs.Rows.{Row, rowsOf, numberedAs}
-use Rattle.rows.specs.Contracts.{placeFrom}
-use Rattle.rows.proofs.Laws.{numbered-key, place-inside, row-within, stored-at, stored-end, end-inside}
+use Rattle.rows.specs.Contracts.{indexFrom}
+use Rattle.rows.proofs.Laws.{numbered-key, index-inside, row-within, stored-at, stored-end, end-inside}
 use Rattle.rows_change.proofs.store.Tie as tie
 
 abbrev start : tie.After-find → tie.Start
@@ -16,17 +16,17 @@ two s = let h : 2 ≤ s .args .stride = s .pre .0 .numbered in let e : length (n
 abbrev table : tie.Start → List Row
 table s = rowsOf (s .args .stride) (s .args .count) (now (s .args .rows))
 
-place-is : (c : tie.After-find) → placeFrom 0 (numberedAs (now (start c .args .row))) (table (start c)) ≡ c .find .result
-place-is c = sym (c .find .ensures ∙ rw (numbered-key (now (start c .args .row)) (two (start c))))
+found-is : (c : tie.After-find) → indexFrom 0 (numberedAs (now (start c .args .row))) (table (start c)) ≡ c .find .result
+found-is c = sym (c .find .ensures ∙ rw (numbered-key (now (start c .args .row)) (two (start c))))
 
-missing : (c : tie.After-enum-told) → let s = start (c .before .before) in placeFrom 0 (numberedAs (now (s .args .row))) (table s) ≡ Nothing
-missing c = place-is (c .before .before) ∙ c .enum-told .given .1
+missing : (c : tie.After-enum-told) → let s = start (c .before .before) in indexFrom 0 (numberedAs (now (s .args .row))) (table s) ≡ Nothing
+missing c = found-is (c .before .before) ∙ c .enum-told .given .1
 
 returns : tie.Need-returns
 returns c =
     let at = c .before .before .before .before .before in
     let call = c .before .before .put-row in
-    stored-at _ _ _ _ (start (at .before .before) .pre .0) _ (place-is (at .before .before) ∙ at .place .given .1) _ (call .ensures) (call .kept .0)
+    stored-at _ _ _ _ (start (at .before .before) .pre .0) _ (found-is (at .before .before) ∙ at .found .given .1) _ (call .ensures) (call .kept .0)
 
 returns-2 : tie.Need-returns-2
 returns-2 c =
@@ -38,7 +38,7 @@ put-row-requires : tie.Need-put-row-requires
 put-row-requires c κs =
     let at = c .before .before in
     let s = start (at .before .before) in
-    (s .pre .1 .0, row-within _ _ _ _ (s .pre .0 .fits) (place-inside _ _ _ _ (s .pre .0) _ (place-is (at .before .before) ∙ at .place .given .1)))
+    (s .pre .1 .0, row-within _ _ _ _ (s .pre .0 .fits) (index-inside _ _ _ _ (s .pre .0) _ (found-is (at .before .before) ∙ at .found .given .1)))
 
 put-row-requires-2 : tie.Need-put-row-requires-2
 put-row-requires-2 c κs =

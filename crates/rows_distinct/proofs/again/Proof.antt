@@ -2,7 +2,7 @@
 -- Assumes nothing.
 use Rattle.rows.proofs.Prelude.{_≡_, sym, ap, _∙_, _*_, _≤_, arith, length, take, drop, length-drop, needs, not-true}
 use Rattle.rows.specs.Rows.{rowsOf, some, numberedAs}
-use Rattle.rows.proofs.Laws.{some-numbered, some-place, isAt}
+use Rattle.rows.proofs.Laws.{some-numbered, some-index, isAt}
 use Rattle.rows_distinct.proofs.again.Tie as tie
 
 -- what a search for the number's two bytes says
@@ -12,7 +12,7 @@ told c =
     let s = c .before .before .before .before in
     let row = drop (s .args .i * s .args .stride) (s .args .rows .now) in
     let long : 2 ≤ length row = rw length-drop (omega arith) in
-    rw (c .find .ensures, ← some-place, c .before .part .ensures, some-numbered (s .args .stride) row (s .pre .0 .0) long)
+    rw (c .find .ensures, ← some-index, c .before .part .ensures, some-numbered (s .args .stride) row (s .pre .0 .0) long)
 
 pub again-spec : {M : Type 1} → Rattle.rows_distinct.proofs.again.Statement.statement M
 again-spec = tie.close (tie.spec

@@ -3,14 +3,14 @@ use Rattle.rows.proofs.Prelude.{_≡_, _∙_, List, ℕ, _≤_, _<_, length, lt
 use Rattle.rules_store.specs.Store.{mismatchFrom, toCopy}
 use Rattle.store.proofs.to_copy.Tie as tie
 
-module _ (from : ℕ) (old new : List ℕ) (place : ℕ) (e : place ≡ mismatchFrom from old new) where
-  here : place < length new → place ≡ toCopy from old new
+module _ (from : ℕ) (old new : List ℕ) (offset : ℕ) (e : offset ≡ mismatchFrom from old new) where
+  here : offset < length new → offset ≡ toCopy from old new
   unfolding toCopy
-  here h = rw (← e, lt-ltb place (length new) h)
+  here h = rw (← e, lt-ltb offset (length new) h)
 
-  anew : length new ≤ place → mismatchFrom 0 old new ≡ toCopy from old new
+  anew : length new ≤ offset → mismatchFrom 0 old new ≡ toCopy from old new
   unfolding toCopy
-  anew h = rw (← e, le-ltb place (length new) h)
+  anew h = rw (← e, le-ltb offset (length new) h)
 
 pub to-copy-spec : {M : Type 1} → Rattle.store.proofs.to_copy.Statement.statement M
 to-copy-spec = tie.close (tie.spec

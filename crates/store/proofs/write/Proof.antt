@@ -14,19 +14,19 @@ module _ (store new : List ℕ) (count at : ℕ) (e : count ≡ counter (length 
   within = rw spare-is (spare-at-most (length new) store)
 
   -- where the search begins, in which image, and what it gives
-  module _ (from start place : ℕ) (old : List ℕ) (b : start ≡ from - at) (o : old ≡ take (length new) (drop at store)) (p : place ≡ toCopy start old new) where
-    place-is : toCopy (from - spareAt (length new) store) (spare (length new) store) new ≡ place
+  module _ (from start offset : ℕ) (old : List ℕ) (b : start ≡ from - at) (o : old ≡ take (length new) (drop at store)) (p : offset ≡ toCopy start old new) where
+    offset-is : toCopy (from - spareAt (length new) store) (spare (length new) store) new ≡ offset
     unfolding spare imageAt
-    place-is = rw (← spare-is, ← b, ← o) (sym p)
+    offset-is = rw (← spare-is, ← b, ← o) (sym p)
 
-    copies : place < length new → Write (at + place) (getD new place 0) ≡ write store new from
+    copies : offset < length new → Write (at + offset) (getD new offset 0) ≡ write store new from
     unfolding write writeAt
-    copies h = rw (place-is, lt-ltb place (length new) h, ← spare-is)
+    copies h = rw (offset-is, lt-ltb offset (length new) h, ← spare-is)
 
-    raises : length new ≤ place → (mark byte : ℕ) → mark ≡ length new + length new + count % 8 → byte ≡ (getD store mark 0 + 1) % 256
+    raises : length new ≤ offset → (mark byte : ℕ) → mark ≡ length new + length new + count % 8 → byte ≡ (getD store mark 0 + 1) % 256
         → Write mark byte ≡ write store new from
     unfolding write writeAt raise markAt raised
-    raises h mark byte q v = rw (place-is, le-ltb place (length new) h, ← e, ← q, ← v)
+    raises h mark byte q v = rw (offset-is, le-ltb offset (length new) h, ← e, ← q, ← v)
 
 add-t13 : tie.Need-add-t13
 add-t13 c =

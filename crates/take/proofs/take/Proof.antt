@@ -4,11 +4,11 @@ use Rattle.rows.specs.Rows.{Row, hasKey, without}
 use Rattle.rules.specs.Record.{Request}
 use Rattle.rules.specs.Tables.{tablesOf, sound}
 use Rattle.rules.specs.Defaults.{Defaults, defaults}
-use Rattle.rules_waiting.specs.Slots.{Seat, Round, after, roundOf, waiting, queueOf}
-use Rattle.rules_waiting.specs.Terminal.{Terminal, terminal, soundTerminal, queueAfter, turn}
-use Rattle.rules_waiting.proofs.Sound.{terminal-parts}
+use Rattle.rules_terminal.specs.Slots.{Seat, Round, afterSeat, roundOf, waiting, queueOf}
+use Rattle.rules_terminal.specs.Terminal.{Terminal, terminal, soundTerminal, queueAfter, turn}
+use Rattle.rules_terminal.proofs.Sound.{terminal-parts}
 use Rattle.queue.specs.Queue.{IsQueue}
-use Rattle.execute.proofs.TurnedAway.{turned-buffer, turned-queue, turned-said}
+use Rattle.execute.proofs.TurnedAway.{turned-buffer, turned-queue, turned-result}
 use Rattle.take.proofs.Laws.{seat-is, can-leave, left-queue, left-round, left-waiting, ready, nothing-taken, handed, one-taken}
 use Rattle.take.proofs.take.Tie as tie
 
@@ -66,14 +66,14 @@ leaves c =
 
 -- the memory once the seat was left
 left-is : (c : tie.After-dequeue) → let x = terminal-of (found (due-of (decided-of c))) in
-    c .dequeue .last .0 ≡ queueOf (after (turn x)) (without (hasKey 0 (turn x)) (waiting (x .queue)))
+    c .dequeue .last .0 ≡ queueOf (afterSeat (turn x)) (without (hasKey 0 (turn x)) (waiting (x .queue)))
 left-is c =
     let due = due-of (decided-of c) in
     let x = terminal-of (found due) in
-    c .dequeue .ensures ∙ ap (λ (p : Seat). queueOf (after p) (without (hasKey 0 p) (waiting (x .queue)))) (seat-is x _ (due .due-record .ensures))
+    c .dequeue .ensures ∙ ap (λ (p : Seat). queueOf (afterSeat p) (without (hasKey 0 p) (waiting (x .queue)))) (seat-is x _ (due .due-record .ensures))
 
 -- its round and its slots
-left-turn : (c : tie.After-dequeue) → let x = terminal-of (found (due-of (decided-of c))) in roundOf (c .dequeue .last .0) ≡ after (turn x)
+left-turn : (c : tie.After-dequeue) → let x = terminal-of (found (due-of (decided-of c))) in roundOf (c .dequeue .last .0) ≡ afterSeat (turn x)
 left-turn c =
     let told = found (due-of (decided-of c)) in
     let x = terminal-of told in
@@ -92,7 +92,7 @@ returns c =
     let call = told .before .before in
     let s = start call in
     nothing-taken (lists s) (s .args .h) (now (s .args .creds)) (now (s .args .aces)) (now (s .args .queue))
-    (s .args .clock) (capacity s) _ (call .check-take .ensures) _ (told .enum-told2 .given .1) _ (c .refused .ensures) _ refl _
+    (s .args .clock) (capacity s) _ (call .check-take .ensures) _ (told .enum-told2 .given .1) _ (c .number-alone .ensures) _ refl _
 
 returns-2 : tie.Need-returns-2
 returns-2 c =
@@ -108,8 +108,8 @@ returns-2 c =
     let r = no .enum-told4 .given .1 in
     one-taken (lists s) (x .tables) (x .queue) (s .args .clock) (capacity s) _ (call .check-take .ensures)
     (told .enum-told .given .1) _ (due .due-record .ensures) _ (part-of made .part .ensures) _ _ _ _
-    (turned-said (lists s) (s .args .h) (now (s .args .creds)) (now (s .args .aces))
-    q (is-sound told) _ (made .decide .ensures) _ r _ (c .before .refused2 .ensures))
+    (turned-result (lists s) (s .args .h) (now (s .args .creds)) (now (s .args .aces))
+    q (is-sound told) _ (made .decide .ensures) _ r _ (c .before .number-alone2 .ensures))
     (turned-buffer (lists s) (x .tables) q (is-sound told) _ (made .decide .ensures) _ r _)
     (left-is left ∙ turned-queue (lists s) (x .tables) q (is-sound told) _ (made .decide .ensures) _ r _ _)
 

@@ -1,6 +1,6 @@
 -- `tillerclover_clear_at`: a new terminal, whatever was there.
 use Rattle.rows.proofs.Prelude.{needs}
-use Rattle.rules_waiting.specs.Terminal.{clearedTerminal}
+use Rattle.rules_terminal.specs.Terminal.{clearedTerminal}
 use Rattle.terminal.proofs.tillerclover_clear_at.Tie as tie
 
 pub tillerclover-clear-at-spec : {M : Type 1} → Rattle.terminal.proofs.tillerclover_clear_at.Statement.statement M

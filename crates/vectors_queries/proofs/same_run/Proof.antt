@@ -15,5 +15,5 @@ same-run-spec = tie.close (tie.spec
     (λ c. search needs) (λ c. search needs) (λ c. search needs) (λ c. search needs) (λ c. search needs) (λ c. search needs)
     (λ c. search needs) (λ c. search needs)
     (λ c. let w = c .before .before .before .before in let l = w .before .before .before .loop in
-    length-set (l .memory) (w .step-from .result .place) (w .step-from .result .byte) ∙ l .inv)
+    length-set (l .memory) (w .step-from .result .address) (w .step-from .result .byte) ∙ l .inv)
     (λ c κs. search needs) (λ c. search needs) (λ c. search needs))

@@ -11,15 +11,15 @@ returns c =
     let devowner = rowners .before .before .before .before in
     rw (
       devowner .put .ensures .buffer,
-      devowner .before .after2 .ensures,
+      devowner .before .skip2 .ensures,
       rowners .put2 .ensures .buffer,
-      rowners .before .after3 .ensures,
+      rowners .before .skip3 .ensures,
       creds .put3 .ensures .buffer,
       creds .before .counted .ensures,
       aces .put4 .ensures .buffer,
       aces .before .counted2 .ensures,
       aces .before .before .after-counted .ensures,
-      devowner .before .before .before .after .ensures,
+      devowner .before .before .before .skip .ensures,
       heads .byte-at .ensures,
       c .before .before .byte-at2 .ensures,
       c .before .byte-at3 .ensures,

@@ -7,11 +7,11 @@ use Rattle.terminal.proofs.storing.tillerclover_store_current.Tie as ti
 module _ (n : ℕ) (store lent : List ℕ) (fit : Bool) (e : fit ≡ eqb (length store) (sizeFor n)) where
   found : (at : ℕ) → fit ≡ true → at ≡ currentAt n store → StoresCurrent store n 0 lent (at ∷ [])
   unfolding currentAnswer currentIn
-  found at q a = record { answer = rw (← e, q); place-is = rw (← e, q, a) }
+  found at q a = record { answer = rw (← e, q); address-is = rw (← e, q, a) }
 
   unfit : fit ≡ false → StoresCurrent store n 2 lent lent
   unfolding currentAnswer currentIn
-  unfit q = record { answer = rw (← e, q); place-is = rw (← e, q) }
+  unfit q = record { answer = rw (← e, q); address-is = rw (← e, q) }
 
 returns : tie.Need-returns
 returns c = let test = c .before .before in found _ _ _ _ (test .before .fits2 .ensures) _ (test .if1 .taken) (c .before .current-at .ensures)

@@ -2,15 +2,15 @@
 use Rattle.rows.proofs.Prelude.{_≡_, sym, ap, _∙_, List, ℕ, needs}
 use Rattle.rules_store.specs.declared.Step.{Step}
 use Rattle.rules_store.specs.Store.{next}
-use Rattle.rules_interface.specs.Storing.{answerIn, placeIn, byteIn, StoresNext}
+use Rattle.rules_interface.specs.Storing.{answerIn, addressIn, byteIn, StoresNext}
 use Rattle.terminal.proofs.storing.tillerclover_store_next.Tie as tie
 
 -- what C gets of a step is what it gets of the same step
-gets : (store image : List ℕ) (from : ℕ) (s : Step) (place byte : List ℕ) → s ≡ next store image from
-    → StoresNext store image from (answerIn s) place byte (placeIn s place) (byteIn s byte)
-gets store image from s place byte e = record {
+gets : (store image : List ℕ) (from : ℕ) (s : Step) (address byte : List ℕ) → s ≡ next store image from
+    → StoresNext store image from (answerIn s) address byte (addressIn s address) (byteIn s byte)
+gets store image from s address byte e = record {
   answer = ap answerIn e;
-  place-is = ap (λ (t : Step). placeIn t place) e;
+  address-is = ap (λ (t : Step). addressIn t address) e;
   byte-is = ap (λ (t : Step). byteIn t byte) e;
 }
 
