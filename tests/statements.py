@@ -11,9 +11,6 @@ import re
 from antt import File, Project, path_of, variables, words_of
 from sources import fault
 
-# what the rules' own theorems are stated with has yet to move
-LATER = ("crates/rules/proofs/", "crates/rows/proofs/")
-
 
 def is_examples(path):
     """A file of examples, or of what they are made of."""
@@ -46,7 +43,7 @@ def check_statement(project, path, name):
     for declaration in project.file(path).declared(name):
         text = "\n".join(declaration.around + [declaration.statement])
         for home, there in sorted(set(named(project, path, text, frozenset())), key=str):
-            if home and "/proofs/" in home and not home.startswith(LATER) and not (is_examples(path) and is_examples(home)) and (home, there) != (path, name):
+            if home and "/proofs/" in home and not (is_examples(path) and is_examples(home)) and (home, there) != (path, name):
                 fault(f"PROOFS.md: the statement of {name} names {there}, and that stands in {home}")
 
 

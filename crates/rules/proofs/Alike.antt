@@ -3,7 +3,7 @@
 -- Afterwards they still differ in these roles alone.
 use Rattle.rows.proofs.Prelude.{_≡_, refl, sym, ap, ap₂, _∙_, Bool, true, false, not, _&&_, cond, List, [], _∷_, _++_, map, ℕ, _≤_, _<_, arith, length, take}
 use Rattle.rows.proofs.Prelude.{length-append, length-map, length-replicate, length-take, eqb, leb, ones, cond-cases, bool-cases, contradiction}
-use Rattle.rows.specs.Rows.{Row, packed, hasKey, numberedAs, firstRow, rowsBefore, some, without, stored}
+use Rattle.rows.specs.Rows.{Row, packed, numberedAs, firstRow, rowsBefore, some, without, stored}
 use Rattle.rows.proofs.Laws.{kept}
 use Rattle.rows.proofs.Kept.{AllLong}
 use Rattle.rules.specs.declared.Tables.{Tables}
@@ -17,7 +17,7 @@ use Rattle.rules.specs.Bits.{be16}
 use Rattle.rules.specs.Directory.{links, someSecurity}
 use Rattle.rules.specs.Bodies.{newOwner, rowNumber, credSubject}
 use Rattle.rules.specs.Roles.{bodyOf, withoutRoles}
-use Rattle.rules.specs.Tables.{headOf, rowOf, rows, withRows, rowOwner, sound, withState, withOwner, withRowOwner, tableSize}
+use Rattle.rules.specs.Tables.{headOf, rowOf, rows, withRows, rowOwner, sound, withState, withOwner, withRowOwner, tableSize, SoundRows}
 use Rattle.rules.specs.Permission.{numbered, senderRowIn, senderRow, connectionOf, isRow, subjectIs, names, isOwner, byOwner, byNoOwner, effectiveOf}
 use Rattle.rules.specs.Permission.{permission, permissionOf}
 use Rattle.rules.specs.States.{moveAllowed}
@@ -29,13 +29,13 @@ use Rattle.rules.specs.Checks.{noRow, noCredential, missing, full, check
 use Rattle.rules.specs.Links.{ownRecord, permits, setOf, asksLinks, linkSet, linksOf}
 use Rattle.rules.specs.Defaults.{Defaults}
 use Rattle.rules.specs.Outcome.{entered, effectBy, outcomeAt, outcome, responseTo, tablesAfter}
-use Rattle.rules.specs.Isolation.{namesOwner, mayFit, mayAlter, Harmless, redacted, redactedIn, compared}
+use Rattle.rules.specs.Isolation.{namesOwner, mayFit, mayAlter, Harmless, redacted, redactedIn, compared, nobody}
 use Rattle.rules.proofs.BitLaws.{bits-small}
 use Rattle.rules.proofs.CheckLaws.{check-cases}
 use Rattle.rules.proofs.Answers.{long-enough, rows-are, rows-count}
 use Rattle.rules.proofs.BodyLaws.{Valid, action-valid}
 use Rattle.rules.proofs.TableLaws.{table-is, few-rows, rows-long, rows-with}
-use Rattle.rules.proofs.SoundKept.{SoundRows, Passed, passed-all, stored-sound, removed-sound, asserted-sound}
+use Rattle.rules.proofs.SoundKept.{Passed, passed-all, stored-sound, removed-sound, asserted-sound}
 use Rattle.rules.proofs.LinkLaws.{own-sender}
 use Rattle.rules.proofs.RowMaps.{without-roles-body, part-same, goes-same, numbered-same, as-same, some-map, before-map, without-map, first-map}
 use Rattle.rules.proofs.RowMaps.{stored-map, bodies-map}
@@ -291,9 +291,6 @@ module _ (chosen : Sender → Bool) where
     }
 
 -- ---- nothing else is left out: where nobody is chosen, the compared tables are the tables
-
-pub nobody : Sender → Bool
-nobody x = false
 
 none-hidden : (ws : List Row) → map (redacted nobody) ws ≡ ws
 unfolding redacted nobody

@@ -16,11 +16,12 @@ use Rattle.rules.specs.Tables.{rows, sound}
 use Rattle.rules.specs.Permission.{numbered, senderRow}
 use Rattle.rules.specs.Checks.{badLength, noRow, noCredential}
 use Rattle.rules.specs.States.{stateAllows}
+use Rattle.rules.specs.Asserted.{Held}
 use Rattle.rules.proofs.BitLaws.{bits-word, bits-small}
 use Rattle.rules.proofs.RecordLaws.{sender-partner}
 use Rattle.rules.proofs.Answers.{long-enough, table-parts}
 use Rattle.rules.proofs.BodyLaws.{Valid}
-use Rattle.rules.proofs.RoleLaws.{Held, held-parts, asserted-body}
+use Rattle.rules.proofs.RoleLaws.{held-parts, asserted-body}
 use Rattle.rules.specs.Sizes.{credBodySize}
 
 -- ---- the first row that passes a test

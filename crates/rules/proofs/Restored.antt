@@ -13,7 +13,7 @@ use Rattle.rules.specs.Directory.{resourceOf, isSecurity, entryOf}
 use Rattle.rules.specs.declared.Sender.{Sender}
 use Rattle.rules.specs.Record.{Request, resource, sender}
 use Rattle.rules.specs.Roles.{withoutRoles, bodyOf}
-use Rattle.rules.specs.Tables.{headOf, headSound, longest, storable, rowOf, count, rows, rowOwner, sound}
+use Rattle.rules.specs.Tables.{headOf, headSound, longest, storable, rowOf, count, rows, rowOwner, sound, SoundRows}
 use Rattle.rules.specs.Defaults.{Defaults}
 use Rattle.rules.specs.Permission.{U, has, senderRow, byOwner, byNoOwner, permission, permissionOf}
 use Rattle.rules.specs.Contracts.Theorems.{effective}
@@ -29,9 +29,8 @@ use Rattle.rules.proofs.BodyLaws.{sized}
 use Rattle.rules.proofs.TableLaws.{few-rows}
 use Rattle.rules.proofs.Refusals.{permitted-passes, permitted-outcome}
 use Rattle.rules.proofs.RoleLaws.{held-parts, body-long, unasserted-is}
-use Rattle.rules.proofs.SoundKept.{SoundRows}
 use Rattle.rules.proofs.ReadBack.{bodies, reply-is, owner-long, long-bodies, read-rows, rows-themselves, bare-distinct, same-rows}
-use Rattle.rules.proofs.RowsStored.{all-stored, all-may, otherwise, by-others, holder-security}
+use Rattle.rules.proofs.RowsStored.{long-stored, all-may, otherwise, by-others, holder-security}
 
 -- ---- the reply
 
@@ -83,7 +82,7 @@ pub reply-judged : (d : Defaults) (k : Table) (t u : Tables) (q : Request) (qs :
 reply-judged d k t u q qs l p takes m =
     let h = retrieved-sound d k t q p in
     let is = rows-themselves k (rows k t) (table-parts k t h .stores) in
-    rw is at (all-stored d k u (bodies k (rows k t)) qs takes (long-bodies k t h) (rw is (bare-sound k t h)) (rw (rows-told d k t q p l) at m))
+    rw is at (long-stored d k u (bodies k (rows k t)) qs takes (long-bodies k t h) (rw is (bare-sound k t h)) (rw (rows-told d k t q p l) at m))
 
 -- ---- by anyone, while there is no owner
 

@@ -11,12 +11,7 @@ use Rattle.rules.specs.Bodies.{credStorable}
 use Rattle.rules.specs.Roles.{noRole, free, sameRole, distinctRoles, unasserted, bodyOf, rolesOf, rolesInForce}
 use Rattle.rules.specs.Roles.{rolesSound, credSound, withoutRoles, withRole, bothTaken, asserted}
 use Rattle.rules.specs.Sizes.{credBodySize, roleSlotSize, roleSlots, rolesSize, credRowSize}
-
--- the parts of a credential row
-pub record Held (w : Row) : Type 0 where
-  pub long : length w ≡ credRowSize
-  pub body : credStorable (bodyOf w) ≡ true
-  pub roles : rolesSound w ≡ true
+use Rattle.rules.specs.Asserted.{Few, Held, Role}
 
 pub held-parts : (w : Row) → credSound w ≡ true → Held w
 unfolding credSound
@@ -30,16 +25,6 @@ pub body-long : (w : Row) → length w ≡ credRowSize → length (bodyOf w) ≡
 body-long w l = length-take-le credBodySize w (omega arith)
 
 -- ---- roles that stand in the places of one row
-
-abbrev Role : Row → Type 0
-Role p = (length p ≡ roleSlotSize) × (noRole p ≡ false)
-
--- at most two, and different ones
-abbrev pub Few : List Row → Type 0
-Few [] = Unit {0}
-Few (p ∷ []) = Role p
-Few (p ∷ q ∷ []) = Role p × Role q × (sameRole p q ≡ false)
-Few (p ∷ q ∷ r ∷ ps) = ⊥
 
 -- the place that begins the bytes, where it is not free
 slot-role : (clock : ℕ) (x : List ℕ) → roleSlotSize ≤ length x → free clock (take roleSlotSize x) ≡ false → Role (take roleSlotSize x)

@@ -8,7 +8,6 @@ use Rattle.rules.specs.declared.Tables.{Tables}
 use Rattle.rules.specs.declared.Table.the-variants.{Creds}
 use Rattle.rules.specs.declared.Action.the-variants.{Assert}
 use Rattle.rules.specs.declared.Check.the-variants.{Pass}
-use Rattle.rules.specs.declared.Sender.{Sender}
 use Rattle.rules.specs.Bits.{bit, bits, be16}
 use Rattle.rules.specs.Directory.{entryOf, roles}
 use Rattle.rules.specs.Record.{Request, headerOf, sender, verb, resource, connection, body}
@@ -21,30 +20,16 @@ use Rattle.rules.specs.Reading.{replyOf, reads}
 use Rattle.rules.specs.Checks.{checks, verdict, numberOf, isMalformed}
 use Rattle.rules.specs.Contracts.Groups.{rowChecks, capacityChecks}
 use Rattle.rules.specs.Outcome.{Outcome, effectBy, responseTo, tablesAfter}
+use Rattle.rules.specs.Verdicts.{noneApplies, earlier}
+use Rattle.rules.specs.Asserted.{Held, RoleAsserted, insteadOf}
 use Rattle.rules.proofs.Answers.{passed, table-parts, no-reply-fits}
 use Rattle.rules.proofs.CheckLaws.{skip-all}
 use Rattle.rules.proofs.TableLaws.{rows-with}
-use Rattle.rules.proofs.RoleLaws.{Held, body-long, few-in-force, few-with-role, slotsIn, few-slots, asserted-body}
+use Rattle.rules.proofs.RoleLaws.{body-long, few-in-force, few-with-role, slotsIn, few-slots, asserted-body}
 use Rattle.rules.proofs.OwnRow.{asserts, own-held, own-two, asserted-two, asserted-number}
 use Rattle.rules.proofs.SoundKept.{Passed, passed-all, asserted-sound}
-use Rattle.rules.proofs.Refusals.{noneApplies, none-permitted, permitted-passes, permitted-outcome, answer-is}
-use Rattle.rules.proofs.SubjectRows.{earlier}
+use Rattle.rules.proofs.Refusals.{none-permitted, permitted-passes, permitted-outcome, answer-is}
 use Rattle.rules.specs.Sizes.{credBodySize, roleSlotSize, rolesSize}
-
--- the row v, or new where v has the number of own
-unfoldable pub insteadOf : Row → Row → Row → Row
-insteadOf own new v = cond (numberedAs own v) new v
-
--- of the tables before and after, for the sender s who asserted the body b at this clock
-pub record RoleAsserted (clock : ℕ) (b : List ℕ) (s : Sender) (t t′ : Tables) : Type 0 where
-  -- each row stands where it stood: the sender's own is its row afterwards, and every other is as it was
-  pub rows-left : rows Creds t′ ≡ map (insteadOf (senderRow t s) (senderRow t′ s)) (rows Creds t)
-  -- the own row has the same body
-  pub own-body : bodyOf (senderRow t′ s) ≡ bodyOf (senderRow t s)
-  -- at any clock: of the roles that were in force, and the new one in the place of its equal or else at the end, those that are in force
-  pub own-roles : (later : ℕ) → rolesInForce later (senderRow t′ s) ≡ without (free later) (withRole b (rolesInForce clock (senderRow t s)))
-  -- access rows and all else in the tables are the same
-  pub others : t′ ≡ withRows Creds t (rows Creds t′)
 
 -- ---- a row stored in the place of the one with its number
 
@@ -163,7 +148,7 @@ module _ (d : Defaults) (t : Tables) (q : Request) (updates : verb (q .bytes) �
 
   -- where the checks before 13 pass: 22 where both places hold other roles in force, and else 0
   pub role-answer : noneApplies (earlier t (permission (q .clock) t (q .bytes)) (q .bytes)) ≡ true
-      → responseTo d t q .answer ≡ cond (bothTaken (body (q .bytes)) (rolesInForce (q .clock) own)) 22 0
+      → responseTo d t q .answer ≡ cond (bothTaken (body (q .bytes)) (rolesInForce (q .clock) (senderRow t (sender (q .bytes))))) 22 0
   unfolding reads verdict
   role-answer h =
       let r = q .bytes in

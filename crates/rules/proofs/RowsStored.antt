@@ -1,11 +1,11 @@
 -- Theorem, U1 and U10: records that may store are all permitted when they are judged one straight after the other, from tables without rows of their kind.
 -- The rows are then those of their bodies, in their order, and nothing else is changed. At any clocks and buffer lengths, for any default lists.
 use Rattle.rows.proofs.Prelude.{_≡_, refl, sym, ap, ap₂, _∙_, Bool, true, false, not, _||_, List, [], _∷_, _++_, map, append-assoc, append-nil, ℕ, _<_, arith}
-use Rattle.rows.proofs.Prelude.{length, drop, getD, length-append, le-ltb, lt-leb, and-left, and-right, contradiction, or-true-right}
+use Rattle.rows.proofs.Prelude.{length, drop, getD, length-append, eqb-true, le-ltb, lt-leb, and-left, and-right, contradiction, or-true-right}
 use mathlib.Core.Bool.{or-assoc}
 use Rattle.rows.specs.Rows.{Row, stored, rowsOf, some, every, unionOf}
 use Rattle.rows.proofs.Laws.{every-append}
-use Rattle.rows.proofs.Kept.{AllLong}
+use Rattle.rows.proofs.Kept.{AllLong, every-long}
 use Rattle.rows.proofs.Restore.{store-absent}
 use Rattle.rows.proofs.Repeat.{none-before}
 use Rattle.rules.specs.declared.Tables.{Tables}
@@ -17,7 +17,7 @@ use Rattle.rules.specs.Directory.{resourceOf, isSecurity, entryOf}
 use Rattle.rules.specs.declared.Sender.{Sender}
 use Rattle.rules.specs.declared.Sender.the-variants.{Unauthenticated, Partner}
 use Rattle.rules.specs.Record.{Request, sender, verb, resource, body}
-use Rattle.rules.specs.Tables.{headOf, longest, capacity, storable, rowOf, count, rows, rowsIn, rowOwner, withRows, sound}
+use Rattle.rules.specs.Tables.{headOf, longest, capacity, storable, rowOf, count, rows, rowsIn, rowOwner, withRows, sound, SoundRows, eachLong}
 use Rattle.rules.specs.Defaults.{Defaults}
 use Rattle.rules.specs.Permission.{U, has, numbered, senderRow, connectionOf, grants, isOwner, byOwner, byNoOwner, byRoles, effectiveOf}
 use Rattle.rules.specs.Contracts.Theorems.{effective}
@@ -34,7 +34,7 @@ use Rattle.rules.proofs.Answers.{passed, rows-count}
 use Rattle.rules.proofs.PermissionLaws.{has-or}
 use Rattle.rules.proofs.TableLaws.{rows-with}
 use Rattle.rules.proofs.Refusals.{answer-is, permitted-outcome}
-use Rattle.rules.proofs.SoundKept.{SoundRows, passed-all, stored-sound, sound-kept}
+use Rattle.rules.proofs.SoundKept.{passed-all, stored-sound, sound-kept}
 
 -- ---- permission to update
 
@@ -211,8 +211,13 @@ creds-in-clear t q b takes m =
     none-known t (sender (q .bytes)) (none-held Creds t (takes .noRows)) (passed (senderChecks (rows Creds t) (q .bytes)) (m .passes) 7)
 
 -- records that may store the bodies are permitted throughout, and leave their rows
-pub all-stored : (d : Defaults) (k : Table) (t : Tables) (bs : List (List ℕ)) (qs : List Request)
+pub long-stored : (d : Defaults) (k : Table) (t : Tables) (bs : List (List ℕ)) (qs : List Request)
     → TakesRows k t → AllLong (longest k) bs → SoundRows k (map (rowOf k) bs) → AllMayStore k t qs bs → AllStored d k t qs (map (rowOf k) bs)
-all-stored d k t bs qs takes l x m =
+long-stored d k t bs qs takes l x m =
     let none = none-held k t (takes .noRows) in
     store d k t none (takes .inState) t [] bs qs (record { isSound = takes .isSound; holds = none; others = refl }) l x m
+
+pub all-stored : (d : Defaults) (k : Table) (t : Tables) (bs : List (List ℕ)) (qs : List Request)
+    → TakesRows k t → eachLong (longest k) bs ≡ true → SoundRows k (map (rowOf k) bs) → AllMayStore k t qs bs → AllStored d k t qs (map (rowOf k) bs)
+unfolding eachLong
+all-stored d k t bs qs takes l = long-stored d k t bs qs takes (every-long (longest k) _ (λ w e. eqb-true (length w) (longest k) e) bs l)

@@ -3,7 +3,7 @@
 use Rattle.rows.proofs.Prelude.{_≡_, refl, sym, ap, _∙_, Bool, true, false, not, _&&_, _||_, cond, List, [], _∷_, ℕ, zero, suc, _*_, _/_, _≤_, arith, length}
 use Rattle.rows.proofs.Prelude.{length-map, eqb, eq-eqb, eqb-false, le-leb, leb-true, not-false, cond-cases, bool-cases, contradiction, and-left, and-right}
 use Rattle.rows.proofs.Prelude.{and-both, or-not-left, or-true-right}
-use Rattle.rows.specs.Rows.{Row, rowsOf, packed, allZero, same, every, distinctNumbers, stored, without, hasKey}
+use Rattle.rows.specs.Rows.{Row, rowsOf, packed, allZero, same, every, distinctNumbers, stored, without}
 use Rattle.rows.proofs.Laws.{length-rowsOf}
 use Rattle.rows.proofs.Kept.{every-long, rowsOf-packed, packed-table, every-stored, every-without, distinct-stored, distinct-without}
 use Rattle.rules.specs.declared.Tables.{Tables}
@@ -16,7 +16,7 @@ use Rattle.rules.specs.Lookup.{lookup}
 use Rattle.rules.specs.Record.{headerOf, Request, body, connection, sender}
 use Rattle.rules.specs.Bodies.{nil, isNil, newOwner}
 use Rattle.rules.specs.Roles.{rolesInForce, asserted}
-use Rattle.rules.specs.Tables.{headOf, stride, longest, capacity, storable, rowOf, rows, rowsIn, withRows, rowsSound, headSound, sound, empty, tableSize}
+use Rattle.rules.specs.Tables.{headOf, stride, longest, capacity, storable, rowOf, rows, rowsIn, withRows, rowsSound, headSound, sound, empty, tableSize, SoundRows}
 use Rattle.rules.specs.Defaults.{Defaults, listed, goodList, defaultRows, fresh}
 use Rattle.rules.specs.Keys.{goes}
 use Rattle.rules.specs.Action.{action}
@@ -32,12 +32,6 @@ use Rattle.rules.proofs.TableLaws.{few-rows, few-stored, few-without}
 use Rattle.rules.proofs.Refusals.{unsound-refused}
 use Rattle.rules.proofs.RoleLaws.{asserted-storable}
 use Rattle.rules.proofs.OwnRow.{asserts, own-held, asserted-count}
-
--- rows that a sound table may hold
-pub record SoundRows (k : Table) (ws : List Row) : Type 0 where
-  pub few : length ws ≤ capacity k
-  pub stores : every (storable k) ws ≡ true
-  pub distinct : distinctNumbers ws ≡ true
 
 -- a row table with these rows
 rows-sound : (k : Table) (size : ℕ) (ws : List Row) → length ws * stride k ≤ size → SoundRows k ws → rowsSound k (length ws) (packed size ws) ≡ true

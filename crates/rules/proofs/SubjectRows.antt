@@ -1,7 +1,6 @@
 -- Theorems, U3: a permitted DELETE of cred with 16 bytes leaves exactly the rows without that subject, in their order, and all else as it was.
 -- 13 where no row has it. Of a record at any clock, with any buffer and for any default lists, and for every subject.
 use Rattle.rows.proofs.Prelude.{_≡_, refl, sym, ap, _∙_, Bool, true, false, cond, List, _++_, ℕ, length, take, drop, bool-cases, contradiction}
-use mathlib.Core.List.{List·Memᴰ, Sublistᴰ}
 use Rattle.rows.specs.Rows.{Row, same, some, without, hasKey}
 use Rattle.rows.proofs.Kept.{same-true, same-refl}
 use Rattle.rows.proofs.Without.{without-order, without-gone, without-left}
@@ -13,36 +12,23 @@ use Rattle.rules.specs.declared.Check.the-variants.{Pass}
 use Rattle.rules.specs.Record.{sender, headerOf, Request, body}
 use Rattle.rules.specs.Bodies.{isNil, credSubject}
 use Rattle.rules.specs.Contracts.Theorems.{hasSubject}
-use Rattle.rules.specs.Tables.{headOf, rows, withRows}
+use Rattle.rules.specs.Tables.{rows, withRows}
 use Rattle.rules.specs.Defaults.{Defaults}
 use Rattle.rules.specs.Permission.{senderRow, permission}
 use Rattle.rules.specs.Action.{ifAllowed, deleteCreds, action}
 use Rattle.rules.specs.Reading.{replyOf, reads}
 use Rattle.rules.specs.Contracts.Theorems.{deletes}
 use Rattle.rules.specs.Checks.{verdict, numberOf, isMalformed}
-use Rattle.rules.specs.Contracts.Groups.{formChecks, requestChecks, stateChecks, rowChecks, capacityChecks}
+use Rattle.rules.specs.Contracts.Groups.{rowChecks, capacityChecks}
 use Rattle.rules.specs.Outcome.{responseTo, tablesAfter}
+use Rattle.rules.specs.Verdicts.{noneApplies, earlier}
+use Rattle.rules.specs.Deleted.{SubjectGone}
 use Rattle.rules.proofs.Answers.{passed, no-reply-fits}
 use Rattle.rules.proofs.CheckLaws.{skip-all}
 use Rattle.rules.proofs.TableLaws.{rows-with}
 use Rattle.rules.proofs.SoundKept.{removed-sound}
-use Rattle.rules.proofs.Refusals.{noneApplies, none-permitted, answer-is}
+use Rattle.rules.proofs.Refusals.{none-permitted, answer-is}
 use Rattle.rules.proofs.Deletes.{deleted, delete-verb, delete-is}
-
--- of the tables before and after, for the subject s
-pub record SubjectGone (s : List ℕ) (t t′ : Tables) : Type 0 where
-  -- the rows are those without the subject
-  pub rows-left : rows Creds t′ ≡ without (hasSubject s) (rows Creds t)
-  -- so none of them has it, each row of another subject is one of them, and they stand in their order
-  pub orphaned : (w : Row) → List·Memᴰ w (rows Creds t′) → credSubject w ≡ s → ⊥
-  pub left : (w : Row) → List·Memᴰ w (rows Creds t) → (credSubject w ≡ s → ⊥) → List·Memᴰ w (rows Creds t′)
-  pub order : Sublistᴰ (rows Creds t′) (rows Creds t)
-  -- access rows and all else in the tables are the same
-  pub others : t′ ≡ withRows Creds t (rows Creds t′)
-
--- the checks before 13: 1 to 7, 16 and 8 to 12, where p is the record's effective permission
-abbrev pub earlier : Tables → ℕ → List ℕ → List (ℕ × Bool)
-earlier t p r = formChecks t r ++ requestChecks p (headerOf r) (action r) ++ stateChecks (headOf t) (action r)
 
 -- ---- the key of 16 bytes at 2 is the subject
 

@@ -1,18 +1,19 @@
 -- Theorems, U4: what a permitted DELETE reports, and what it leaves in the memory that wears; everything else reports 0 and 0.
 -- Of a record at any clock, with any buffer and for any default lists. The bytes' length is that which the struct's type gives.
-use Rattle.rows.proofs.Prelude.{_≡_, refl, sym, ap, _∙_, Bool, true, false, List, [], _∷_, ℕ, _+_, _*_, _≤_, _<_, arith, length, take, drop, cond-cases}
-use Rattle.rows.specs.Rows.{Row, some, without, hasKey, numberAt}
+use Rattle.rows.proofs.Prelude.{_≡_, refl, sym, ap, _∙_, Bool, true, false, List, [], _+_, arith, length, cond-cases}
+use Rattle.rows.specs.Rows.{Row, some, without}
 use Rattle.rows.proofs.Gap as gap
 use Rattle.rules.specs.declared.Tables.{Tables}
 use Rattle.rules.specs.declared.StoreRange.{StoreRange}
 use Rattle.rules.specs.declared.Table.{Table}
 use Rattle.rules.specs.Record.{Request, body}
-use Rattle.rules.specs.Tables.{headOf, stride, capacity, count, bytes, rows, withRows, sound, tableSize}
+use Rattle.rules.specs.Tables.{headOf, count, bytes, rows, withRows, sound, tableSize}
 use Rattle.rules.specs.Defaults.{Defaults}
 use Rattle.rules.specs.Keys.{goes}
 use Rattle.rules.specs.StoreRange.{noRange, gapOf}
-use Rattle.rules.specs.Contracts.Theorems.{deletes, overwritten}
+use Rattle.rules.specs.Contracts.Theorems.{deletes}
 use Rattle.rules.specs.Outcome.{Response, Outcome, responseTo, tablesAfter}
+use Rattle.rules.specs.Deleted.{NoRange, Worn}
 use Rattle.rules.proofs.Answers.{rows-count}
 use Rattle.rules.proofs.TableLaws.{rows-with}
 use Rattle.rules.proofs.SoundKept.{removed-sound}
@@ -20,24 +21,6 @@ use Rattle.rules.proofs.Refusals.{not-told, permitted-outcome}
 use Rattle.rules.proofs.Gaps as gaps
 use Rattle.rules.proofs.Gaps.{with-count}
 use Rattle.rules.proofs.Deletes.{deleted, quiet}
-
--- of the tables before a DELETE, those after it and the places reported
-pub record Worn (k : Table) (t t′ : Tables) (p : StoreRange) : Type 0 where
-  -- the old bytes, with the places overwritten and nothing else, are the new bytes
-  pub stored : overwritten (stride k) p (bytes k t) (bytes k t′) ≡ bytes k t′
-  -- no byte before the first place is another, nor one behind the last
-  pub front : take (p .first * stride k) (bytes k t′) ≡ take (p .first * stride k) (bytes k t)
-  pub rest : drop ((p .first + p .count) * stride k) (bytes k t′) ≡ drop ((p .first + p .count) * stride k) (bytes k t)
-  -- the last place is the last that held a row
-  pub ends : p .first + p .count ≡ count k (headOf t)
-  -- each place holds another row number than before, and no other place does
-  pub changed : (i : ℕ) → p .first ≤ i → i < p .first + p .count → numberAt (stride k) i (bytes k t′) ≡ numberAt (stride k) i (bytes k t) → ⊥
-  pub before : (i : ℕ) → i < p .first → numberAt (stride k) i (bytes k t′) ≡ numberAt (stride k) i (bytes k t)
-  pub behind : (i : ℕ) → p .first + p .count ≤ i → i < capacity k → numberAt (stride k) i (bytes k t′) ≡ numberAt (stride k) i (bytes k t)
-  -- it is 0 when the place is unused
-  pub unused : (i : ℕ) → count k (headOf t′) ≤ i → i < capacity k → numberAt (stride k) i (bytes k t′) ≡ 0 ∷ 0 ∷ []
-  -- all else in the tables is the same, but for the count
-  pub others : t′ ≡ withRows k t (rows k t′)
 
 -- ---- rows that go
 
@@ -76,16 +59,10 @@ delete-worn d t q k h z l =
       others = ap (withRows k t) (sym (rows-with k t (without orphaned (rows k t)) (s .few) (s .stores)));
     })
 
--- everything else: a record that is refused, one that is no DELETE of rows, and a DELETE after which as many rows are held
-pub record NoRange (d : Defaults) (t : Tables) (q : Request) : Type 0 where
-  pub refused : (responseTo d t q .answer ≡ 0 → ⊥) → responseTo d t q .store ≡ noRange
-  pub no-delete : ((k : Table) → deletes k (q .bytes) ≡ false) → responseTo d t q .store ≡ noRange
-  pub no-rows : (k : Table) → deletes k (q .bytes) ≡ true → count k (headOf (tablesAfter d t q)) ≡ count k (headOf t) → responseTo d t q .store ≡ noRange
-
 range-unless : (d : Defaults) (t : Tables) (q : Request) → (responseTo d t q .answer ≡ 0 → responseTo d t q .store ≡ noRange) → responseTo d t q .store ≡ noRange
 range-unless d t q = not-told (λ (x : Response). x .store) noRange d t q (λ n. refl)
 
-pub no-range : (d : Defaults) (t : Tables) (q : Request) → NoRange d t q
+pub no-range : (d : Defaults) (t : Tables) (q : Request) → NoRange q t (tablesAfter d t q) (responseTo d t q)
 no-range d t q = record {
   refused = λ other. range-unless d t q (λ z. absurd (other z));
   no-delete = λ other. range-unless d t q (λ z. ap (λ (o : Outcome). o .response .store) (permitted-outcome d t q z) ∙ quiet t (q .bytes) other);

@@ -12,28 +12,15 @@ use Rattle.rules.specs.Defaults.{Defaults}
 use Rattle.rules.specs.Permission.{permission}
 use Rattle.rules.specs.Reading.{reads}
 use Rattle.rules.specs.Links.{ownRecord, permits, setOf, asksLinks, linkSet, linksOf, noLinks}
-use Rattle.rules.specs.Contracts.Theorems.{inLinks, countBelow}
+use Rattle.rules.specs.Contracts.Theorems.{inLinks}
 use Rattle.rules.specs.Checks.{checks}
 use Rattle.rules.specs.Outcome.{Response, Outcome, responseTo}
+use Rattle.rules.specs.YardSet.{NoSet, YardSet}
 use Rattle.rules.proofs.Answers.{passed, long-enough, no-reply-fits}
 use Rattle.rules.proofs.BodyLaws.{security-number}
 use Rattle.rules.proofs.Refusals.{zero-passes, not-told, permitted-passes, permitted-outcome}
 use Rattle.rules.proofs.AnyBody.{any-body}
-use Rattle.rules.proofs.LinkLaws.{Own, own, from, within, set-below, in-set, ones-held}
-
--- of a permitted RETRIEVE or UPDATE of /yard
-pub record YardSet (d : Defaults) (t : Tables) (q : Request) : Type 0 where
-  -- a resource is in the set exactly where it is one of 8 to 14, and its own record gets answer 0,
-  -- at the same clock and on the same tables, with any buffer and for any default lists
-  pub member : (n : ℕ) → n < 64 → (d′ : Defaults) (capacity : ℕ)
-      → inLinks (responseTo d t q .links .set) n ≡ (leb 8 n && leb n 14 && eqb (responseTo d′ t (received (q .clock) (ownRecord (q .bytes) n) capacity) .answer) 0)
-  -- that record has the verb and the sender of the one that asks, and no body; with any body that has room it gets the same answer
-  pub own : (n : ℕ) → n < 64 → Own (q .bytes) n
-  pub with-body : (n : ℕ) → n < 64 → 8 ≤ n → (b : List ℕ) → length b ≤ 252 → (d′ : Defaults) (capacity : ℕ)
-      → responseTo d′ t (received (q .clock) (ownRecord (q .bytes) n ++ b) capacity) .answer ≡ responseTo d′ t (received (q .clock) (ownRecord (q .bytes) n) capacity) .answer
-  -- the set has 64 bits, and the size is the number of its members
-  pub fits : responseTo d t q .links .set < 2 ^ 64
-  pub size : responseTo d t q .links .size ≡ countBelow 64 (inLinks (responseTo d t q .links .set))
+use Rattle.rules.proofs.LinkLaws.{own, from, within, set-below, in-set, ones-held}
 
 -- ---- a link's own record
 
@@ -59,7 +46,7 @@ from-8 n h = bool-cases (leb 8 n) (λ e. rw e (ap₂ (λ (x y : Bool). x && y) (
 
 -- ---- of a record
 
-pub yard-set : (d : Defaults) (t : Tables) (q : Request) → asksLinks (headerOf (q .bytes)) ≡ true → responseTo d t q .answer ≡ 0 → YardSet d t q
+pub yard-set : (d : Defaults) (t : Tables) (q : Request) → asksLinks (headerOf (q .bytes)) ≡ true → responseTo d t q .answer ≡ 0 → YardSet t q (responseTo d t q .links)
 unfolding linkSet
 yard-set d t q asks z =
     let r = q .bytes in
@@ -82,15 +69,10 @@ yard-set d t q asks z =
       size = ap (λ (x : Links). x .size) are ∙ ap (λ (x : Links). ones (x .set)) (sym are) ∙ ones-held (responseTo d t q .links .set) small;
     }
 
--- every other record: one that is refused, and one that is no RETRIEVE or UPDATE of /yard
-pub record NoSet (d : Defaults) (t : Tables) (q : Request) : Type 0 where
-  pub refused : (responseTo d t q .answer ≡ 0 → ⊥) → responseTo d t q .links ≡ noLinks
-  pub other : asksLinks (headerOf (q .bytes)) ≡ false → responseTo d t q .links ≡ noLinks
-
 links-unless : (d : Defaults) (t : Tables) (q : Request) → (responseTo d t q .answer ≡ 0 → responseTo d t q .links ≡ noLinks) → responseTo d t q .links ≡ noLinks
 links-unless d t q = not-told (λ (x : Response). x .links) noLinks d t q (λ n. refl)
 
-pub no-set : (d : Defaults) (t : Tables) (q : Request) → NoSet d t q
+pub no-set : (d : Defaults) (t : Tables) (q : Request) → NoSet q (responseTo d t q)
 unfolding linkSet ones onesIn
 no-set d t q = record {
   refused = λ other. links-unless d t q (λ z. absurd (other z));

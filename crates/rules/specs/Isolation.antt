@@ -65,3 +65,7 @@ redactedIn chosen t = withRows Creds t (map (redacted chosen) (rows Creds t))
 -- the tables without the asserted roles of the chosen partners; tables that are not sound are compared whole
 unfoldable pub compared : (Sender → Bool) → Tables → Tables
 compared chosen t = cond (sound t) (redactedIn chosen t) t
+
+-- nobody is chosen
+unfoldable pub nobody : Sender → Bool
+nobody x = false

@@ -15,12 +15,16 @@ use Rattle.rules.specs.Contracts.Theorems.{deletes}
 use Rattle.rules.specs.Links.{asksLinks}
 use Rattle.rules.specs.Outcome.{Response, Outcome, responseTo, tablesAfter}
 use Rattle.rules.specs.Checks.{verdict}
+use Rattle.rules.specs.Verdicts.{noneApplies, earlier}
+use Rattle.rules.specs.Deleted.{SubjectGone, Worn, NoRange}
+use Rattle.rules.specs.YardSet.{YardSet, NoSet}
+use Rattle.rules.specs.Asserted.{RoleAsserted}
 use Rattle.rules.proofs.CheckLaws.{check-cases}
-use Rattle.rules.proofs.Refusals.{noneApplies, permitted-outcome}
-use Rattle.rules.proofs.SubjectRows.{SubjectGone, earlier, subject-gone, subject-answer}
-use Rattle.rules.proofs.Wear.{Worn, NoRange, delete-worn, no-range}
-use Rattle.rules.proofs.YardSet.{YardSet, NoSet, yard-set, no-set}
-use Rattle.rules.proofs.RoleRows.{RoleAsserted, role-asserted, role-answer}
+use Rattle.rules.proofs.Refusals.{permitted-outcome}
+use Rattle.rules.proofs.SubjectRows.{subject-gone, subject-answer}
+use Rattle.rules.proofs.Wear.{delete-worn, no-range}
+use Rattle.rules.proofs.YardSet.{yard-set, no-set}
+use Rattle.rules.proofs.RoleRows.{role-asserted, role-answer}
 use Rattle.rules_terminal.specs.Terminal.{Terminal, directChecks, due, judged}
 use Rattle.rules_terminal.specs.Inputs.{takeAt, direct}
 use Rattle.rules_terminal.specs.CallRun.{responseOf}
@@ -101,17 +105,17 @@ module _ (d : Defaults) (m : Memory) (c : CCall) (q : Request) (judges : JudgesO
       (rw after-is (delete-worn d (tablesOn m) q k asks (zero-is z) long))
 
   -- U4: everything else tells C 0 and 0
-  pub c-no-places : (toldOn c (q .bytes) .store ≡ responseTo d (tablesOn m) q .store) × NoRange d (tablesOn m) q
-  c-no-places = (ap (λ (y : Response). y .store) told-is, no-range d (tablesOn m) q)
+  pub c-no-places : NoRange q (tablesOn m) (tablesOn (c .memory)) (toldOn c (q .bytes))
+  c-no-places = rw (told-is, after-is) (no-range d (tablesOn m) q)
 
   -- U9: the set that a permitted RETRIEVE or UPDATE of /yard tells C
-  pub c-yard-set : asksLinks (headerOf (q .bytes)) ≡ true → answerTold c ≡ 0
-      → (toldOn c (q .bytes) .links ≡ responseTo d (tablesOn m) q .links) × YardSet d (tablesOn m) q
-  c-yard-set asks z = (ap (λ (y : Response). y .links) told-is, yard-set d (tablesOn m) q asks (zero-is z))
+  pub c-yard-set : asksLinks (headerOf (q .bytes)) ≡ true → answerTold c ≡ 0 → YardSet (tablesOn m) q (toldOn c (q .bytes) .links)
+  c-yard-set asks z =
+      subst (λ (y : Response). YardSet (tablesOn m) q (y .links)) (sym told-is) (yard-set d (tablesOn m) q asks (zero-is z))
 
   -- U9: everything else tells C the empty set
-  pub c-no-set : (toldOn c (q .bytes) .links ≡ responseTo d (tablesOn m) q .links) × NoSet d (tablesOn m) q
-  c-no-set = (ap (λ (y : Response). y .links) told-is, no-set d (tablesOn m) q)
+  pub c-no-set : NoSet q (toldOn c (q .bytes))
+  c-no-set = rw told-is (no-set d (tablesOn m) q)
 
   -- U11: a permitted UPDATE of roles changes the sender's own row alone, and of it the roles
   pub c-role-asserted : verb (q .bytes) ≡ 2 → resource (q .bytes) ≡ roles → answerTold c ≡ 0

@@ -15,7 +15,7 @@ use Rattle.rules.specs.Directory.{entryOf, someSecurity}
 use Rattle.rules.specs.Record.{Request, sender, body}
 use Rattle.rules.specs.Bodies.{rowNumber, aceKind}
 use Rattle.rules.specs.Keys.{goes}
-use Rattle.rules.specs.Tables.{headOf, rowOf, rows, withRows, rowOwner, sound}
+use Rattle.rules.specs.Tables.{headOf, rowOf, rows, withRows, rowOwner, sound, SoundRows}
 use Rattle.rules.specs.Defaults.{Defaults}
 use Rattle.rules.specs.Permission.{numbered, senderRowIn, senderRow, subjectIs, isOwner, permission}
 use Rattle.rules.specs.Action.{action}
@@ -25,7 +25,7 @@ use Rattle.rules.specs.Isolation.{namesOwner, rowAlters, mayFit, mayAlter, Harm
 use Rattle.rules.proofs.Answers.{table-parts}
 use Rattle.rules.proofs.CheckLaws.{check-cases}
 use Rattle.rules.proofs.TableLaws.{rows-with}
-use Rattle.rules.proofs.SoundKept.{SoundRows, Passed, passed-all, stored-sound, removed-sound, asserted-sound, sound-kept}
+use Rattle.rules.proofs.SoundKept.{Passed, passed-all, stored-sound, removed-sound, asserted-sound, sound-kept}
 use Rattle.rules.proofs.OwnRow.{asserts, asserted-two, numbered-two, number-is, same-number}
 use Rattle.rules.proofs.Alike.{first-none, compared-at, harmless-alike}
 use Rattle.rules.proofs.Isolated.{silent}

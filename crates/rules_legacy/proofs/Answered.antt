@@ -9,7 +9,7 @@ use Rattle.rules.specs.Reading.{filled}
 use Rattle.rules.specs.Checks.{verdict, numberOf}
 use Rattle.rules_legacy.specs.OldList.{badFile}
 use Rattle.rules_legacy.specs.Conversion.{rowsMade, tooManyRows, bufferTooShort, conversionVerdict, handedOut, conversionReply, Converted}
-use Rattle.rules_legacy.proofs.Stored.{rows-long, rows-size, few-rows}
+use Rattle.rules_legacy.proofs.Stored.{made-rows-long, rows-size, few-rows}
 use Rattle.rules.specs.declared.Table.the-variants.{Aces}
 use Rattle.rules.specs.Sizes.{aceRowSize}
 use Rattle.rules.specs.Tables.{tableSize}
@@ -59,4 +59,4 @@ never-25 f few capacity h = le-ltb capacity (length (joined (rowsMade f))) (omeg
 pub rows-listed : (f : List ℕ) → listed (joined (rowsMade f)) ≡ rowsMade f
 rows-listed f =
     let n : length (joined (rowsMade f)) / aceRowSize ≡ length (rowsMade f) = omega (arith, rows-size f) in
-    rw (n, ← append-nil (joined (rowsMade f))) (rowsOf-joined aceRowSize (rowsMade f) [] (rows-long f))
+    rw (n, ← append-nil (joined (rowsMade f))) (rowsOf-joined aceRowSize (rowsMade f) [] (made-rows-long f))

@@ -1,6 +1,6 @@
 -- Theorems: the rows made of a good file are rows that a body could store, of 36 bytes each, numbered 1, 2, .., so that an access list holds them.
 use Rattle.rows.proofs.Prelude.{_≡_, refl, sym, ap, _∙_, true, false, not, _&&_, List, [], _∷_, _++_, map, ℕ, zero, suc, _+_, _*_, _%_, _≤_, _<_, arith, length}
-use Rattle.rows.proofs.Prelude.{length-append, eqb, ltb-false, ne-eqb, cond-cases, bool-cases, and-both, or-left, or-right}
+use Rattle.rows.proofs.Prelude.{length-append, eqb, eq-eqb, ltb-false, ne-eqb, cond-cases, bool-cases, and-both, or-left, or-right}
 use Rattle.rows.specs.Rows.{Row, allZero, some, every, distinctNumbers, joined, storedAll}
 use Rattle.rows.proofs.Laws.{every-append}
 use Rattle.rows.proofs.Kept.{AllLong, length-joined}
@@ -9,8 +9,7 @@ use Rattle.rules.specs.declared.Table.the-variants.{Aces}
 use Rattle.rules.specs.Bits.{bit, bits, be16}
 use Rattle.rules.specs.Directory.{known, someBelow}
 use Rattle.rules.specs.Bodies.{rowNumber, inSet, setKnown, everySecond, subjectStorable, aceStorable}
-use Rattle.rules.specs.Tables.{capacity}
-use Rattle.rules.proofs.SoundKept.{SoundRows}
+use Rattle.rules.specs.Tables.{capacity, SoundRows, eachLong}
 use Rattle.rules_legacy.specs.OldList.{oldZeros, inOldSet, isAnybody, oldRows, badRow, badFile}
 use Rattle.rules_legacy.specs.Conversion.{uuidEntry, connectionSubject, connectionEntry, entriesOf, allEntries, numberedFrom, rowsMade, tooManyRows}
 use Rattle.rules_legacy.specs.Conversion.{numbersFrom}
@@ -104,17 +103,26 @@ all-storable i (o ∷ os) a h k good =
 
 -- ---- of a file
 
+-- by a test of each
+long-each : (s : ℕ) (ws : List Row) → AllLong s ws → eachLong s ws ≡ true
+unfolding eachLong every
+long-each s [] a = refl
+long-each s (w ∷ ws) a = and-both _ _ (eq-eqb (length w) s (a .0)) (long-each s ws (a .1))
+
 module _ (f : List ℕ) where
-  pub rows-long : AllLong aceRowSize (rowsMade f)
+  pub made-rows-long : AllLong aceRowSize (rowsMade f)
   unfolding rowsMade
-  rows-long = all-long _ (oldRows f) (old-long f)
+  made-rows-long = all-long _ (oldRows f) (old-long f)
+
+  pub rows-long : eachLong aceRowSize (rowsMade f) ≡ true
+  rows-long = long-each aceRowSize (rowsMade f) made-rows-long
 
   pub rows-count : length (rowsMade f) ≡ length (allEntries (oldRows f))
   unfolding rowsMade
   rows-count = numbered-length _ (allEntries (oldRows f))
 
   pub rows-size : length (joined (rowsMade f)) ≡ length (rowsMade f) * aceRowSize
-  rows-size = length-joined aceRowSize (rowsMade f) rows-long
+  rows-size = length-joined aceRowSize (rowsMade f) made-rows-long
 
   -- no number stands twice
   pub rows-distinct : distinctNumbers (rowsMade f) ≡ true

@@ -10,12 +10,11 @@ use Rattle.rows.proofs.Repeat.{none-before}
 use Rattle.rules.specs.declared.Table.the-variants.{Aces}
 use Rattle.rules.specs.Bits.{be16}
 use Rattle.rules.specs.Directory.{resourceOf, someSecurity}
-use Rattle.rules.specs.Tables.{storable}
+use Rattle.rules.specs.Tables.{storable, SoundRows}
 use Rattle.rules.specs.Permission.{resourceFits}
 use Rattle.rules.specs.Isolation.{alters, rowAlters}
 use Rattle.rules.proofs.BodyLaws.{security-number}
 use Rattle.rules.proofs.PermissionLaws.{security-same}
-use Rattle.rules.proofs.SoundKept.{SoundRows}
 use Rattle.rules_lists.specs.Lists.{listed, badSize, unfit, excessive, listTested}
 use Rattle.rules_lists.specs.Faults.{Behind, Fault, size, row, unstored, excess}
 use Rattle.rules_lists.proofs.Exact.{accepted-faultless, any-fault}

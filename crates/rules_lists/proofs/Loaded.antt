@@ -12,7 +12,7 @@ use Rattle.rules.specs.Bits.{bit, bits, be16}
 use Rattle.rules.specs.Directory.{entryOf, acl2}
 use Rattle.rules.specs.declared.Sender.the-variants.{Partner}
 use Rattle.rules.specs.Record.{Request, sender, credential}
-use Rattle.rules.specs.Tables.{storable, rows, withRows, sound}
+use Rattle.rules.specs.Tables.{storable, rows, withRows, sound, SoundRows}
 use Rattle.rules.specs.Defaults.{Defaults}
 use Rattle.rules.specs.Permission.{U, has, numbered, senderRowIn, isRow, names, isOwner, byOwner, permissionOf}
 use Rattle.rules.specs.Contracts.Theorems.{effective}
@@ -27,9 +27,8 @@ use Rattle.rules.proofs.RecordLaws.{sender-partner}
 use Rattle.rules.proofs.Answers.{table-parts}
 use Rattle.rules.proofs.BodyLaws.{sized}
 use Rattle.rules.proofs.OwnRow.{first-passes, first-every, numbered-two}
-use Rattle.rules.proofs.SoundKept.{SoundRows}
 use Rattle.rules.proofs.ReadBack.{long-bodies, rows-themselves}
-use Rattle.rules.proofs.RowsStored.{otherwise, by-others, all-stored}
+use Rattle.rules.proofs.RowsStored.{otherwise, by-others, long-stored}
 use Rattle.rules.proofs.Restored.{retrieved-sound, rows-told, reply-judged}
 use Rattle.rules.proofs.Gaps.{has-number}
 use Rattle.rules_terminal.specs.Terminal.{Terminal}
@@ -120,7 +119,7 @@ rows-loaded : (d : Defaults) (t : Tables) (ws : List Row) (qs : List Request) �
 rows-loaded d t ws qs ready x e =
     let is = rows-themselves Aces ws (x .stores) in
     let long = every-long aceRowSize (storable Aces) (sized Aces) ws (x .stores) in
-    subst (Loaded d t qs) is (all-stored d Aces t ws qs (ready-takes t ready) long (rw is x) (owners-may t (ready .isSound) ws qs long e))
+    subst (Loaded d t qs) is (long-stored d Aces t ws qs (ready-takes t ready) long (rw is x) (owners-may t (ready .isSound) ws qs long e))
 
 few-rows : (b : List ℕ) → badSize b ≡ false → length (listed b) ≤ 32
 unfolding badSize

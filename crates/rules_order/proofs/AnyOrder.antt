@@ -6,12 +6,12 @@ use Rattle.rows.specs.Rows.{Row, packed, every}
 use Rattle.rows.proofs.Laws.{kept}
 use Rattle.rules.specs.declared.Tables.{Tables}
 use Rattle.rules.specs.declared.Table.the-variants.{Creds, Aces}
-use Rattle.rules.specs.Tables.{storable, rows, withRows, sound, tableSize}
+use Rattle.rules.specs.Tables.{storable, rows, withRows, sound, tableSize, SoundRows}
 use Rattle.rules.specs.Defaults.{Defaults}
 use Rattle.rules.specs.Run.{replies, final}
 use Rattle.rules.proofs.Answers.{table-parts, rows-are, rows-count}
 use Rattle.rules.proofs.TableLaws.{aces-are, table-is, few-rows, rows-with}
-use Rattle.rules.proofs.SoundKept.{SoundRows, sound-with}
+use Rattle.rules.proofs.SoundKept.{sound-with}
 use Rattle.rules_terminal.specs.Slots.{waiting}
 use Rattle.rules_terminal.specs.Round.{seats}
 use Rattle.rules_terminal.specs.Terminal.{Terminal, terminal, slotSound, queueSound, soundTerminal}

@@ -3,7 +3,7 @@
 -- The second tables are the first with other bytes of access rows, so that whatever does not look at these is the same by itself.
 use Rattle.rows.proofs.Prelude.{_≡_, refl, sym, ap, ap₂, subst, _∙_, Bool, true, false, List, [], _∷_, _++_, ℕ, arith, length, length-append, take-at, eqb}
 use Rattle.rows.proofs.Prelude.{bitOr, eqb-true, contradiction, and-left, and-right, and-false-right, cond, cond-cases}
-use Rattle.rows.specs.Rows.{Row, joined, stored, without, hasKey, numberedAs}
+use Rattle.rows.specs.Rows.{Row, joined, stored, without, numberedAs}
 use Rattle.rows.proofs.Kept.{AllLong}
 use Rattle.rules.specs.declared.Tables.{Tables}
 use Rattle.rules.specs.declared.Table.the-variants.{Creds, Aces}
@@ -19,7 +19,7 @@ use Rattle.rules.specs.declared.Sender.{Sender}
 use Rattle.rules.specs.declared.Sender.the-variants.{Unauthenticated, Partner}
 use Rattle.rules.specs.Record.{headerOf, Request, received, sender, verb, resource, body}
 use Rattle.rules.specs.Bodies.{target}
-use Rattle.rules.specs.Tables.{headOf, rowOf, rows, withRows, rowOwner, sound}
+use Rattle.rules.specs.Tables.{headOf, rowOf, rows, withRows, rowOwner, sound, SoundRows}
 use Rattle.rules.specs.Permission.{senderRow, connectionOf, grants, isOwner, byOwner, byNoOwner, byRoles, effectiveOf, permission, permissionOf}
 use Rattle.rules.specs.Action.{action, actionOf, ifAllowed, updateDoxm, updatePstat, storeRow, updateRows, updateRoles, updateAction, deleteNumber, deleteCreds}
 use Rattle.rules.specs.Action.{deleteAction, readAction, securityAction}
@@ -33,7 +33,7 @@ use Rattle.rules.specs.Defaults.{Defaults, fresh}
 use Rattle.rules.specs.Outcome.{Response, Outcome, entered, effectBy, outcome, outcomeAt, outcomeOf, responseTo, tablesAfter}
 use Rattle.rules.proofs.Answers.{table-parts}
 use Rattle.rules.proofs.TableLaws.{rows-with}
-use Rattle.rules.proofs.SoundKept.{SoundRows, Passed, passed-all, stored-sound, removed-sound}
+use Rattle.rules.proofs.SoundKept.{Passed, passed-all, stored-sound, removed-sound}
 use Rattle.rules.proofs.ReadBack.{reply-is, owner-long, long-rows, read-rows}
 use Rattle.rules_order.specs.Reorder.{Reordered}
 use Rattle.rules_order.specs.Order.{OrderOnly, listsAccess, SameListed, SameBut}

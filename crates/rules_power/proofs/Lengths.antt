@@ -10,7 +10,7 @@ use Rattle.rules.specs.declared.Action.{Action}
 use Rattle.rules.specs.declared.Action.the-variants.{Serve, Read, SetRowOwner, SetOwner, SetState, Store, Remove, Assert, Malformed}
 use Rattle.rules.specs.Record.{Request, body, received}
 use Rattle.rules.specs.Bodies.{nil}
-use Rattle.rules.specs.Tables.{stride, storable, withRows, sound, empty, tableSize}
+use Rattle.rules.specs.Tables.{stride, storable, withRows, sound, empty, tableSize, SoundRows}
 use Rattle.rules.specs.Defaults.{Defaults, fresh}
 use Rattle.rules.specs.Keys.{goes}
 use Rattle.rules.specs.Action.{action}
@@ -20,7 +20,7 @@ use Rattle.rules.specs.Outcome.{outcome, outcomeAt, effectBy, entered, tablesAf
 use Rattle.rules.proofs.Answers.{passed}
 use Rattle.rules.proofs.CheckLaws.{check-cases}
 use Rattle.rules.proofs.BodyLaws.{sized}
-use Rattle.rules.proofs.SoundKept.{SoundRows, Passed, passed-all, default-sound, stored-sound, removed-sound, asserted-sound}
+use Rattle.rules.proofs.SoundKept.{Passed, passed-all, default-sound, stored-sound, removed-sound, asserted-sound}
 use Rattle.rules_terminal.specs.Slots.{queueSize}
 use Rattle.rules_terminal.specs.Terminal.{Terminal, soundTerminal, handInChecks, handedIn, takeChecks, due, taken, directChecks, judged, freshTerminal}
 use Rattle.rules_terminal.specs.Inputs.{Input, handIn, takeAt, direct, next}

@@ -10,7 +10,7 @@ use Rattle.rules.specs.declared.Table.the-variants.{Creds, Aces}
 use Rattle.rules.specs.declared.Action.{Action}
 use Rattle.rules.specs.declared.Action.the-variants.{Serve, Read, SetRowOwner, SetOwner, SetState, Store, Remove, Assert, Malformed}
 use Rattle.rules.specs.Record.{Request, body}
-use Rattle.rules.specs.Tables.{rowOf, rows, withRows, sound}
+use Rattle.rules.specs.Tables.{rowOf, rows, withRows, sound, SoundRows}
 use Rattle.rules.specs.Defaults.{Defaults}
 use Rattle.rules.specs.Action.{action}
 use Rattle.rules.specs.Permission.{permission}
@@ -18,7 +18,7 @@ use Rattle.rules.specs.Checks.{checks, verdict}
 use Rattle.rules.specs.Outcome.{outcome, outcomeAt, effectBy, entered, responseTo, tablesAfter}
 use Rattle.rules.proofs.Answers.{rows-count}
 use Rattle.rules.proofs.TableLaws.{rows-with}
-use Rattle.rules.proofs.SoundKept.{SoundRows, Passed, passed-all, stored-sound, removed-sound, asserted-sound, sound-kept}
+use Rattle.rules.proofs.SoundKept.{Passed, passed-all, stored-sound, removed-sound, asserted-sound, sound-kept}
 use Rattle.rules_terminal.specs.Slots.{Seat}
 use Rattle.rules_terminal.specs.Round.{nobody, seats, sameSeats, sameCount}
 use Rattle.rules_terminal.specs.Terminal.{isReset, clears}

@@ -15,13 +15,13 @@ use Rattle.rules.specs.Record.{Request as ByteRequest, body, sender}
 use Rattle.rules.specs.Bodies.{rowNumber, aceStorable}
 use Rattle.rules.specs.Roles.{credSound, asserted, noRole, bothTaken, rolesInForce}
 use Rattle.rules.specs.Keys.{goes}
-use Rattle.rules.specs.Tables.{rows, rowOf, withRows}
+use Rattle.rules.specs.Tables.{rows, rowOf, withRows, SoundRows}
 use Rattle.rules.specs.Defaults.{Defaults, fresh}
 use Rattle.rules.specs.Permission.{senderRow}
 use Rattle.rules.specs.Outcome.{entered, effectBy}
 use Rattle.rules.proofs.BodyLaws.{sized}
 use Rattle.rules.proofs.TableLaws.{rows-with}
-use Rattle.rules.proofs.SoundKept.{SoundRows, Passed, stored-sound, removed-sound, asserted-sound}
+use Rattle.rules.proofs.SoundKept.{Passed, stored-sound, removed-sound, asserted-sound}
 use Rattle.rules.proofs.OwnRow.{asserts, own-storable}
 use Rattle.rules_typed.specs.Lists.{Maybe, put}
 use Rattle.rules_typed.specs.Types.{Credential, Access, Tables, All as AllRows, RowOwners}

@@ -7,7 +7,8 @@ use Rattle.rules.specs.Bodies.{credSubject}
 use Rattle.rules.specs.Roles.{bodyOf, noRole, rolesOf, credSound, asserted, withRole as withRoleBytes, bothTaken as bothTakenBytes}
 use Rattle.rules.specs.Roles.{rolesInForce as rolesInForceBytes, sameRole as sameRoleBytes}
 use Rattle.rules.specs.Sizes.{credBodySize, rolesSize}
-use Rattle.rules.proofs.RoleLaws.{Held, held-parts, body-long, Few, few-in-force, few-with-role, slotsIn, few-slots, no-role-zeros, asserted-body}
+use Rattle.rules.specs.Asserted.{Held, Few}
+use Rattle.rules.proofs.RoleLaws.{held-parts, body-long, few-in-force, few-with-role, slotsIn, few-slots, no-role-zeros, asserted-body}
 use Rattle.rules.proofs.RoleLaws.{asserted-storable}
 use Rattle.rules_typed.specs.Lists.{put}
 use Rattle.rules_typed.specs.Checks.{sameAsserted}

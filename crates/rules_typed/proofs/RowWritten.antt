@@ -9,12 +9,13 @@ use Rattle.rules_typed.proofs.RowsRead.{bytes-join, role-same, zero-byt
 use Rattle.rules_typed.proofs.ByteLaws.{two-same, bits-take, part-within, bytes-take}
 use Rattle.rules_typed.proofs.WriteBack.{two-at}
 use Rattle.rows.proofs.Kept.{same-refl}
+use Rattle.rules.specs.Asserted.{Few}
 use Rattle.rules.proofs.BitLaws.{bits-split, bits-in-byte}
 use Rattle.rules_typed.specs.Types.{Role, Asserted, Credential}
 use Rattle.rules_typed.specs.Reading.{assertedOf, roleOf, credentialAs, credentialIn}
 use Rattle.rules.specs.Roles.{noRole, sameRole as sameRoleBytes, bodyOf, rolesOf, distinctRoles, credSound, rolesSound}
 use Rattle.rules_typed.specs.Lists.{all, distinct, Maybe, none, just, any}
-use Rattle.rules.proofs.RoleLaws.{Few, slotsIn, few-slots, no-role-zeros}
+use Rattle.rules.proofs.RoleLaws.{slotsIn, few-slots, no-role-zeros}
 use Rattle.rows.specs.Rows.{joined, packed, Row, without as withoutRows, some, same}
 use Rattle.rules_typed.proofs.RowExact.{uuid-long, role-long, cred-exact}
 use Rattle.rules_typed.proofs.RoleRead.{few-there}

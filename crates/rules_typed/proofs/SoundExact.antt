@@ -1,5 +1,5 @@
 -- Theorem: tables of bytes are sound exactly where they are the written form of sound typed tables; reading and writing are inverse on these.
-use Rattle.rows.proofs.Prelude.{_≡_, refl, sym, ap₂, Bool, true, not, _&&_, List, [], _∷_, map, _-_, and-both, and-left, and-right, ap, _∙_, _++_, ℕ, _+_}
+use Rattle.rows.proofs.Prelude.{_≡_, refl, sym, ap₂, Bool, true, not, _&&_, List, [], _∷_, map, and-both, and-left, and-right, ap, _∙_, _++_, ℕ}
 use Rattle.rows.proofs.Prelude.{arith, length, take, drop, not-true, take-at, drop-at, drop-drop, take-all, length-append, _||_, contradiction, replicate}
 use Rattle.rows.proofs.Prelude.{leb-true, length-map, length-replicate, false, le-ltb, or-false, not-of-false, _*_, _≤_, leb, ltb, ones, length-take-le}
 use Rattle.rows.proofs.Prelude.{length-drop, le-leb, eqb, eqb-true, eq-eqb}
@@ -21,15 +21,16 @@ use Rattle.rules_typed.proofs.PermissionRead.{cred-long, ace-long, owne
 use Rattle.rules_typed.proofs.RowExact.{uuid-long, uuid-there, cred-exact, access-exact, test-same}
 use Rattle.rules_typed.proofs.RowsRead.{zero-bytes, bytes-join, Place, role-same, each-without, places-good}
 use Rattle.rules_typed.specs.States.{stateNumber, isState}
-use Rattle.rules.specs.Tables.{headSound, rowsSound, rowsIn, sound as soundBytes, withRows, rows}
+use Rattle.rules.specs.Tables.{headSound, rowsSound, rowsIn, sound as soundBytes, withRows, rows, SoundRows}
 use Rattle.rules.specs.declared.Table.the-variants.{Creds, Aces}
-use Rattle.rules.proofs.SoundKept.{SoundRows, sound-with}
+use Rattle.rules.specs.Asserted.{Few}
+use Rattle.rules.proofs.SoundKept.{sound-with}
 use Rattle.rules.specs.declared.Tables.{Tables as ByteTables}
 use Rattle.rules_typed.specs.Struct.{IsStruct, Given}
 use Rattle.rules_typed.proofs.StructKept.{rows-struct}
 use Rattle.rules.proofs.TableLaws.{rows-with, few-rows}
 use Rattle.rules.specs.Bits.{bits}
-use Rattle.rules.proofs.RoleLaws.{Few, held-parts, few-in-force}
+use Rattle.rules.proofs.RoleLaws.{held-parts, few-in-force}
 use Rattle.rules_typed.proofs.ActionRead.{role-body, owner-valid}
 use Rattle.rules_typed.proofs.StateRead.{IsState, of-state}
 use Rattle.rules.proofs.Answers.{sound-parts, table-parts}

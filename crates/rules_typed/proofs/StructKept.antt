@@ -13,7 +13,7 @@ use Rattle.rules.specs.Bodies.{nil, newOwner}
 use Rattle.rules.specs.Roles.{credSound, asserted}
 use Rattle.rules.specs.Sizes.{rolesSize}
 use Rattle.rules.specs.Keys.{goes}
-use Rattle.rules.specs.Tables.{rows, rowOf, rowFrom, withRows, stride, storable, longest, empty, tableSize, withRowOwner, withOwner, withState}
+use Rattle.rules.specs.Tables.{rows, rowOf, rowFrom, withRows, stride, storable, longest, empty, tableSize, withRowOwner, withOwner, withState, SoundRows}
 use Rattle.rules.specs.Defaults.{Defaults, goodList, defaultRows, fresh}
 use Rattle.rules.specs.Permission.{senderRow, permission}
 use Rattle.rules.specs.Action.{action}
@@ -21,7 +21,7 @@ use Rattle.rules.specs.Checks.{verdict, checks}
 use Rattle.rules.specs.Outcome.{entered, effectBy, outcome, outcomeAt, tablesAfter}
 use Rattle.rules.proofs.BodyLaws.{sized}
 use Rattle.rules.proofs.CheckLaws.{check-cases}
-use Rattle.rules.proofs.SoundKept.{SoundRows, Passed, passed-all, default-sound, stored-sound, removed-sound, asserted-sound, sound-kept}
+use Rattle.rules.proofs.SoundKept.{Passed, passed-all, default-sound, stored-sound, removed-sound, asserted-sound, sound-kept}
 use Rattle.rules.proofs.OwnRow.{asserts, own-storable}
 use Rattle.rules_typed.specs.Lists.{Maybe}
 use Rattle.rules_typed.specs.Types.{Credential}
