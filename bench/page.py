@@ -15,11 +15,32 @@ from plot import draw  # noqa: E402
 PAGE, PLOT = "docs/BENCHMARKS.md", "docs/benchmarks.svg"
 # Credential and access rows held, by the name of the tables.
 ROWS = {"few": 2, "1/8": 7, "2/8": 14, "3/8": 21, "half": 28, "5/8": 35, "6/8": 42, "7/8": 49, "full": 56}
-ON_TABLES = ["serve", "foreman", "poll", "assert", "cred", "acl2", "store", "remove", "text", "refuse1", "refuse2", "refuse7", "refuse8"]
+ON_TABLES = [
+    "serve",
+    "foreman",
+    "poll",
+    "assert",
+    "cred",
+    "acl2",
+    "store",
+    "remove",
+    "text",
+    "refuse1",
+    "refuse2",
+    "refuse7",
+    "refuse8",
+]
 FILLS = ["few", "half", "full"]
 ALONE = [
-    ("judge25", "full"), ("hand-in0", "full"), ("hand-in24", "full"), ("take1", "full"), ("take25", "full"), ("test", "32-rows"),
-    ("test", "low-byte"), ("convert", "UUIDs"), ("convert", "anybody"),
+    ("judge25", "full"),
+    ("hand-in0", "full"),
+    ("hand-in24", "full"),
+    ("take1", "full"),
+    ("take25", "full"),
+    ("test", "32-rows"),
+    ("test", "low-byte"),
+    ("convert", "UUIDs"),
+    ("convert", "anybody"),
 ]
 GROWING = ["serve", "acl2", "text"]
 # What was aimed at, by the ratio to C by hand: instructions, and time.
@@ -48,6 +69,7 @@ def ratio(pair):
 
 # ---- what the programs printed
 
+
 def pairs(text):
     """Library and by hand, by case and tables."""
     lines = re.findall(r"^(\S+) +(\S+) +(\d+) +(\d+) +[\d.]+$", text, re.M)
@@ -59,7 +81,7 @@ def functions(text):
     found = {}
     for case, tables, many, name in re.findall(r"^function (\S+) (\S+) +(\d+)  (\S+)$", text, re.M):
         names = found.setdefault((case, tables), {})
-        # a function that calls itself stands there twice, and memcpy under a name of its own
+        # a function that calls itself is there twice, and memcpy under a name of its own
         name = re.sub(r"^__(mem[a-z]+)_.*", r"\1", name.split("'")[0])
         names[name] = names.get(name, 0) + int(many)
     return found
@@ -75,6 +97,7 @@ def targets(text):
 
 
 # ---- the tables of the page
+
 
 def by_fill(measured, unit):
     head = ["case"] + [f"{fill}: {what}" for fill in FILLS for what in (f"library{unit}", "by hand", "ratio")]
@@ -102,10 +125,15 @@ def alone(counted, timed):
 
 def growth(counted):
     head = ["rows held"] + [f"{case}: {side}" for case in GROWING for side in ("library", "by hand")]
-    rows = [[str(held)] + [f"{number:,}" for case in GROWING for number in counted[case, tables]] for tables, held in ROWS.items()]
+    rows = [
+        [str(held)] + [f"{number:,}" for case in GROWING for number in counted[case, tables]]
+        for tables, held in ROWS.items()
+    ]
     first, last = ("few", "full")
     more = [
-        f"{(counted[case, last][side] - counted[case, first][side]) / (ROWS[last] - ROWS[first]):.0f}" for case in GROWING for side in (0, 1)
+        f"{(counted[case, last][side] - counted[case, first][side]) / (ROWS[last] - ROWS[first]):.0f}"
+        for case in GROWING
+        for side in (0, 1)
     ]
     return table(head, rows + [["for each row more"] + more])
 
@@ -119,7 +147,18 @@ def aims(counted, same, timed):
             worst = max(measured[case][0] / measured[case][1] for case in cases)
             row += [f"{limit:.2f}", ", ".join(ratio(measured[case]) for case in cases), verdict(worst, limit)]
         rows.append(row)
-    head = ["what", "instructions, at most", "C by hand by gcc", "", "at most", "by the kit's clang", "", "time, at most", "by gcc", ""]
+    head = [
+        "what",
+        "instructions, at most",
+        "C by hand by gcc",
+        "",
+        "at most",
+        "by the kit's clang",
+        "",
+        "time, at most",
+        "by gcc",
+        "",
+    ]
     return table(head, rows)
 
 
@@ -139,7 +178,10 @@ def where(counted, found):
 
 def by_target(sizes):
     head = ["target", "level", "code", "decision", "hand-in", "take", "office text", "test of a list", "conversion"]
-    rows = [[triple, f"-{level}", f"{code:,}"] + [f"{number:,}" for number in stack] for (triple, level), (*stack, code) in sizes.items()]
+    rows = [
+        [triple, f"-{level}", f"{code:,}"] + [f"{number:,}" for number in stack]
+        for (triple, level), (*stack, code) in sizes.items()
+    ]
     return table(head, rows)
 
 
@@ -148,24 +190,37 @@ def hand(text):
     for name, numbers in zip(("by hand, gcc -O3", "library, -O3"), re.findall(STACK + r"\nsize: (\d+)", text)):
         *stack, code = (int(number) for number in numbers)
         rows.append([name, f"{code:,}"] + [f"{number:,}" for number in stack])
-    return table(["on x86-64", "code", "decision", "hand-in", "take", "office text", "test of a list", "conversion"], rows)
+    return table(
+        ["on x86-64", "code", "decision", "hand-in", "take", "office text", "test of a list", "conversion"], rows
+    )
 
 
 def engine(text, timed):
     """Of the library and by hand: a decision, and what it takes beyond check 1."""
     plain, whole = (int(number) for number in re.search(r"compared (\d+) ns, whole rows (\d+) ns", text).groups())
     serve, sound = timed["serve", "full"], timed["refuse2", "full"]
-    rows = [["casbin, three strings of a row compared", f"{plain:,}"] + [""] * 2, ["casbin, whole rows", f"{whole:,}"] + [""] * 2]
+    rows = [
+        ["casbin, three strings of a row compared", f"{plain:,}"] + [""] * 2,
+        ["casbin, whole rows", f"{whole:,}"] + [""] * 2,
+    ]
     for side, name in enumerate(("library", "by hand")):
-        for what, time in (("all of the decision, check 1 of 8,676 bytes included", serve[side]), ("the decision without check 1", serve[side] - sound[side])):
+        for what, time in (
+            ("all of the decision, check 1 of 8,676 bytes included", serve[side]),
+            ("the decision without check 1", serve[side] - sound[side]),
+        ):
             rows.append([f"{name}, {what}", f"{time:,}", f"{plain / time:.0f}", f"{whole / time:.0f}"])
     versions = re.search(r"versions: (.*)", text).group(1)
-    return table([f"32 access rows, {versions}", "ns", "casbin takes so many times as long: strings", "whole rows"], rows)
+    return table(
+        [f"32 access rows, {versions}", "ns", "casbin takes so many times as long: strings", "whole rows"], rows
+    )
 
 
 def compared(text):
     records, texts, lists, older = (
-        int(number) for number in re.search(r"^library and by hand: (\d+) .*\n(\d+) texts, (\d+) lists to load, (\d+) older", text, re.M).groups()
+        int(number)
+        for number in re.search(
+            r"^library and by hand: (\d+) .*\n(\d+) texts, (\d+) lists to load, (\d+) older", text, re.M
+        ).groups()
     )
     differences = re.search(r"^agree: (\d+) differences", text, re.M).group(1)
     return (
@@ -176,6 +231,7 @@ def compared(text):
 
 # ---- the page
 
+
 def blocks(files):
     """The tables that can be made of the files that are there."""
     made = {}
@@ -183,7 +239,9 @@ def blocks(files):
     timed = pairs(files.get("times", ""))
     sizes = targets(files.get("targets", ""))
     if counted:
-        made.update(instructions=by_fill(counted, ""), growth=growth(counted), where=where(counted, functions(files["counts"])))
+        made.update(
+            instructions=by_fill(counted, ""), growth=growth(counted), where=where(counted, functions(files["counts"]))
+        )
     same = pairs(files.get("same_compiler", ""))
     if counted and same and timed:
         made["aims"] = aims(counted, same, timed)
@@ -192,7 +250,8 @@ def blocks(files):
         made["mixed"] = "\n".join(
             f"{int(tables.split('-')[0]):,} records drawn at random, all different, so that no branch always goes the same way: "
             f"library {library} ns, by hand {by_hand} ns, ratio {library / by_hand:.2f}."
-            for (case, tables), (library, by_hand) in timed.items() if case == "mixed"
+            for (case, tables), (library, by_hand) in timed.items()
+            if case == "mixed"
         )
     if counted and timed:
         made["alone"] = alone(counted, timed)
@@ -222,7 +281,9 @@ def main(words):
     if len(words) != 1:
         print(__doc__.strip(), file=sys.stderr)
         return 2
-    paths = {name: f"{words[0]}/{name}.txt" for name in ("counts", "same_compiler", "times", "targets", "by_hand", "casbin")}
+    paths = {
+        name: f"{words[0]}/{name}.txt" for name in ("counts", "same_compiler", "times", "targets", "by_hand", "casbin")
+    }
     files = {name: read(path) for name, path in paths.items() if os.path.exists(path)}
     made = blocks(files)
     text = renewed(read(PAGE), made)

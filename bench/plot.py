@@ -10,9 +10,19 @@ ROW, TOP, LEFT, RIGHT = 20, 84, 190, 90
 GROWTH, GAP = 250, 70
 # What the plot says of a case, where its name alone does not.
 WORDS = {
-    "cred": "RETRIEVE cred", "acl2": "RETRIEVE acl2", "store": "store an access row", "remove": "remove an access row",
-    "text": "office text", "judge25": "serve, 25 wait", "hand-in0": "hand-in, none waits", "hand-in24": "hand-in, 24 wait",
-    "take1": "take, 1 waits", "take25": "take, 25 wait", "test": "test of a list", "convert": "conversion", "assert": "assert a role",
+    "cred": "RETRIEVE cred",
+    "acl2": "RETRIEVE acl2",
+    "store": "store an access row",
+    "remove": "remove an access row",
+    "text": "office text",
+    "judge25": "serve, 25 wait",
+    "hand-in0": "hand-in, none waits",
+    "hand-in24": "hand-in, 24 wait",
+    "take1": "take, 1 waits",
+    "take25": "take, 25 wait",
+    "test": "test of a list",
+    "convert": "conversion",
+    "assert": "assert a role",
 }
 LISTS = {"32-rows": "32 rows", "low-byte": "one low byte", "UUIDs": "UUIDs", "anybody": "anybody"}
 
@@ -23,7 +33,9 @@ def words(case, tables):
 
 
 def text(x, y, said, anchor="start", size=12, colour=INK, more=""):
-    return f'<text x="{x:.1f}" y="{y:.1f}" text-anchor="{anchor}" font-size="{size}" fill="{colour}"{more}>{said}</text>'
+    return (
+        f'<text x="{x:.1f}" y="{y:.1f}" text-anchor="{anchor}" font-size="{size}" fill="{colour}"{more}>{said}</text>'
+    )
 
 
 def line(x1, y1, x2, y2, colour, width=1, more=""):
@@ -51,8 +63,10 @@ def across(number):
 
 def legend(y):
     return [
-        dot(LEFT + 6, y - 4, LIBRARY), text(LEFT + 16, y, "library"),
-        square(LEFT + 86, y - 4, BY_HAND), text(LEFT + 96, y, "C by hand, in place"),
+        dot(LEFT + 6, y - 4, LIBRARY),
+        text(LEFT + 16, y, "library"),
+        square(LEFT + 86, y - 4, BY_HAND),
+        text(LEFT + 96, y, "C by hand, in place"),
         text(WIDTH - RIGHT + 12, y, "ratio", size=12, more=' font-weight="bold"'),
     ]
 
@@ -60,10 +74,19 @@ def legend(y):
 def by_case(counted, cases):
     end = TOP + ROW * len(cases)
     drawn = [text(16, 28, "Instructions of one call, by case", size=17, more=' font-weight="bold"')]
-    drawn += [text(16, 46, "Tables are full (24 credential rows, 32 access rows); all of check 1 is included, but for lists. The axis is logarithmic.")]
+    drawn += [
+        text(
+            16,
+            46,
+            "Tables are full (24 credential rows, 32 access rows); all of check 1 is included, but for lists. The axis is logarithmic.",
+        )
+    ]
     drawn += legend(TOP - 14)
     for tick in (500, 1_000, 2_000, 5_000, 10_000, 20_000, 50_000, 100_000):
-        drawn += [line(across(tick), TOP, across(tick), end, GRID), text(across(tick), end + 16, f"{tick:,}", "middle", 11)]
+        drawn += [
+            line(across(tick), TOP, across(tick), end, GRID),
+            text(across(tick), end + 16, f"{tick:,}", "middle", 11),
+        ]
     for place, case in enumerate(cases):
         y = TOP + ROW * (place + 0.5)
         library, hand = counted[case]
@@ -75,6 +98,7 @@ def by_case(counted, cases):
 
 
 # ---- growth with the rows
+
 
 def grown(counted, cases, rows, frame, highest):
     """Lines of the cases in a frame: left, top, width."""
@@ -118,4 +142,7 @@ def draw(counted, cases, rows):
     second, height = growth(counted, rows, below + 30)
     head = f'<svg xmlns="http://www.w3.org/2000/svg" width="{WIDTH}" height="{height}" viewBox="0 0 {WIDTH} {height}" font-family="sans-serif">'
     title = "<title>Instructions of the library and of C by hand</title>"
-    return "\n".join([head, title, f'<rect width="{WIDTH}" height="{height}" fill="#ffffff"/>', *first, *second, "</svg>"]) + "\n"
+    return (
+        "\n".join([head, title, f'<rect width="{WIDTH}" height="{height}" fill="#ffffff"/>', *first, *second, "</svg>"])
+        + "\n"
+    )

@@ -78,7 +78,9 @@ def library(path, version):
         "description": "The access decision, proved. No code of third parties; of the C library it calls what 'calls' names.",
         "hashes": sum_of(path),
         "licenses": NONE_GRANTED,
-        "properties": properties(exports=" ".join(sorted(exported)), crates=" ".join(sorted(inside)), calls=" ".join(sorted(called))),
+        "properties": properties(
+            exports=" ".join(sorted(exported)), crates=" ".join(sorted(inside)), calls=" ".join(sorted(called))
+        ),
     }
 
 
@@ -103,9 +105,18 @@ def licences_of(package):
 
 def packages_of(files):
     """The package that each of the files belongs to; merged folders have two names."""
-    names = {name: file for file in files for path in (file, os.path.realpath(file)) for name in (path, re.sub("^/usr", "", path), "/usr" + path)}
+    names = {
+        name: file
+        for file in files
+        for path in (file, os.path.realpath(file))
+        for name in (path, re.sub("^/usr", "", path), "/usr" + path)
+    }
     told = subprocess.run(["dpkg", "-S", *names], capture_output=True, text=True, check=False).stdout
-    found = {names[path]: package.split(",")[0] for package, path in re.findall(r"^([^:\s]+(?::\w+)?.*?): (/\S+)$", told, re.M) if path in names}
+    found = {
+        names[path]: package.split(",")[0]
+        for package, path in re.findall(r"^([^:\s]+(?::\w+)?.*?): (/\S+)$", told, re.M)
+        if path in names
+    }
     if set(files) - set(found):
         raise Fault(f"of no package: {' '.join(sorted(set(files) - set(found)))}")
     return found
@@ -119,15 +130,17 @@ def shared(path):
     found = []
     for package, files in packages.items():
         name, number = said("dpkg-query", "-W", "-f", "${Package} ${Version}", package).split()
-        found.append({
-            "type": "library",
-            "bom-ref": f"deb:{name}",
-            "name": name,
-            "version": number,
-            "purl": f"pkg:deb/debian/{name}@{number}",
-            "licenses": licences_of(name),
-            "properties": properties(linked="dynamically", files=" ".join(files)),
-        })
+        found.append(
+            {
+                "type": "library",
+                "bom-ref": f"deb:{name}",
+                "name": name,
+                "version": number,
+                "purl": f"pkg:deb/debian/{name}@{number}",
+                "licenses": licences_of(name),
+                "properties": properties(linked="dynamically", files=" ".join(files)),
+            }
+        )
     return found
 
 
@@ -144,7 +157,15 @@ def symbols_of(program, names):
 
 def crates_of(program):
     """The crates that are linked into the tool, as components, and what each depends on. Those that run in the compiler are none."""
-    words = ["cargo", "metadata", "--format-version", "1", "--filter-platform", "x86_64-unknown-linux-gnu", *os.environ.get("CARGOFLAGS", "").split()]
+    words = [
+        "cargo",
+        "metadata",
+        "--format-version",
+        "1",
+        "--filter-platform",
+        "x86_64-unknown-linux-gnu",
+        *os.environ.get("CARGOFLAGS", "").split(),
+    ]
     graph = json.loads(said(*words, folder=os.path.join(ROOT, "tool")))
     packages = {package["id"]: package for package in graph["packages"]}
     nodes = {node["id"]: node for node in graph["resolve"]["nodes"]}
@@ -186,19 +207,39 @@ def tool(program, _):
         edges.setdefault(name_of[place], set()).update(name_of[other] for other in linked)
     loaded = shared(program)
     number = said("rustc", "--version").split()[1]
-    std = {"type": "library", "bom-ref": "rust-std", "name": "Rust's standard library", "version": number,
-           "licenses": [{"expression": "MIT OR Apache-2.0"}], "properties": properties(linked="statically")}
+    std = {
+        "type": "library",
+        "bom-ref": "rust-std",
+        "name": "Rust's standard library",
+        "version": number,
+        "licenses": [{"expression": "MIT OR Apache-2.0"}],
+        "properties": properties(linked="statically"),
+    }
     edges["tillerclover-tool"] |= {"libtillerclover", "rust-std", *(component["bom-ref"] for component in loaded)}
     edges["tillerclover-tool"].discard("tillerclover-tool")
-    whole = {"type": "application", "bom-ref": "tillerclover-tool", "name": "tillerclover", "version": root.split("@")[-1].split("#")[-1],
-             "description": "The command.", "hashes": sum_of(program), "licenses": NONE_GRANTED}
+    whole = {
+        "type": "application",
+        "bom-ref": "tillerclover-tool",
+        "name": "tillerclover",
+        "version": root.split("@")[-1].split("#")[-1],
+        "description": "The command.",
+        "hashes": sum_of(program),
+        "licenses": NONE_GRANTED,
+    }
     return [whole, *components.values(), std, *loaded], edges
 
 
 def terminal(program, version):
     loaded = shared(program)
-    whole = {"type": "application", "bom-ref": "terminal", "name": "terminal", "version": version, "description": "The example terminal.",
-             "hashes": sum_of(program), "licenses": NONE_GRANTED}
+    whole = {
+        "type": "application",
+        "bom-ref": "terminal",
+        "name": "terminal",
+        "version": version,
+        "description": "The example terminal.",
+        "hashes": sum_of(program),
+        "licenses": NONE_GRANTED,
+    }
     return [whole, *loaded], {"terminal": {"libtillerclover", *(component["bom-ref"] for component in loaded)}}
 
 
@@ -215,7 +256,11 @@ def document(version, archive, tool_path, terminal_path):
             for ref, others in joined.items():
                 edges.setdefault(ref, set()).update(others)
     components = list({component["bom-ref"]: component for component in components}.values())
-    edges["tillerclover"] = {component["bom-ref"] for component in components if component["bom-ref"] in ("libtillerclover", "tillerclover-tool", "terminal")}
+    edges["tillerclover"] = {
+        component["bom-ref"]
+        for component in components
+        if component["bom-ref"] in ("libtillerclover", "tillerclover-tool", "terminal")
+    }
     kit = re.search(r"^kit (.+)$", read(os.path.join(ROOT, "packaging/KIT")), re.M).group(1)
     time = datetime.datetime.fromtimestamp(int(said("git", "log", "-1", "--format=%ct")), datetime.timezone.utc)
     made = {
@@ -225,8 +270,19 @@ def document(version, archive, tool_path, terminal_path):
         "version": 1,
         "metadata": {
             "timestamp": time.strftime("%Y-%m-%dT%H:%M:%SZ"),
-            "tools": {"components": [{"type": "application", "name": "packaging/sbom.py"}, {"type": "application", "name": kit}]},
-            "component": {"type": "application", "bom-ref": "tillerclover", "name": "tillerclover", "version": version, "licenses": NONE_GRANTED},
+            "tools": {
+                "components": [
+                    {"type": "application", "name": "packaging/sbom.py"},
+                    {"type": "application", "name": kit},
+                ]
+            },
+            "component": {
+                "type": "application",
+                "bom-ref": "tillerclover",
+                "name": "tillerclover",
+                "version": version,
+                "licenses": NONE_GRANTED,
+            },
         },
         "components": components,
         "dependencies": [{"ref": ref, "dependsOn": sorted(others)} for ref, others in sorted(edges.items())],
@@ -282,7 +338,9 @@ def by_standard(made, folder):
         if allowed is False and isinstance(value, list) and len(value) > len(within["items"]):
             yield jsonschema.ValidationError(f"{len(value)} items, and {len(within['items'])} are allowed")
 
-    schema = json.loads(re.sub(r'"(spdx|jsf-0\.82)\.SNAPSHOT\.schema\.json(?:#/definitions)?', r'"#/definitions/\1', part("bom-1.5")))
+    schema = json.loads(
+        re.sub(r'"(spdx|jsf-0\.82)\.SNAPSHOT\.schema\.json(?:#/definitions)?', r'"#/definitions/\1', part("bom-1.5"))
+    )
     schema["definitions"]["spdx"] = json.loads(part("spdx"))
     schema["definitions"]["jsf-0.82"] = {"signature": False}
     for inner in (schema, schema["definitions"]["spdx"]):
@@ -302,7 +360,11 @@ def check(path, folder=None):
         found += [f"two components are called {ref}" for ref in sorted(set(refs)) if refs.count(ref) > 1]
         used = {ref for edge in made["dependencies"] for ref in [edge["ref"], *edge["dependsOn"]]}
         found += [f"there is no component {ref}" for ref in sorted(used - set(refs))]
-        found += [f"{component['name']} states no licence" for component in made["components"] if not component.get("licenses")]
+        found += [
+            f"{component['name']} states no licence"
+            for component in made["components"]
+            if not component.get("licenses")
+        ]
     if folder:
         found += by_standard(made, folder)
     for line in found:
@@ -317,7 +379,11 @@ def main(words):
         print(__doc__.strip(), file=sys.stderr)
         return 2
     try:
-        print(json.dumps(document(words[0], *(os.path.abspath(word) if word != "-" else word for word in words[1:])), indent=2))
+        print(
+            json.dumps(
+                document(words[0], *(os.path.abspath(word) if word != "-" else word for word in words[1:])), indent=2
+            )
+        )
     except (Fault, OSError) as fault:
         print(f"sbom: {fault}", file=sys.stderr)
         return 1

@@ -32,7 +32,9 @@ def main(module, target, web=WEB):
         assert page.count(mark) == 1, mark
         page = page.replace(mark, text)
     target.write_text(page)
-    print(f"{target}: {len(page.encode()):,} bytes, of them the module {module.stat().st_size:,}, packed {len(packed):,}")
+    print(
+        f"{target}: {len(page.encode()):,} bytes, of them the module {module.stat().st_size:,}, packed {len(packed):,}"
+    )
 
 
 if __name__ == "__main__":

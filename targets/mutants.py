@@ -19,19 +19,43 @@ LIB = ROOT / "target/lib"
 CALLS = "20000"
 VECTORS = ROOT / "crates/vectors/data/vectors.bin"
 OTHER = {
-    "i32.eq": "i32.ne", "i32.ne": "i32.eq", "i64.eq": "i64.ne", "i64.ne": "i64.eq",
-    "i32.lt_u": "i32.le_u", "i64.lt_u": "i64.le_u", "i32.gt_u": "i32.ge_u", "i64.gt_u": "i64.ge_u",
-    "i32.and": "i32.or", "i32.or": "i32.and", "i32.add": "i32.sub",
+    "i32.eq": "i32.ne",
+    "i32.ne": "i32.eq",
+    "i64.eq": "i64.ne",
+    "i64.ne": "i64.eq",
+    "i32.lt_u": "i32.le_u",
+    "i64.lt_u": "i64.le_u",
+    "i32.gt_u": "i32.ge_u",
+    "i64.gt_u": "i64.ge_u",
+    "i32.and": "i32.or",
+    "i32.or": "i32.and",
+    "i32.add": "i32.sub",
 }
-SITE = re.compile(r"^\s+(i32\.const -?\d+|i32\.eqz|br_if \d+|" + "|".join(re.escape(name) for name in OTHER) + r")(?: \(;.*;\))?(?:\s.*)?$")
+SITE = re.compile(
+    r"^\s+(i32\.const -?\d+|i32\.eqz|br_if \d+|"
+    + "|".join(re.escape(name) for name in OTHER)
+    + r")(?: \(;.*;\))?(?:\s.*)?$"
+)
+
+
 def run(*words, **more):
     return subprocess.run([str(word) for word in words], check=True, capture_output=True, text=True, **more)
 
 
 def module(work):
     """targets/calls.c and the library, linked with their names, as text."""
-    run("clang", "--target=wasm32-wasi", "-std=c11", "-O2", f"-I{ROOT}/include", f"-fuse-ld={LIB}/wasm-ld", ROOT / "targets/calls.c",
-        LIB / "wasm32-unknown-unknown/O3/libterminal.a", "-o", work / "calls.wasm")
+    run(
+        "clang",
+        "--target=wasm32-wasi",
+        "-std=c11",
+        "-O2",
+        f"-I{ROOT}/include",
+        f"-fuse-ld={LIB}/wasm-ld",
+        ROOT / "targets/calls.c",
+        LIB / "wasm32-unknown-unknown/O3/libterminal.a",
+        "-o",
+        work / "calls.wasm",
+    )
     return run("wasm2wat", "--enable-all", work / "calls.wasm").stdout.split("\n")
 
 
@@ -59,7 +83,15 @@ def changed(line, chance):
 def said(path):
     """What the vectors and the calls print."""
     try:
-        return run("node", "--experimental-wasi-unstable-preview1", ROOT / "targets/wasi.mjs", path, VECTORS, CALLS, timeout=100).stdout.strip()
+        return run(
+            "node",
+            "--experimental-wasi-unstable-preview1",
+            ROOT / "targets/wasi.mjs",
+            path,
+            VECTORS,
+            CALLS,
+            timeout=100,
+        ).stdout.strip()
     except subprocess.TimeoutExpired:
         return "no end"
     except subprocess.CalledProcessError:
@@ -73,7 +105,7 @@ def main(many=24, seed=5):
         lines = module(work)
         whole, seen, missed = said(work / "calls.wasm"), 0, 0
         for place, name in chance.sample(sites(lines), many):
-            mutant = lines[:place] + [changed(lines[place], chance)] + lines[place + 1:]
+            mutant = lines[:place] + [changed(lines[place], chance)] + lines[place + 1 :]
             (work / "mutant.wat").write_text("\n".join(mutant))
             run("wat2wasm", "--enable-all", work / "mutant.wat", "-o", work / "mutant.wasm")
             if said(work / "mutant.wasm") != whole:

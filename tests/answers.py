@@ -16,10 +16,16 @@ def states():
 
 def moves():
     """(state, target, condition) by the definition; the condition is 'true' or 'hasOwner'."""
-    text = re.sub(r"\b(reset|rfotm|rfpro|rfnop|sreset)\b", lambda name: right_side("States", name.group()), right_side("States", "moves"))
+    text = re.sub(
+        r"\b(reset|rfotm|rfpro|rfnop|sreset)\b",
+        lambda name: right_side("States", name.group()),
+        right_side("States", "moves"),
+    )
     listed = []
     for state, targets in re.findall(r"\((\d+), ((?:\(\d+, \w+\) ∷ )+)\[\]\)", text):
-        listed += [(int(state), int(target), condition) for target, condition in re.findall(r"\((\d+), (\w+)\)", targets)]
+        listed += [
+            (int(state), int(target), condition) for target, condition in re.findall(r"\((\d+), (\w+)\)", targets)
+        ]
     if not listed or {c for _, _, c in listed} - {"true", "hasOwner"}:
         raise Changed("States.antt: moves has another form")
     return listed
@@ -51,13 +57,21 @@ ALLOWED = {
 def writes_table():
     for left, text in ALLOWED.items():
         if SPECS["States"].get(left) != text:
-            raise Changed(f"States.antt: '{left}' is '{SPECS['States'].get(left)}', and the table of writes rests on '{text}'")
+            raise Changed(
+                f"States.antt: '{left}' is '{SPECS['States'].get(left)}', and the table of writes rests on '{text}'"
+            )
     names = states()
-    rows = [re.findall(r"true|false", row) for row in re.findall(r"\(((?:(?:true|false) ∷ )+)\[\]\)", right_side("States", "writes"))]
+    rows = [
+        re.findall(r"true|false", row)
+        for row in re.findall(r"\(((?:(?:true|false) ∷ )+)\[\]\)", right_side("States", "writes"))
+    ]
     if len(rows) != len(names) or "true" in rows[0]:
         raise Changed("States.antt: writes has another form")
     yes = {"true": "yes", "false": "no"}
-    text = ["| state | doxm, 17 bytes | row owners | cred and acl2 rows | target state | an asserted role | applications |", "|---|---|---|---|---|---|---|"]
+    text = [
+        "| state | doxm, 17 bytes | row owners | cred and acl2 rows | target state | an asserted role | applications |",
+        "|---|---|---|---|---|---|---|",
+    ]
     for state in range(1, len(rows)):
         cells = [yes[cell] for cell in rows[state]]
         if state == 4 and cells[0] == "yes":
@@ -69,7 +83,10 @@ def writes_table():
 
 def moves_table():
     names, listed = states(), {(state, target): condition for state, target, condition in moves()}
-    text = ["| from, to | " + " | ".join(names[target] for target in sorted(names)) + " |", "|---" * (len(names) + 1) + "|"]
+    text = [
+        "| from, to | " + " | ".join(names[target] for target in sorted(names)) + " |",
+        "|---" * (len(names) + 1) + "|",
+    ]
     words = {"true": "yes", "hasOwner": "if owned is 1", None: "12"}
     for state in sorted(names):
         if state != 0:
@@ -107,7 +124,11 @@ def header_answers():
     pattern = r"(?:/\*((?:(?!\*/).)*)\*/\s*)?TILLERCLOVER_(\w+) = (\d+)"
     for comment, name, value in re.findall(pattern, enum("tillerclover_answer"), re.S):
         words = re.sub(r"\s*\n\s*\*\s*", " ", comment).strip()
-        words = re.sub(r"\bTILLERCLOVER_(\w+)", plain, words).replace("AUTH_CRYPT", "auth-crypt").replace("ANON_CLEAR", "anon-clear")
+        words = (
+            re.sub(r"\bTILLERCLOVER_(\w+)", plain, words)
+            .replace("AUTH_CRYPT", "auth-crypt")
+            .replace("ANON_CLEAR", "anon-clear")
+        )
         found[name] = (int(value), words)
     return found
 
@@ -162,19 +183,24 @@ def calls_table():
             raise Changed(f"Terminal.antt: {left} has no {last}")
     sender = ranges(checks[: checks.index(7) + 1])
     return "\n".join(
-        ["| call | answers, the first that applies |", "|---|---|",
-         f"| `tillerclover_judge` | {ranges(checks)}; else 0 |",
-         f"| `tillerclover_hand_in` | {sender}, 26; else 0, which says that the record is kept, and no more |",
-         f"| `tillerclover_take` | 1, 27; then those of the record that is taken: {ranges(checks[1:])}; else 0 |",
-         "| `tillerclover_access_list` | 17, 18; else 0 |",
-         "| `tillerclover_test_list` | 19; then row by row 20, 21; else 0 |",
-         "| `tillerclover_convert_list` | 23, 24, 25; else 0 |",
-         "| `tillerclover_fresh`, `_clear` | none: they make a new terminal |",
-         "| `tillerclover_is_sound` | none: false exactly where the others give 1 or 17 |"]
+        [
+            "| call | answers, the first that applies |",
+            "|---|---|",
+            f"| `tillerclover_judge` | {ranges(checks)}; else 0 |",
+            f"| `tillerclover_hand_in` | {sender}, 26; else 0, which says that the record is kept, and no more |",
+            f"| `tillerclover_take` | 1, 27; then those of the record that is taken: {ranges(checks[1:])}; else 0 |",
+            "| `tillerclover_access_list` | 17, 18; else 0 |",
+            "| `tillerclover_test_list` | 19; then row by row 20, 21; else 0 |",
+            "| `tillerclover_convert_list` | 23, 24, 25; else 0 |",
+            "| `tillerclover_fresh`, `_clear` | none: they make a new terminal |",
+            "| `tillerclover_is_sound` | none: false exactly where the others give 1 or 17 |",
+        ]
     )
 
 
-OFFERED = "lookup verb ((retrieve, true) ∷ (update, true) ∷ (delete, eqb n cred || eqb n acl2) ∷ (observe, true) ∷ []) false"
+OFFERED = (
+    "lookup verb ((retrieve, true) ∷ (update, true) ∷ (delete, eqb n cred || eqb n acl2) ∷ (observe, true) ∷ []) false"
+)
 
 
 def directory_table():
@@ -186,14 +212,19 @@ def directory_table():
     if {n for n, entry in enumerate(entries) if entry != "unknown"} != set(paths):
         fault(f"{NAMES}: its resources are not those of the directory")
     yes = {True: "yes", False: "no"}
-    text = ["| no. | resource | kind | discoverable | secure | unsecure | wildcards | verbs | link of /yard |", "|---" * 9 + "|"]
+    text = [
+        "| no. | resource | kind | discoverable | secure | unsecure | wildcards | verbs | link of /yard |",
+        "|---" * 9 + "|",
+    ]
     for n, path in sorted(paths.items()):
         entry = entries[n].split()
         security = entry == ["security"]
         if not security and (entry[0] != "application" or len(entry) != 4):
             raise Changed(f"Directory.antt: entry {n} is '{entries[n]}'")
         shown, secure, unsecure = (True, True, False) if security else tuple(flag == "true" for flag in entry[1:])
-        wildcards = [] if security else [w for w, on in (("+", shown and secure), ("-", shown and unsecure), ("*", True)) if on]
+        wildcards = (
+            [] if security else [w for w, on in (("+", shown and secure), ("-", shown and unsecure), ("*", True)) if on]
+        )
         verbs = ("RETRIEVE, OBSERVE, UPDATE" + (", DELETE" if n in (2, 3) else "")) if security else "all five"
         text.append(
             f"| {n} | {path} | {'security' if security else 'application'} | {yes[shown]} | {yes[secure]} | {yes[unsecure]} | "
@@ -210,11 +241,21 @@ def header_rules():
     names = states()
     lines = []
     for state in sorted(set(names) - {0}):
-        targets = {condition: ", ".join(names[t] for s, t, c in moves() if s == state and c == condition) for condition in ("true", "hasOwner")}
-        lines.append(f"{names[state]} to {targets['true']}" + (f"; to {targets['hasOwner']} if owned is 1" if targets["hasOwner"] else ""))
+        targets = {
+            condition: ", ".join(names[t] for s, t, c in moves() if s == state and c == condition)
+            for condition in ("true", "hasOwner")
+        }
+        lines.append(
+            f"{names[state]} to {targets['true']}"
+            + (f"; to {targets['hasOwner']} if owned is 1" if targets["hasOwner"] else "")
+        )
     words = ("doxm", "row owners", "rows of cred and acl2", "target")
     for row in rows_of(writes_table())[1:]:
-        taken = [word + (" if its owned is 1" if cell.startswith("owned") else "") for word, cell in zip(words, row[1:5]) if cell != "no"]
+        taken = [
+            word + (" if its owned is 1" if cell.startswith("owned") else "")
+            for word, cell in zip(words, row[1:5])
+            if cell != "no"
+        ]
         if taken.pop() != "target":
             raise Changed("a state takes no target")
         lines.append(f"{row[0].split()[1]} takes {', '.join(taken) or 'none of them'}")
@@ -238,14 +279,22 @@ def check_header_rules():
 
 # The crate that makes a group of checks, the definition of the group, and the one number of a group without a definition.
 GROUPS = (
-    ("check_waiting", None, 1), ("check_header", "headerChecks", None), ("caller", None, 7), ("check_request", "requestChecks", None),
-    ("check_state", "stateChecks", None), ("check_rows", "rowChecks", None), ("reply", "capacityChecks", None),
+    ("check_waiting", None, 1),
+    ("check_header", "headerChecks", None),
+    ("caller", None, 7),
+    ("check_request", "requestChecks", None),
+    ("check_state", "stateChecks", None),
+    ("check_rows", "rowChecks", None),
+    ("reply", "capacityChecks", None),
 )
 
 
 def order_picture():
     words = {n: word for _, n, word, _ in named("Answer")}
-    text, drawn = ["flowchart TD", '    start(["a record, the tables, what waits, the clock, the lent buffer"]) --> g0'], []
+    text, drawn = [
+        "flowchart TD",
+        '    start(["a record, the tables, what waits, the clock, the lent buffer"]) --> g0',
+    ], []
     for place, (crate, group, single) in enumerate(GROUPS):
         numbers = [single] if group is None else [int(n) for n in re.findall(r"\((\d+), ", right_side("Groups", group))]
         drawn += numbers
@@ -257,7 +306,9 @@ def order_picture():
             text.append(f"    g{place - 1} -->|none applies| g{place}")
     if drawn != order():
         raise Changed("the groups of checks, joined, are not the list of checks")
-    text.append(f'    g{len(GROUPS) - 1} -->|none applies| permitted(["0 permitted:<br/>permission, payload, reply, effect"])')
+    text.append(
+        f'    g{len(GROUPS) - 1} -->|none applies| permitted(["0 permitted:<br/>permission, payload, reply, effect"])'
+    )
     text.append('    refused(["refused with its number:<br/>tables as they were, nothing written"])')
     text.append('    g2 -.->|at a hand-in| kept(["26, or kept with 0;<br/>the rest is checked at its take"])')
     return "```mermaid\n" + "\n".join(text) + "\n```"
@@ -296,8 +347,13 @@ SEQUENCE = (
 def sequence_picture():
     checks = order()
     sender, rest = ranges(checks[1 : checks.index(7) + 1]), ranges(checks[1:])
-    text = ["sequenceDiagram", "    participant S as sender", "    participant P as weighing program", "    participant L as library",
-            "    participant M as waiting records"]
+    text = [
+        "sequenceDiagram",
+        "    participant S as sender",
+        "    participant P as weighing program",
+        "    participant L as library",
+        "    participant M as waiting records",
+    ]
     inner = ""
     for arrow, words, function in SEQUENCE:
         if function and function.split("::")[1] not in functions_of(f"crates/{function.split('::')[0]}/src"):
@@ -315,5 +371,11 @@ def sequence_picture():
 
 
 def answers(page):
-    return {"answers": answers_table(page), "calls": calls_table(), "directory": directory_table(), "states": states_table(),
-            "moves": moves_table(), "writes": writes_table()}
+    return {
+        "answers": answers_table(page),
+        "calls": calls_table(),
+        "directory": directory_table(),
+        "states": states_table(),
+        "moves": moves_table(),
+        "writes": writes_table(),
+    }

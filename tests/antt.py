@@ -8,7 +8,7 @@ from sources import read
 
 # the start of a declaration: indentation, how it unfolds, `pub`, the kind of type, the name, the rest of the line
 DECLARED = re.compile(r"^( *)(unfoldable |abbrev )?(pub )?(?:(record|data) )?([^\s(){}:]+)(?= |$)(.*)$")
-# a word, with the words that follow a dot right behind it, as in `alias.name`
+# a word, with the words that follow a dot right after it, as in `alias.name`
 WORD = re.compile(r"[^\s(){};,.:λ→=]+(?:\.[^\s(){};,.:λ→=]+)*")
 # a field that is read, as in `x .tables`, is no name of a definition
 FIELD = re.compile(r"(?<=[\s)])\.[\w′-]+")
@@ -116,7 +116,9 @@ class File:
     def owner(self, name):
         """The declaration that brings a name: its own, or the type whose constructor it is."""
         own = self.declared(name)
-        return own or [data for data in self.declarations if re.search(rf"^ +{re.escape(name)} :", data.statement, re.M)]
+        return own or [
+            data for data in self.declarations if re.search(rf"^ +{re.escape(name)} :", data.statement, re.M)
+        ]
 
 
 class Project:
@@ -153,7 +155,11 @@ class Project:
 
 def variables(text):
     """The variables that a text binds."""
-    groups = re.findall(r"[({]([^(){}:]+?) : ", text) + re.findall(r"λ ([^.()]*?)\.", text) + re.findall(r"λ \(([^:()]*?) : ", text)
+    groups = (
+        re.findall(r"[({]([^(){}:]+?) : ", text)
+        + re.findall(r"λ ([^.()]*?)\.", text)
+        + re.findall(r"λ \(([^:()]*?) : ", text)
+    )
     return {name for group in groups for name in group.split()} | set(re.findall(r"\blet (\S+)", text))
 
 

@@ -31,14 +31,49 @@ import re
 import sys
 
 sys.dont_write_bytecode = True
-from answers import ANSWERS, answers, check_header_rules, order_picture, sequence_picture, states_picture, writes_table  # noqa: E402
+from answers import (
+    ANSWERS,
+    answers,
+    check_header_rules,
+    order_picture,
+    sequence_picture,
+    states_picture,
+    writes_table,
+)  # noqa: E402
 from rules import renew_rules  # noqa: E402
-from sources import HEADER, Changed, asks, contracts, exports, faults, fault, found, functions_of, number, read, right_side, rows_of  # noqa: E402
+from sources import (
+    HEADER,
+    Changed,
+    asks,
+    contracts,
+    exports,
+    faults,
+    fault,
+    found,
+    functions_of,
+    number,
+    read,
+    right_side,
+    rows_of,
+)  # noqa: E402
 from statements import check_statements  # noqa: E402
 
 PAGE, MODEL = "docs/PICTURES.md", "docs/SECURITY-MODEL.md"
 HOUSE = "docs/ARCHITECTURE.md"
-CITED = ["README.md", HOUSE, "docs/INTEGRATION.md", "SECURITY.md", "CHANGELOG.md", MODEL, "docs/ASSESSOR.md", "docs/ANSWERS.md", "docs/GLOSSARY.md", "docs/TARGETS.md", "docs/BENCHMARKS.md", PAGE]
+CITED = [
+    "README.md",
+    HOUSE,
+    "docs/INTEGRATION.md",
+    "SECURITY.md",
+    "CHANGELOG.md",
+    MODEL,
+    "docs/ASSESSOR.md",
+    "docs/ANSWERS.md",
+    "docs/GLOSSARY.md",
+    "docs/TARGETS.md",
+    "docs/BENCHMARKS.md",
+    PAGE,
+]
 
 
 # ---- layouts
@@ -140,7 +175,10 @@ class Layout:
                 best = labelled.get(cell[2])
                 if best is None or cell[1] - cell[0] > best[1][1] - best[1][0]:
                     labelled[cell[2]] = (place, cell)
-        text = ["byte  " + "".join(f"{b:<3}" for b in range(32 if self.end - self.start > 31 else self.end - self.start)).rstrip()]
+        text = [
+            "byte  "
+            + "".join(f"{b:<3}" for b in range(32 if self.end - self.start > 31 else self.end - self.start)).rstrip()
+        ]
         for place, cells in enumerate(parts):
             text.append("      " + self.border(parts[place - 1] if place else [], cells))
             line = ""
@@ -182,8 +220,13 @@ def layouts():
     body_start = found("Record", "body", r"drop (\d+)")
     header = Layout(
         body_start,
-        [("verb", "Record", "verb"), ("c", "Record", "connection"), ("resource", "Record", "resource"),
-         ("zeros", "Record", "zeros"), ("credential number", "Record", "credential")],
+        [
+            ("verb", "Record", "verb"),
+            ("c", "Record", "connection"),
+            ("resource", "Record", "resource"),
+            ("zeros", "Record", "zeros"),
+            ("credential number", "Record", "credential"),
+        ],
     )
     doxm = Layout(
         found("Action", "updateDoxm", r"\((\d+), ifAllowed \(ownerBody"),
@@ -191,24 +234,44 @@ def layouts():
         [("Bodies", "ownerBody")],
     )
     pstat = Layout(
-        found("Action", "updatePstat", r"\((\d+), ifAllowed \(stateBody"), [("target", "Bodies", "target")], [("Bodies", "stateBody")]
+        found("Action", "updatePstat", r"\((\d+), ifAllowed \(stateBody"),
+        [("target", "Bodies", "target")],
+        [("Bodies", "stateBody")],
     )
     cred = Layout(
         number("Tables", "stride Creds"),
-        [("number", "Bodies", "rowNumber"), ("subject UUID", "Bodies", "credSubject"), ("role", "Bodies", "credRole"),
-         ("authority", "Bodies", "credAuthority"), ("type", "Bodies", "credType")],
+        [
+            ("number", "Bodies", "rowNumber"),
+            ("subject UUID", "Bodies", "credSubject"),
+            ("role", "Bodies", "credRole"),
+            ("authority", "Bodies", "credAuthority"),
+            ("type", "Bodies", "credType"),
+        ],
         [("Bodies", "credStorable")],
         more=[(*place, f"{nth} asserted role") for place, nth in zip(places("Roles", "rolesOf"), ("first", "second"))],
     )
     asserted = Layout(
         found("Action", "updateRoles", r"\((\d+), ifAllowed \(not \(noRole"),
-        [("authority", "Roles", "assertedAuthority"), ("role", "Roles", "assertedRole"), ("last second", "Roles", "assertedLast")],
+        [
+            ("authority", "Roles", "assertedAuthority"),
+            ("role", "Roles", "assertedRole"),
+            ("last second", "Roles", "assertedLast"),
+        ],
     )
     ace = Layout(
         number("Tables", "stride Aces"),
-        [("number", "Bodies", "rowNumber"), ("kind", "Bodies", "aceKind"), ("permission", "Bodies", "acePermission"),
-         ("+", "Bodies", "acePlus"), ("-", "Bodies", "aceMinus"), ("*", "Bodies", "aceStar"), ("set of resources", "Bodies", "inSet"),
-         ("subject", "Bodies", "aceSubject"), ("first second", "Bodies", "aceFirst"), ("last second", "Bodies", "aceLast")],
+        [
+            ("number", "Bodies", "rowNumber"),
+            ("kind", "Bodies", "aceKind"),
+            ("permission", "Bodies", "acePermission"),
+            ("+", "Bodies", "acePlus"),
+            ("-", "Bodies", "aceMinus"),
+            ("*", "Bodies", "aceStar"),
+            ("set of resources", "Bodies", "inSet"),
+            ("subject", "Bodies", "aceSubject"),
+            ("first second", "Bodies", "aceFirst"),
+            ("last second", "Bodies", "aceLast"),
+        ],
         [("Bodies", "aceStorable")],
     )
     # the subject's last four bytes, by its kind; the zeros before them are tested as bytes
@@ -216,18 +279,34 @@ def layouts():
     role = Layout(end, [("authority", "Bodies", "aceAuthority"), ("role", "Bodies", "aceRole")], start=8 * end - 32)
     old = Layout(
         found("Old", "oldRows", r"rowsOf (\d+)"),
-        [("subject UUID", "Old", "oldSubject"), ("permission", "Old", "oldPermission"), ("zeros", "Old", "oldZeros"),
-         ("set of resources", "Old", "oldSet")],
+        [
+            ("subject UUID", "Old", "oldSubject"),
+            ("permission", "Old", "oldPermission"),
+            ("zeros", "Old", "oldZeros"),
+            ("set of resources", "Old", "oldSet"),
+        ],
     )
-    return {"header": header, "doxm": doxm, "pstat": pstat, "cred": cred, "asserted": asserted, "ace": ace, "role": role, "old": old}
+    return {
+        "header": header,
+        "doxm": doxm,
+        "pstat": pstat,
+        "cred": cred,
+        "asserted": asserted,
+        "ace": ace,
+        "role": role,
+        "old": old,
+    }
 
 
-# ---- tables and what waits
+# ---- tables and the queue
 
 
 def plain_number(text, constants):
     """A number, or a sum or product of numbers and constants."""
-    return sum(math.prod(int(constants.get(f.strip().removeprefix("Permission::"), f.strip())) for f in part.split("*")) for part in text.split("+"))
+    return sum(
+        math.prod(int(constants.get(f.strip().removeprefix("Permission::"), f.strip())) for f in part.split("*"))
+        for part in text.split("+")
+    )
 
 
 def struct_fields():
@@ -291,15 +370,20 @@ def waiting_table():
     if slots + most * long != whole:
         raise Changed("the memory of waiting records is not its head and its slots")
     return "\n".join(
-        ["| byte | bytes | field | |", "|---|---|---|---|",
-         f"| 0 | {rounds} | count | how many records wait |",
-         f"| {rounds} | {slots - rounds} | round | zeros, or 1 and the credential number of the last record taken |",
-         f"| {slots} | {most * long:,} | slots | {most} slots of {long} bytes, the used ones first, zeros behind them |",
-         f"| | {whole:,} | | in all |", "",
-         "| byte of a slot | bytes | field | |", "|---|---|---|---|",
-         f"| 0 | {length} | seat | the sender's credential number, 0 for unauthenticated senders |",
-         f"| {length} | {record - length} | length | of the record |",
-         f"| {record} | {long - record} | record | zeros behind it |"]
+        [
+            "| byte | bytes | field | |",
+            "|---|---|---|---|",
+            f"| 0 | {rounds} | count | how many records wait |",
+            f"| {rounds} | {slots - rounds} | round | zeros, or 1 and the credential number of the last record taken |",
+            f"| {slots} | {most * long:,} | slots | {most} slots of {long} bytes, the used ones first, zeros behind them |",
+            f"| | {whole:,} | | in all |",
+            "",
+            "| byte of a slot | bytes | field | |",
+            "|---|---|---|---|",
+            f"| 0 | {length} | seat | the sender's credential number, 0 for unauthenticated senders |",
+            f"| {length} | {record - length} | length | of the record |",
+            f"| {record} | {long - record} | record | zeros behind it |",
+        ]
     )
 
 
@@ -345,7 +429,12 @@ def check_layers():
 def layers_picture():
     listed, rows = crates(), layers()
     level = {name: i for i, (_, names) in enumerate(rows) for name in names}
-    edges = {(level[a], level[b]) for a, below in listed.items() for b in below if a in level and b in level and level[a] < level[b]}
+    edges = {
+        (level[a], level[b])
+        for a, below in listed.items()
+        for b in below
+        if a in level and b in level and level[a] < level[b]
+    }
     # an arrow that follows from others is left out
     reach = {}
     for i in reversed(range(len(rows))):
@@ -368,7 +457,11 @@ def check_believed():
         raise Changed(f"{HOUSE} does not say what must be believed")
     named = set(re.findall(r"`(\w+)`", sentence.group(1)))
     for name in sorted(cited ^ named):
-        where = f"a contract cites it, and {HOUSE} does not name it" if name in cited else f"{HOUSE} names it, and no contract cites it"
+        where = (
+            f"a contract cites it, and {HOUSE} does not name it"
+            if name in cited
+            else f"{HOUSE} names it, and no contract cites it"
+        )
         fault(f"what must be believed: {name}/specs: {where}")
 
 
@@ -405,22 +498,41 @@ def check_header(drawn):
     }
     # the first byte of a field
     for name, spec, field in (
-        ("SENDER", "Record", "credential"), ("DOXM_OWNER", "Bodies", "newOwner"), ("CRED_NUMBER", "Bodies", "rowNumber"),
-        ("CRED_SUBJECT", "Bodies", "credSubject"), ("CRED_ROLE", "Bodies", "credRole"), ("CRED_AUTHORITY", "Bodies", "credAuthority"),
-        ("CRED_TYPE", "Bodies", "credType"), ("ASSERTED_AUTHORITY", "Roles", "assertedAuthority"),
-        ("ASSERTED_ROLE", "Roles", "assertedRole"), ("ASSERTED_LAST", "Roles", "assertedLast"), ("ACE_NUMBER", "Bodies", "rowNumber"),
-        ("ACE_SET", "Bodies", "inSet"), ("ACE_SUBJECT", "Bodies", "aceSubject"), ("ACE_AUTHORITY", "Bodies", "aceAuthority"),
-        ("ACE_ROLE", "Bodies", "aceRole"), ("ACE_CONNECTION", "Bodies", "aceConnection"), ("ACE_FIRST", "Bodies", "aceFirst"),
-        ("ACE_LAST", "Bodies", "aceLast"), ("OLD_SUBJECT", "Old", "oldSubject"), ("OLD_PERMISSION", "Old", "oldPermission"),
+        ("SENDER", "Record", "credential"),
+        ("DOXM_OWNER", "Bodies", "newOwner"),
+        ("CRED_NUMBER", "Bodies", "rowNumber"),
+        ("CRED_SUBJECT", "Bodies", "credSubject"),
+        ("CRED_ROLE", "Bodies", "credRole"),
+        ("CRED_AUTHORITY", "Bodies", "credAuthority"),
+        ("CRED_TYPE", "Bodies", "credType"),
+        ("ASSERTED_AUTHORITY", "Roles", "assertedAuthority"),
+        ("ASSERTED_ROLE", "Roles", "assertedRole"),
+        ("ASSERTED_LAST", "Roles", "assertedLast"),
+        ("ACE_NUMBER", "Bodies", "rowNumber"),
+        ("ACE_SET", "Bodies", "inSet"),
+        ("ACE_SUBJECT", "Bodies", "aceSubject"),
+        ("ACE_AUTHORITY", "Bodies", "aceAuthority"),
+        ("ACE_ROLE", "Bodies", "aceRole"),
+        ("ACE_CONNECTION", "Bodies", "aceConnection"),
+        ("ACE_FIRST", "Bodies", "aceFirst"),
+        ("ACE_LAST", "Bodies", "aceLast"),
+        ("OLD_SUBJECT", "Old", "oldSubject"),
+        ("OLD_PERMISSION", "Old", "oldPermission"),
         ("OLD_SET", "Old", "oldSet"),
     ):
         expected[name + "_AT"] = span(spec, field, 0)[0] // 8
-    # how far a field stands from the end of its byte or word
+    # how far a field is from the end of its byte or word
     for name, spec, field, unit in (
-        ("VERB", "Record", "verb", 16), ("CONNECTION", "Record", "connection", 16), ("RESOURCE", "Record", "resource", 16),
-        ("DOXM_OWNED", "Bodies", "newOwned", 8), ("PSTAT_TARGET", "Bodies", "target", 8), ("CRED_TYPE", "Bodies", "credType", 8),
-        ("ACE_KIND", "Bodies", "aceKind", 16), ("ACE_PERMISSION", "Bodies", "acePermission", 16),
-        ("ACE_WILDCARDS", "Bodies", "aceStar", 16), ("OLD_PERMISSION", "Old", "oldPermission", 8),
+        ("VERB", "Record", "verb", 16),
+        ("CONNECTION", "Record", "connection", 16),
+        ("RESOURCE", "Record", "resource", 16),
+        ("DOXM_OWNED", "Bodies", "newOwned", 8),
+        ("PSTAT_TARGET", "Bodies", "target", 8),
+        ("CRED_TYPE", "Bodies", "credType", 8),
+        ("ACE_KIND", "Bodies", "aceKind", 16),
+        ("ACE_PERMISSION", "Bodies", "acePermission", 16),
+        ("ACE_WILDCARDS", "Bodies", "aceStar", 16),
+        ("OLD_PERMISSION", "Old", "oldPermission", 8),
     ):
         first, width = span(spec, field, 0)
         expected[name + "_SHIFT"] = -(first + width) % unit
@@ -436,14 +548,21 @@ def check_header(drawn):
 def check_yards():
     """The identity and the numbers of the reasons are those of the definitions."""
     header, definitions = read("include/tillerclover_yards.h"), read("crates/rules_interface/specs/Isolated.antt")
-    versions = [int(re.search(rf"^{name} = (\d+)$", definitions, re.M).group(1)) for name in ("formatVersion", "interfaceVersion")]
+    versions = [
+        int(re.search(rf"^{name} = (\d+)$", definitions, re.M).group(1))
+        for name in ("formatVersion", "interfaceVersion")
+    ]
     said = re.search(r"#define TILLERCLOVER_IDENTITY UINT64_C\((\d+)\)", header)
     if not said or int(said.group(1)) != 1000000 * versions[0] + versions[1]:
         fault("tillerclover_yards.h: the identity is not that of Isolated.antt")
     reports = read("crates/rules_isolation/specs/Question.antt")
     for name, variant in (
-        ("ISOLATED", "Isolated"), ("ISOLATION_ODD_LENGTH", "OddLength"), ("ISOLATION_NOT_SOUND", "Unsound"),
-        ("ISOLATION_NO_OWNER", "NoOwner"), ("ISOLATION_NAMES_OWNER", "NamesOwner"), ("ISOLATION_MAY_ALTER", "MayAlter"),
+        ("ISOLATED", "Isolated"),
+        ("ISOLATION_ODD_LENGTH", "OddLength"),
+        ("ISOLATION_NOT_SOUND", "Unsound"),
+        ("ISOLATION_NO_OWNER", "NoOwner"),
+        ("ISOLATION_NAMES_OWNER", "NamesOwner"),
+        ("ISOLATION_MAY_ALTER", "MayAlter"),
     ):
         number_of = re.search(rf"^reportOf \(?{variant}\b.*reason = (\d+);", reports, re.M)
         if not number_of or f"TILLERCLOVER_{name} = {number_of.group(1)}" not in header:
@@ -551,14 +670,21 @@ def check_cited(page):
         # `tillerclover::..` is the library's name in CMake and in Rust
         if crate != "tillerclover" and name not in functions_of(f"crates/{crate}/src"):
             fault(f"{page}: there is no function {name} in crates/{crate}/src")
-    for path in set(re.findall(r"(?<![\w/.])((?:docs|tests|targets|include|examples|model|bindings|tool|bench|crates|packaging)/[\w./-]*\w)", text)):
+    for path in set(
+        re.findall(
+            r"(?<![\w/.])((?:docs|tests|targets|include|examples|model|bindings|tool|bench|crates|packaging)/[\w./-]*\w)",
+            text,
+        )
+    ):
         if not os.path.exists(path) and "target" not in path:
             fault(f"{page}: there is no {path}")
 
 
 def check_changelog():
     text, header = read("CHANGELOG.md"), read(HEADER)
-    version = ".".join(re.search(rf"#define TILLERCLOVER_INTERFACE_{part} (\d+)", header).group(1) for part in ("MAJOR", "MINOR"))
+    version = ".".join(
+        re.search(rf"#define TILLERCLOVER_INTERFACE_{part} (\d+)", header).group(1) for part in ("MAJOR", "MINOR")
+    )
     heading = re.search(r"^## ([\d.]+)", text, re.M)
     if not heading or heading.group(1) != version:
         fault(f"CHANGELOG.md: the first heading is not that of version {version}")
@@ -567,20 +693,28 @@ def check_changelog():
         fault(f"CHANGELOG.md: no heading names format {stored}")
     said = {cells[0]: cells[1] for cells in rows_of(text) if len(cells) == 3}
     for row, long in (
-        ("the tables", struct_fields()[1]), ("a credential row", number("Tables", "stride Creds")),
-        ("an access row", number("Tables", "stride Aces")), ("waiting records", number("Slots", "queueSize")),
+        ("the tables", struct_fields()[1]),
+        ("a credential row", number("Tables", "stride Creds")),
+        ("an access row", number("Tables", "stride Aces")),
+        ("waiting records", number("Slots", "queueSize")),
     ):
         if said.get(row) != f"{long:,}":
             fault(f"CHANGELOG.md: {row}: {said.get(row)}, and today {long:,}")
 
 
 def check_edits():
-    edits = {tuple(re.fullmatch(r"crates/(\w+)/must-fail/(\w+)\.edit", path).groups()) for path in glob.glob("crates/*/must-fail/*.edit")}
+    edits = {
+        tuple(re.fullmatch(r"crates/(\w+)/must-fail/(\w+)\.edit", path).groups())
+        for path in glob.glob("crates/*/must-fail/*.edit")
+    }
     rows = [(cells[0], cells[1].strip("`")) for cells in rows_of(read("docs/MUST-FAIL.md"))[1:]]
     if rows != sorted(set(rows)):
         fault("MUST-FAIL.md: the rows are not sorted by crate and edit, or one stands twice")
     for crate, edit in sorted(edits ^ set(rows)):
-        fault(f"MUST-FAIL.md: {crate}/must-fail/{edit}.edit " + ("has no row" if (crate, edit) in edits else "is not there, and has a row"))
+        fault(
+            f"MUST-FAIL.md: {crate}/must-fail/{edit}.edit "
+            + ("has no row" if (crate, edit) in edits else "is not there, and has a row")
+        )
 
 
 # ---- words
@@ -591,7 +725,11 @@ def check_glossary():
     words = [cells[0].replace("`", "") for cells in rows_of(page)[1:]]
     if words != sorted(words, key=str.lower):
         fault("GLOSSARY.md: the words are not in their order")
-    sources = "\n".join(read(path) for path in glob.glob("crates/*/specs/**/*.antt", recursive=True) + glob.glob("crates/*/src/**/*.rt", recursive=True))
+    sources = "\n".join(
+        read(path)
+        for path in glob.glob("crates/*/specs/**/*.antt", recursive=True)
+        + glob.glob("crates/*/src/**/*.rt", recursive=True)
+    )
     known = set(re.findall(r"\w+", sources))
     for name in set(re.findall(r"`(\w+)`", page)) - known:
         fault(f"GLOSSARY.md: there is no {name} in the sources")
@@ -608,20 +746,33 @@ def boundary_picture():
     if "judge" not in functions or "store_next" not in functions:
         raise Changed("the headers declare their functions in another form")
     listed = ",<br/>".join(", ".join(functions[i : i + 3]) for i in range(0, len(functions), 3))
-    return "\n".join([
-        "```mermaid", "flowchart TB", '    net["the network: hostile"]', '    lists["lists of another firm\'s program"]',
-        '    subgraph device["the device: the integrator\'s"]',
-        '        stack["session layer<br/>CoAP, DTLS, keys<br/>believed: who sent a record"]',
-        '        subgraph inside["inside the trust boundary"]',
-        '            program["the weighing program<br/>believed: acts on the answer,<br/>keeps the terminal as it was left"]',
-        f'            library["THE LIBRARY: PROVED<br/>{listed}"]', '            clock["clock<br/>believed"]', "        end",
-        '        memory["tables, waiting records<br/>any content: looked at, not believed"]',
-        '        plate["plate, printer, lamp, calibration"]', "    end", "    net -->|datagrams| stack",
-        '    stack -->|"record, connection bit, credential number"| program', "    lists -->|bytes| program",
-        '    program -->|"record, tables, waiting records, clock"| library',
-        '    library -->|"answer, permission, payload, reply, tables"| program', "    clock --> program",
-        '    memory <-->|"stored and read back"| program', '    program -->|"permitted records alone"| plate', "```",
-    ])
+    return "\n".join(
+        [
+            "```mermaid",
+            "flowchart TB",
+            '    net["the network: hostile"]',
+            '    lists["lists of another firm\'s program"]',
+            '    subgraph device["the device: the integrator\'s"]',
+            '        stack["session layer<br/>CoAP, DTLS, keys<br/>believed: who sent a record"]',
+            '        subgraph inside["inside the trust boundary"]',
+            '            program["the weighing program<br/>believed: acts on the answer,<br/>keeps the terminal as it was left"]',
+            f'            library["THE LIBRARY: PROVED<br/>{listed}"]',
+            '            clock["clock<br/>believed"]',
+            "        end",
+            '        memory["tables, waiting records<br/>any content: looked at, not believed"]',
+            '        plate["plate, printer, lamp, calibration"]',
+            "    end",
+            "    net -->|datagrams| stack",
+            '    stack -->|"record, connection bit, credential number"| program',
+            "    lists -->|bytes| program",
+            '    program -->|"record, tables, waiting records, clock"| library',
+            '    library -->|"answer, permission, payload, reply, tables"| program',
+            "    clock --> program",
+            '    memory <-->|"stored and read back"| program',
+            '    program -->|"permitted records alone"| plate',
+            "```",
+        ]
+    )
 
 
 def check_way():
@@ -635,7 +786,13 @@ def pictures():
     drawn = layouts()
     check_header(drawn)
     made = {name: "```\n" + layout.draw() + "\n```" for name, layout in drawn.items()}
-    made.update(states=states_picture(), writes=writes_table(), tables=tables_table(), waiting=waiting_table(), layers=layers_picture())
+    made.update(
+        states=states_picture(),
+        writes=writes_table(),
+        tables=tables_table(),
+        waiting=waiting_table(),
+        layers=layers_picture(),
+    )
     made.update(order=order_picture(), sequence=sequence_picture())
     return made
 
@@ -666,7 +823,9 @@ def renew(path, make, write):
             file.write(text)
     elif text != page:
         fault(f"{path} is not what the sources give today; tests/documents.py --write renews it:")
-        faults.extend(line for line in difflib.unified_diff(page.split("\n"), text.split("\n"), "page", "today", lineterm="", n=1))
+        faults.extend(
+            line for line in difflib.unified_diff(page.split("\n"), text.split("\n"), "page", "today", lineterm="", n=1)
+        )
 
 
 def main(words):

@@ -138,7 +138,9 @@ def main():
     with open("a", "rb") as file:
         before = file.read()
     for name, arguments, text in COMMANDS:
-        done = subprocess.run([program, *arguments, "--json"], input=text.encode(), stdout=subprocess.PIPE, stderr=subprocess.PIPE)
+        done = subprocess.run(
+            [program, *arguments, "--json"], input=text.encode(), stdout=subprocess.PIPE, stderr=subprocess.PIPE
+        )
         said = done.stderr if name == "error" else done.stdout
         try:
             value = json.loads(said)

@@ -54,7 +54,9 @@ def cell(cell):
     if not cell["served"]:
         return "not served"
     parts = [letters(cell["now"]) or "\u2013"]
-    parts += [f"{letters(cell[key])} {word}" for key, word in (("over", "over"), ("to_come", "to come")) if letters(cell[key])]
+    parts += [
+        f"{letters(cell[key])} {word}" for key, word in (("over", "over"), ("to_come", "to come")) if letters(cell[key])
+    ]
     return " ".join(parts)
 
 
@@ -68,7 +70,11 @@ def sender(sender):
 
 def yards_are_said(yards, enders, said):
     expected = [
-        [yard["name"], ", ".join(map(str, yard["senders"])), "isolated" if yard["isolated"] else f"not isolated : {yard['reason']['words']}"]
+        [
+            yard["name"],
+            ", ".join(map(str, yard["senders"])),
+            "isolated" if yard["isolated"] else f"not isolated : {yard['reason']['words']}",
+        ]
         for yard in said["yards"]
     ]
     if yards[1:] != expected:
@@ -90,14 +96,22 @@ def main():
         faults.append(f"not closed: {page.open}")
     for tag in page.tags & {"script", "link", "img", "iframe", "object"}:
         faults.append(f"the page has a <{tag}>")
-    faults.extend(f"<{tag} {name}>" for tag, name, _ in page.attributes if name in ("src", "href") or name.startswith("on"))
+    faults.extend(
+        f"<{tag} {name}>" for tag, name, _ in page.attributes if name in ("src", "href") or name.startswith("on")
+    )
     for needed in ("prefers-color-scheme: dark", "color-scheme: light dark", "@media print", "@page"):
         if needed not in source:
             faults.append(f"no '{needed}'")
     if "url(" in source or "@import" in source or "http" in source:
         faults.append("the page needs another file")
     text = " ".join(" ".join(page.text).split())
-    for needed in (sys.argv[3], "RFNOP, ready for normal operation", "season over", "any holder may assert any role", "sha256"):
+    for needed in (
+        sys.argv[3],
+        "RFNOP, ready for normal operation",
+        "season over",
+        "any holder may assert any role",
+        "sha256",
+    ):
         if needed not in text:
             faults.append(f"not said: {needed}")
     names = [name.rsplit("/", 1)[-1] for name in rights["senders"][0]["resources"]]

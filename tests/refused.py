@@ -22,7 +22,7 @@ FORM = re.compile(
     r"|expected type `(?:ℕ|[A-Z][A-Za-z]*|Rattle·[^ `]+)`, but)"
     r"|error: a declaration is|type `Type [0-9]+`|but this has type `tie\.Need-"
 )
-# an answer to what a callee asks for has a name of its own, or stands in the list of answers; without a proof file a note says it
+# an answer to what a callee asks for has a name of its own, or is in the list of answers; without a proof file a note says it
 NAMED = re.compile(r"error: `[\w·-]*-requires(?:-\d+)?`")
 NOTE = re.compile(r"requires holds at this call")
 

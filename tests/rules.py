@@ -61,7 +61,9 @@ def plain(block):
     inside = [line for line in block.split("\n") if not line.startswith("module _")]
     if len(inside) < len(block.split("\n")) or all(line.startswith("  ") for line in inside):
         inside = [line[2:] if line.startswith("  ") else line for line in inside]
-    return "\n".join(re.sub(r"^( *)(?:(?:abbrev|unfoldable) )?pub (?:abbrev |unfoldable )?", r"\1", line) for line in inside)
+    return "\n".join(
+        re.sub(r"^( *)(?:(?:abbrev|unfoldable) )?pub (?:abbrev |unfoldable )?", r"\1", line) for line in inside
+    )
 
 
 def section(file, title, answers):

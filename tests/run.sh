@@ -121,9 +121,9 @@ tool_cargo() { (cd tool && rm -f Cargo.lock && cargo "$1" --config ../tests/debi
 # The C files.
 c_files() { find include bench tests targets examples page -name '*.[ch]' | sort; }
 
-# Every file is in its layout: Rattle by rt, Rust by rustfmt.toml, C by .clang-format; scripts are clean by shellcheck.
+# Every file is in its layout: Rattle by rt, Rust by rustfmt.toml, C by .clang-format, Python by black; scripts are clean by shellcheck.
 test_layout() {
-    need_component fmt rustfmt rustfmt && need clang-format clang-format && need shellcheck shellcheck || return 1
+    need_component fmt rustfmt rustfmt && need clang-format clang-format && need shellcheck shellcheck && need black black || return 1
     local files failed=0
     log rt fmt --check || failed=1
     log in_model cargo fmt --check || failed=1
@@ -133,6 +133,8 @@ test_layout() {
     log in_page cargo fmt --check || failed=1
     mapfile -t files < <(c_files)
     log clang-format --dry-run --Werror "${files[@]}" || failed=1
+    mapfile -t files < <(git ls-files "*.py")
+    log black --quiet --check --line-length 120 "${files[@]}" || failed=1
     log shellcheck .ci/run tests/*.sh targets/*.sh page/*.sh bench/*.sh examples/terminal/*.sh packaging/*.sh || failed=1
     return "$failed"
 }
@@ -292,7 +294,7 @@ test_store() {
     log in_model cargo run --quiet --profile gate --locked --features linked --bin stores && tail -n 1 "$work/log"
 }
 
-# Two builds in two folders give the same archive: what was proved is lent to the second, its code is made anew. Where kit and sources
+# Two builds in two folders give the same archive: what was proved is passed in to the second, its code is made again. Where kit and sources
 # are those of packaging/KIT, it is the archive of its sum.
 test_same() {
     library || return 1
@@ -318,7 +320,7 @@ test_install() {
     staged "$archive" && released "$archive" "$outside" && packaged_deb "$archive" "$outside"
 }
 
-# by_target ARCHIVE: $work/libraries stands for what `make targets` writes, which another test may be writing meanwhile
+# by_target ARCHIVE: $work/libraries represents what `make targets` writes, which another test may be writing meanwhile
 by_target() {
     local triple
     for triple in x86_64-unknown-linux-gnu thumbv7em-none-eabi; do
@@ -375,7 +377,7 @@ released() {
 bill_of() {
     local name
     need_schema && log packaging/sbom.py --check "$1" ${schema:+"$schema"} || return 1
-    # two licences, of which one is an expression, are against the standard alone
+    # two licences, of which one is an expression, are against only the standard
     sed '0,/"licenses": \[/s//"licenses": [{"expression": "MIT"},/' "$1" >"$work/spoilt.json"
     packaging/sbom.py --check "$work/spoilt.json" && { [ -z "$schema" ] || ! packaging/sbom.py --check "$work/spoilt.json" "$schema" 2>/dev/null; } ||
         { echo "install: CycloneDX's own schema is not asked" && return 1; }

@@ -21,7 +21,12 @@ INDENT = "    "
 
 def run(command, folder, environment):
     done = subprocess.run(
-        ["bash", "-c", command], cwd=folder, env=environment, stdin=subprocess.DEVNULL, stdout=subprocess.PIPE, stderr=subprocess.STDOUT
+        ["bash", "-c", command],
+        cwd=folder,
+        env=environment,
+        stdin=subprocess.DEVNULL,
+        stdout=subprocess.PIPE,
+        stderr=subprocess.STDOUT,
     )
     text = re.sub(r"\b[0-9a-f]{64}\b", "(64 digits)", done.stdout.decode("utf-8", "replace"))
     text = re.sub(r"\bprocess \d+", "process (its number)", text)
@@ -40,7 +45,11 @@ def shown(lines, folder, environment):
         if not line.startswith(INDENT + "$ "):
             continue
         end = place
-        while end < len(lines) and not lines[end].startswith(INDENT + "$ ") and (lines[end].startswith(INDENT) or not lines[end]):
+        while (
+            end < len(lines)
+            and not lines[end].startswith(INDENT + "$ ")
+            and (lines[end].startswith(INDENT) or not lines[end])
+        ):
             end += 1
         while end > place and not lines[end - 1]:
             end -= 1

@@ -108,7 +108,11 @@ def enum(name):
 def rows_of(text):
     """The cells of each row of the tables in a text."""
     lines = [line.strip() for line in text.split("\n")]
-    return [[cell.strip() for cell in line[1:-1].split(" | ")] for line in lines if line.startswith("|") and not line.startswith("|---")]
+    return [
+        [cell.strip() for cell in line[1:-1].split(" | ")]
+        for line in lines
+        if line.startswith("|") and not line.startswith("|---")
+    ]
 
 
 def functions_of(path):
@@ -123,7 +127,9 @@ def exports(path, name):
     if not re.search(rf"^pub mod {file[:-5]}$", read(node), re.M):
         return False
     word = re.escape(name)
-    return bool(re.search(rf"^ *(?:(?:unfoldable|abbrev) )?pub (?:{word} :|(?:record|data) {word}\s)", read(path), re.M))
+    return bool(
+        re.search(rf"^ *(?:(?:unfoldable|abbrev) )?pub (?:{word} :|(?:record|data) {word}\s)", read(path), re.M)
+    )
 
 
 def contracts():

@@ -35,7 +35,9 @@ def named(project, path, text, seen):
             yield home, name
         elif name not in seen:
             for short in forms:
-                yield from named(project, path, f"{short.statement}\n{short.body}".replace(f"\n{name} ", "\n"), seen | {name})
+                yield from named(
+                    project, path, f"{short.statement}\n{short.body}".replace(f"\n{name} ", "\n"), seen | {name}
+                )
 
 
 def check_statement(project, path, name):
@@ -43,7 +45,12 @@ def check_statement(project, path, name):
     for declaration in project.file(path).declared(name):
         text = "\n".join(declaration.around + [declaration.statement])
         for home, there in sorted(set(named(project, path, text, frozenset())), key=str):
-            if home and "/proofs/" in home and not (is_examples(path) and is_examples(home)) and (home, there) != (path, name):
+            if (
+                home
+                and "/proofs/" in home
+                and not (is_examples(path) and is_examples(home))
+                and (home, there) != (path, name)
+            ):
                 fault(f"PROOFS.md: the statement of {name} names {there}, and that stands in {home}")
 
 

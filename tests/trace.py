@@ -20,11 +20,11 @@ from sources import Changed, fault, faults, functions_of, read  # noqa: E402
 from statements import is_examples  # noqa: E402
 
 SOURCE, PAGE = "docs/trace.txt", "docs/TRACE.md"
-# the parts of a row behind its sentence and what it asks
+# the parts of a row after its sentence and what it asks
 PARTS = ["definition", "code", "theorem", "edit", "test"]
 # programs: no contract can say what is read or written
 NO_CONTRACT = {"run::main", "vectors::walk"}
-# the rules as one reads them: a name that stands there and elsewhere means the one there
+# the rules as one reads them: a name that is there and elsewhere means the one there
 RULES = "rules_typed"
 # a name that an .antt file exports
 EXPORTED = r"^ *(?:(?:unfoldable|abbrev) )?pub (?:record |data )?(\S+)(?= |$)"
@@ -69,7 +69,9 @@ def parsed_row(line):
         raise Changed(f"{SOURCE}: this is no row: {line[:60]}")
     word, first, last = match.group(1), int(match.group(2)), int(match.group(3) or match.group(2))
     names = [f"{word}.{n}" for n in range(first, last + 1)]
-    parts = None if len(cells) == 2 else {part: [] if cell == "-" else cell.split() for part, cell in zip(PARTS, cells[2:])}
+    parts = (
+        None if len(cells) == 2 else {part: [] if cell == "-" else cell.split() for part, cell in zip(PARTS, cells[2:])}
+    )
     return Row(names, cells[1], parts)
 
 
@@ -133,7 +135,16 @@ def check_code(name):
 def test_files():
     """The files that hold tests, and the cases of the comparison, by their names; two of the model and its mutants may share one."""
     found = {}
-    for pattern in ("model/src/systematic.rs", "model/src/tests/**/*.rs", "model/tests/**/*.rs", "bindings/rust/tests/*.rs", "answers/tests/*.rs", "tool/tests/*.rs", "tests/*.c", "tests/*.sh"):
+    for pattern in (
+        "model/src/systematic.rs",
+        "model/src/tests/**/*.rs",
+        "model/tests/**/*.rs",
+        "bindings/rust/tests/*.rs",
+        "answers/tests/*.rs",
+        "tool/tests/*.rs",
+        "tests/*.c",
+        "tests/*.sh",
+    ):
         for path in sorted(glob.glob(pattern, recursive=True)):
             found.setdefault(os.path.basename(path), []).append(path)
     return found
@@ -164,7 +175,7 @@ def test_file(name, files):
     return paths[0]
 
 
-# ---- what stands in a row belongs together
+# ---- what is in a row belongs together
 
 
 class Reach:
@@ -190,17 +201,25 @@ class Reach:
     def texts(self, place, whole):
         path, name = place
         parts = self.project.file(path).declared(name)
-        return ["\n".join(part.around + [part.statement] + ([part.body] if whole or part.short else [])) for part in parts]
+        return [
+            "\n".join(part.around + [part.statement] + ([part.body] if whole or part.short else [])) for part in parts
+        ]
 
     def statement(self, place):
         """What a theorem's statement names."""
-        return {there for text in self.texts(place, False) for there in self.named(place[0], self.project.file(place[0]).uses, text)}
+        return {
+            there
+            for text in self.texts(place, False)
+            for there in self.named(place[0], self.project.file(place[0]).uses, text)
+        }
 
     def following(self, place):
         """What a definition names, or the rows, tables and runs that an example is of."""
         if place not in self.found:
             texts = self.texts(place, "/specs/" in place[0] or is_examples(place[0]))
-            self.found[place] = {there for text in texts for there in self.named(place[0], self.project.file(place[0]).uses, text)}
+            self.found[place] = {
+                there for text in texts for there in self.named(place[0], self.project.file(place[0]).uses, text)
+            }
         return self.found[place]
 
     def contract(self, name):
@@ -300,7 +319,10 @@ def page(papers, rows):
     rules = [row for row in rows if row.is_rule()]
     without = {part: [row for row in rules if not row.parts[part]] for part in PARTS}
     named = {name for row in rules for name in row.parts["edit"]}
-    edits = {"/".join(re.fullmatch(r"crates/(\w+)/must-fail/(\w+)\.edit", path).groups()) for path in glob.glob("crates/*/must-fail/*.edit")}
+    edits = {
+        "/".join(re.fullmatch(r"crates/(\w+)/must-fail/(\w+)\.edit", path).groups())
+        for path in glob.glob("crates/*/must-fail/*.edit")
+    }
     sentences = sum(len(row.names) for row in rows)
     text.append("## What is missing\n")
     text.append(
@@ -308,19 +330,29 @@ def page(papers, rows):
         "be defined (reasons, headings, ways of speaking).\n"
     )
     text.append("| | rows |\n|---|---|")
-    text.append(f"| neither code nor theorem: pages and must-fail edits alone | {listed([r for r in rules if not r.parts['code'] and not r.parts['theorem']])} |")
-    text.append(f"| no theorem over the definition; the code's contract alone | {listed([r for r in without['theorem'] if r.parts['code']])} |")
-    text.append(f"| no code: a claim over definitions, or over any calls that meet the contracts | {listed([r for r in without['code'] if r.parts['theorem']])} |")
+    text.append(
+        f"| neither code nor theorem: pages and must-fail edits alone | {listed([r for r in rules if not r.parts['code'] and not r.parts['theorem']])} |"
+    )
+    text.append(
+        f"| no theorem over the definition; the code's contract alone | {listed([r for r in without['theorem'] if r.parts['code']])} |"
+    )
+    text.append(
+        f"| no code: a claim over definitions, or over any calls that meet the contracts | {listed([r for r in without['code'] if r.parts['theorem']])} |"
+    )
     text.append(f"| no must-fail edit | {listed(without['edit'])} |")
     text.append(f"| no test of its own | {listed(without['test'])} |")
-    text.append(f"\nMust-fail edits that no row names; most are of the store, of power cuts and of the question of isolation, which the papers do not have: "
-                f"{', '.join(f'`{edit}`' for edit in sorted(edits - named)) or 'none'}.\n")
+    text.append(
+        f"\nMust-fail edits that no row names; most are of the store, of power cuts and of the question of isolation, which the papers do not have: "
+        f"{', '.join(f'`{edit}`' for edit in sorted(edits - named)) or 'none'}.\n"
+    )
     section = None
     for row in rows:
         word = row.names[0].split(".")[0]
         if word != section:
             section = word
-            text.append(f"\n## {word}\n\n| sentence | what it asks | definition | code | theorem | must-fail edit | test |\n|---|---|---|---|---|---|---|")
+            text.append(
+                f"\n## {word}\n\n| sentence | what it asks | definition | code | theorem | must-fail edit | test |\n|---|---|---|---|---|---|---|"
+            )
         cells = cells_of(row, specs, proofs, files, reach) if row.is_rule() else ["no rule"] + [""] * 4
         text.append(f"| {row.label()} | {row.words} | " + " | ".join(cells) + " |")
     text.append("\n## Where the tests stand\n\n| file | |\n|---|---|")

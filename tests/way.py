@@ -110,7 +110,9 @@ def drawing():
             out.append(f'<path d="M{x - 12} {top}V{y + 10}H{x}"/>')
         last[depth] = i
         width = 8 * len(crate) + 14
-        out.append(f'<rect x="{x}" y="{y}" width="{width}" height="20" rx="4"/><text x="{x + 7}" y="{y + 14}">{escape(crate)}</text>')
+        out.append(
+            f'<rect x="{x}" y="{y}" width="{width}" height="20" rx="4"/><text x="{x + 7}" y="{y + 14}">{escape(crate)}</text>'
+        )
         out.append(f'<text class="p" x="{x + width + 8}" y="{y + 14}" font-size="12">{escape(purpose(crate))}</text>')
     return "\n".join(out + ["</svg>"]) + "\n"
 

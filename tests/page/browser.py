@@ -32,7 +32,14 @@ def check(well, what):
 class Page:
     def __init__(self, path, down, size="1440,900", dark=False):
         options = webdriver.ChromeOptions()
-        words = ["--headless=new", "--no-sandbox", "--disable-gpu", f"--window-size={size}", "--force-device-scale-factor=1", "--disable-dev-shm-usage"]
+        words = [
+            "--headless=new",
+            "--no-sandbox",
+            "--disable-gpu",
+            f"--window-size={size}",
+            "--force-device-scale-factor=1",
+            "--disable-dev-shm-usage",
+        ]
         for word in words + (["--blink-settings=preferredColorScheme=0"] if dark else []):
             options.add_argument(word)
         options.add_experimental_option("prefs", {"download.default_directory": str(down)})
@@ -44,7 +51,9 @@ class Page:
 
     def open(self, path):
         self.driver.get(path.as_uri())
-        WebDriverWait(self.driver, 60).until(lambda driver: driver.execute_script("return document.documentElement.dataset.ready") == "yes")
+        WebDriverWait(self.driver, 60).until(
+            lambda driver: driver.execute_script("return document.documentElement.dataset.ready") == "yes"
+        )
 
     def script(self, text, *words):
         return self.driver.execute_script(text, *words)
@@ -72,9 +81,16 @@ class Page:
 
     def clock(self, second):
         text = time.strftime("%Y-%m-%dT%H:%M:%S", time.gmtime(second))
-        self.script("const t = document.getElementById('time'); t.value = arguments[0]; t.dispatchEvent(new Event('change'));", text)
+        self.script(
+            "const t = document.getElementById('time'); t.value = arguments[0]; t.dispatchEvent(new Event('change'));",
+            text,
+        )
         words = text.replace("T", " ")
-        self.until("the clock", lambda: words in (self.one("#slider").get_attribute("aria-valuetext") or "") and self.script("return page.clock") == second)
+        self.until(
+            "the clock",
+            lambda: words in (self.one("#slider").get_attribute("aria-valuetext") or "")
+            and self.script("return page.clock") == second,
+        )
 
     def saved(self, button, pattern):
         for old in self.down.glob("*"):
@@ -122,10 +138,15 @@ class Test:
         """Each cell of the table, and each verb of some cells, beside the command."""
         for path in self.chance.sample(self.sound(), 3):
             self.page.load(path)
-            for second in (BASE + self.chance.randrange(-99, 99) * 86400, BASE + self.chance.randrange(-99, 99) * 86400 - 1):
+            for second in (
+                BASE + self.chance.randrange(-99, 99) * 86400,
+                BASE + self.chance.randrange(-99, 99) * 86400 - 1,
+            ):
                 self.page.clock(second)
                 said = self.native("rights", path.name, "--clock", second)
-                shown = self.page.script("return [...document.querySelectorAll('[role=gridcell]')].map((one) => one.getAttribute('aria-label').split(': ').pop())")
+                shown = self.page.script(
+                    "return [...document.querySelectorAll('[role=gridcell]')].map((one) => one.getAttribute('aria-label').split(': ').pop())"
+                )
                 check(shown == list(self.expected_cells(said)), f"rights of {path.name} at {second}")
                 lines = [line for line in said["senders"] if line["sender"]["kind"] != "asserting"]
                 for _ in range(3):
@@ -134,7 +155,9 @@ class Test:
     def cell(self, path, second, lines):
         row, column = self.chance.randrange(len(lines)), self.chance.randrange(len(self.resources))
         self.page.click(f'[data-keep="cell-{row}-{column}"]')
-        shown = self.page.script("return [...document.querySelectorAll('.verbs button')].map((one) => [one.textContent, Number(one.dataset.answer)])")
+        shown = self.page.script(
+            "return [...document.querySelectorAll('.verbs button')].map((one) => [one.textContent, Number(one.dataset.answer)])"
+        )
         number, resource = lines[row]["sender"].get("number"), self.resources[column]
         for verb in self.verbs:
             rows = verb == "DELETE" and resource in ("/oic/sec/cred", "/oic/sec/acl2")
@@ -155,7 +178,9 @@ class Test:
             changed = self.page.script("return page.past.length")
             saved = self.page.saved("#save", "copy*.tables")
             check(saved and saved.read_bytes().hex() == entry["after"], "saved after " + entry["question"]["lines"])
-            check(not changed or self.page.script("return page.past.length") == 0, "saved, and still said to be changed")
+            check(
+                not changed or self.page.script("return page.past.length") == 0, "saved, and still said to be changed"
+            )
         line = "RETRIEVE /weight"
         self.page.script("page.past = []; judge('hand-in ' + arguments[0])", line)
         if self.page.script("return page.past.length"):
@@ -167,7 +192,10 @@ class Test:
         self.page.script("page.past = []")
         self.page.load(path)
         office = self.page.saved("#office", "*.json")
-        check(office and json.loads(office.read_text()) == self.native("list", "text", path.name)["list"], "the office's JSON")
+        check(
+            office and json.loads(office.read_text()) == self.native("list", "text", path.name)["list"],
+            "the office's JSON",
+        )
         sheet = self.page.saved("#sheet", "*.html")
         check(sheet and "<h1>Access rights of" in sheet.read_text(), "the sheet")
 
@@ -175,7 +203,9 @@ class Test:
         page = self.page
         page.click("#tab-rights")
         page.one("#tab-rights").send_keys(Keys.ARROW_RIGHT)
-        check(page.script("return page.tab + document.activeElement.id") == "tablestab-tables", "arrow keys of the tabs")
+        check(
+            page.script("return page.tab + document.activeElement.id") == "tablestab-tables", "arrow keys of the tabs"
+        )
         page.driver.switch_to.active_element.send_keys(Keys.HOME)
         check(page.script("return page.tab") == "rights", "Home of the tabs")
         page.script("page.chosen = null; draw()")
@@ -187,19 +217,24 @@ class Test:
         page.until("the focus stays", lambda: page.script("return document.activeElement.dataset.keep") == "cell-1-2")
 
     def dropped(self):
-        self.page.script("""const t = new DataTransfer(), bytes = Uint8Array.from(arguments[0].match(/../g), (pair) => parseInt(pair, 16));
+        self.page.script(
+            """const t = new DataTransfer(), bytes = Uint8Array.from(arguments[0].match(/../g), (pair) => parseInt(pair, 16));
             t.items.add(new File([bytes], "dropped.tables"));
-            window.dispatchEvent(new DragEvent("drop", { dataTransfer: t, bubbles: true, cancelable: true }));""", self.files[1].hex())
+            window.dispatchEvent(new DragEvent("drop", { dataTransfer: t, bubbles: true, cancelable: true }));""",
+            self.files[1].hex(),
+        )
         self.page.until("dropped", lambda: self.page.one(".what .name").text == "dropped.tables")
 
     def closed(self):
         """Nothing goes out, and nothing but the page's own script runs."""
         check(self.page.script("return performance.getEntriesByType('resource').length") == 0, "something was loaded")
-        said = self.page.driver.execute_async_script("""const done = arguments[0], said = [];
+        said = self.page.driver.execute_async_script(
+            """const done = arguments[0], said = [];
             document.addEventListener("securitypolicyviolation", (event) => said.push(event.effectiveDirective));
             fetch("http://127.0.0.1:8/").catch(() => {}); const image = new Image(); image.src = "http://127.0.0.1:8/x.png";
             document.body.append(Object.assign(document.createElement("script"), { textContent: "window.bad = 1" }));
-            setTimeout(() => done([said.sort(), window.bad ?? 0]), 1000);""")
+            setTimeout(() => done([said.sort(), window.bad ?? 0]), 1000);"""
+        )
         check(said == [["connect-src", "img-src", "script-src-elem"], 0], f"the policy: {said}")
 
     def browser(self):
@@ -223,6 +258,7 @@ class Test:
 
 def pictures(page, folder):
     """Each view, as docs/PAGE.md shows it."""
+
     def shot(name):
         page.driver.save_screenshot(str(folder / f"page-{name}.png"))
 
@@ -247,8 +283,10 @@ def pictures(page, folder):
         Select(page.one(f'[data-keep="y-{number}"]')).select_by_value(name)
     shot("yards")
     page.click("#tab-lists")
-    page.one("#written").send_keys("number=1 subject=22222222-2222-2222-2222-222222222222 permission=RU resources=/tare,/zero first=2027-07-01 last=2027-09-30\n"
-                                   "number=5 subject=role:7@2 permission=U resources=/oic/sec/cred\n")
+    page.one("#written").send_keys(
+        "number=1 subject=22222222-2222-2222-2222-222222222222 permission=RU resources=/tare,/zero first=2027-07-01 last=2027-09-30\n"
+        "number=5 subject=role:7@2 permission=U resources=/oic/sec/cred\n"
+    )
     page.click("#try")
     shot("lists")
     page.click("#theme")
@@ -271,7 +309,11 @@ def narrow(path, folder, down):
 
 
 def main():
-    path, tool, questions = pathlib.Path(sys.argv[1]).resolve(), str(pathlib.Path(sys.argv[2]).resolve()), json.loads(pathlib.Path(sys.argv[3]).read_text())
+    path, tool, questions = (
+        pathlib.Path(sys.argv[1]).resolve(),
+        str(pathlib.Path(sys.argv[2]).resolve()),
+        json.loads(pathlib.Path(sys.argv[3]).read_text()),
+    )
     folder = pathlib.Path(sys.argv[4]).resolve() if len(sys.argv) > 4 else None
     with tempfile.TemporaryDirectory() as name:
         work = pathlib.Path(name)
@@ -287,7 +329,13 @@ def main():
         test.closed()
         test.browser()
         test.bad(path)
-        severe = [entry for entry in page.driver.get_log("browser") if entry["level"] == "SEVERE" and "127.0.0.1" not in entry["message"] and "Content Security" not in entry["message"]]
+        severe = [
+            entry
+            for entry in page.driver.get_log("browser")
+            if entry["level"] == "SEVERE"
+            and "127.0.0.1" not in entry["message"]
+            and "Content Security" not in entry["message"]
+        ]
         check(not severe, f"the browser's log: {severe[:2]}")
         page.open(path)
         if folder:

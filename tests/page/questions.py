@@ -35,7 +35,10 @@ class Maker:
     def ace(self, number):
         r = self.chance
         subject = r.choice([r.choice(UUIDS), r.choice(UUIDS), "role:" + self.role(), "auth-crypt", "anon-clear"])
-        resources = ",".join(r.sample(RESOURCES, r.randrange(0, 5)) + r.sample(["+", "-", "*"], r.choice([0, 0, 0, 1, 2]))) or "*"
+        resources = (
+            ",".join(r.sample(RESOURCES, r.randrange(0, 5)) + r.sample(["+", "-", "*"], r.choice([0, 0, 0, 1, 2])))
+            or "*"
+        )
         letters = "".join(letter for letter in "CRUDN" if r.random() < 0.5) or "R"
         words = f"number={number} subject={subject} permission={letters} resources={resources}"
         words += f" first={self.time()}" if r.random() < 0.4 else ""
@@ -43,7 +46,11 @@ class Maker:
 
     def record(self):
         r = self.chance
-        verb, resource, sender = r.choice(VERBS), r.choice(RESOURCES), r.choice(["", "", *(f" as {n}" for n in range(4, 14))])
+        verb, resource, sender = (
+            r.choice(VERBS),
+            r.choice(RESOURCES),
+            r.choice(["", "", *(f" as {n}" for n in range(4, 14))]),
+        )
         if r.random() < 0.1:
             return "".join(r.choice("0123456789abcdef") for _ in range(2 * r.randrange(1, 40)))
         body = ""
@@ -66,13 +73,22 @@ class Maker:
     def setup(self):
         r = self.chance
         some = UUIDS[: r.randrange(1, 9)]
-        lines = [f"UPDATE /oic/sec/cred number={5 + i} subject={uuid}" + (f" role={self.role()}" if r.random() < 0.4 else "") for i, uuid in enumerate(some)]
+        lines = [
+            f"UPDATE /oic/sec/cred number={5 + i} subject={uuid}" + (f" role={self.role()}" if r.random() < 0.4 else "")
+            for i, uuid in enumerate(some)
+        ]
         lines += [f"UPDATE /oic/sec/acl2 {self.ace(n)}" for n in range(1, 1 + r.choice([0, 3, 6, 12, 32]))]
         lines += [f"UPDATE {x} row-owner={r.choice(UUIDS)}" for x in RESOURCES[:4] if r.random() < 0.15]
         if r.random() < 0.9:
             lines.append(f"UPDATE /oic/sec/doxm owner={UUIDS[0]}")
-            lines += [f"UPDATE /oic/sec/pstat as 5 state={state}" for state in ["RFPRO", "RFNOP"][: r.choice([0, 1, 2, 2, 2, 2])]]
-        lines += [f"UPDATE /oic/sec/roles as {5 + r.randrange(8)} role={self.role()} last={self.time()}" for _ in range(r.randrange(3))]
+            lines += [
+                f"UPDATE /oic/sec/pstat as 5 state={state}"
+                for state in ["RFPRO", "RFNOP"][: r.choice([0, 1, 2, 2, 2, 2])]
+            ]
+        lines += [
+            f"UPDATE /oic/sec/roles as {5 + r.randrange(8)} role={self.role()} last={self.time()}"
+            for _ in range(r.randrange(3))
+        ]
         return lines + [f"hand-in {self.record()}" for _ in range(r.randrange(4))]
 
     def senders(self):
@@ -110,7 +126,14 @@ class Maker:
     def ask(self, name, data):
         r, clock = self.chance, self.time()
         common, at = {"name": name, "clock": clock}, ["--clock", str(clock)]
-        kind = r.choice(["why"] * 6 + ["when"] * 3 + ["cell"] * 2 + ["plan"] * 3 + ["who"] * 3 + "rights show isolated isolated yards judge judge judge text load".split())
+        kind = r.choice(
+            ["why"] * 6
+            + ["when"] * 3
+            + ["cell"] * 2
+            + ["plan"] * 3
+            + ["who"] * 3
+            + "rights show isolated isolated yards judge judge judge text load".split()
+        )
         if kind == "why":
             words = self.record()
             self.add({**common, "ask": "why", "record": words}, ["why", name, *at, words])
@@ -119,7 +142,9 @@ class Maker:
             entry = self.add({**common, "ask": "when", "record": words}, ["why", name, *at, words])
             entry["form"] = "when"
             seconds = [0, self.time(), self.time() - 1, 4294967295]
-            entry["at"] = [[second, self.run("--json", "why", name, "--clock", str(second), words)[1]] for second in seconds]
+            entry["at"] = [
+                [second, self.run("--json", "why", name, "--clock", str(second), words)[1]] for second in seconds
+            ]
         elif kind == "cell":
             number, resource = r.choice([None, *range(5, 9)]), r.choice(RESOURCES)
             sender = {"kind": "clear"} if number is None else {"kind": "credential", "number": number}
@@ -129,9 +154,14 @@ class Maker:
             entry["expected"] = json.loads(self.run("--json", "why", name, *at, words)[1] or "null")
         elif kind == "plan":
             words = self.record()
-            without, with_ = [r.randrange(1, 8) for _ in range(r.randrange(2))], [self.record() for _ in range(r.randrange(2))]
+            without, with_ = [r.randrange(1, 8) for _ in range(r.randrange(2))], [
+                self.record() for _ in range(r.randrange(2))
+            ]
             options = sum((["--without", str(n)] for n in without), []) + sum((["--with", w] for w in with_), [])
-            self.add({**common, "ask": "why", "record": words, "without": without, "with": with_}, ["why", name, *at, *options, words])
+            self.add(
+                {**common, "ask": "why", "record": words, "without": without, "with": with_},
+                ["why", name, *at, *options, words],
+            )
         elif kind == "who":
             verb, resource = r.choice(VERBS), r.choice(RESOURCES)
             self.add({**common, "ask": "who", "verb": verb, "resource": resource}, ["who", verb, resource, name, *at])
@@ -140,21 +170,32 @@ class Maker:
             self.add({**common, "ask": kind, "zone": zone}, [f"--tz={zone}", kind, name, *at])
         elif kind == "isolated":
             some = self.senders()
-            self.add({**common, "ask": "isolated", "senders": some, "absent": True}, ["isolated", name, some, "--absent"])
+            self.add(
+                {**common, "ask": "isolated", "senders": some, "absent": True}, ["isolated", name, some, "--absent"]
+            )
         elif kind == "yards":
             five = r.sample(["clear", *range(5, 13)], 5)
             named = [f"a={five[0]},{five[1]}", f"b={five[2]}", f"c={five[3]},{five[4]}"][: r.randrange(1, 4)]
             self.add({**common, "ask": "yards", "yards": named, "absent": True}, ["yards", name, *named, "--absent"])
         elif kind == "text":
             seasons = r.random() < 0.5
-            self.add({**common, "ask": "list text", "seasons": seasons}, ["list", "text", name, *(["--seasons"] if seasons else [])])
+            self.add(
+                {**common, "ask": "list text", "seasons": seasons},
+                ["list", "text", name, *(["--seasons"] if seasons else [])],
+            )
         elif kind == "load":
             self.load(common, at, data)
         else:
-            lines = "\n".join(r.choice([self.record(), self.record(), "hand-in " + self.record(), "take"]) for _ in range(r.randrange(1, 6)))
+            lines = "\n".join(
+                r.choice([self.record(), self.record(), "hand-in " + self.record(), "take"])
+                for _ in range(r.randrange(1, 6))
+            )
             write("lines", lines.encode())
             write("copy.tables", data)
-            entry = self.add({**common, "name": "copy.tables", "ask": "judge", "lines": lines}, ["judge", "copy.tables", *at, "--no-backup", "--force", "@lines"])
+            entry = self.add(
+                {**common, "name": "copy.tables", "ask": "judge", "lines": lines},
+                ["judge", "copy.tables", *at, "--no-backup", "--force", "@lines"],
+            )
             entry["after"] = read("copy.tables").hex()
 
     def load(self, common, at, data):
@@ -164,8 +205,27 @@ class Maker:
         if self.run("list", "make", "rows", "made.list", "--force")[0] != 0:
             return
         sender, replace = r.choice([5, 5, 6]), r.random() < 0.5
-        command = ["list", "load", "made.list", "copy.tables", "as", str(sender), *at, "--no-backup", "--force", *(["--replace"] if replace else [])]
-        question = {**common, "name": "copy.tables", "ask": "list load", "list": read("made.list").hex(), "list_name": "made.list", "sender": sender, "replace": replace}
+        command = [
+            "list",
+            "load",
+            "made.list",
+            "copy.tables",
+            "as",
+            str(sender),
+            *at,
+            "--no-backup",
+            "--force",
+            *(["--replace"] if replace else []),
+        ]
+        question = {
+            **common,
+            "name": "copy.tables",
+            "ask": "list load",
+            "list": read("made.list").hex(),
+            "list_name": "made.list",
+            "sender": sender,
+            "replace": replace,
+        }
         entry = self.add(question, command)
         entry["after"] = read("copy.tables").hex()
 
@@ -191,10 +251,13 @@ def make(tool, many, seed, target):
         os.chdir("/")
     questions = maker.questions[: int(many)]
     write(target, json.dumps({"files": maker.files, "questions": questions}).encode())
-    print(f"{len(questions)} questions on {len(maker.files)} files, {sum(one['code'] == 1 for one in questions)} refused, {sum(one['code'] > 1 for one in questions)} errors")
+    print(
+        f"{len(questions)} questions on {len(maker.files)} files, {sum(one['code'] == 1 for one in questions)} refused, {sum(one['code'] > 1 for one in questions)} errors"
+    )
 
 
 # ---- the comparison
+
 
 def spans_agree(entry, answer):
     """What the command says at some seconds is what the spans have there."""
