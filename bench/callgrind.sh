@@ -25,7 +25,7 @@ part() { echo "$out/part.$((2 * $1))"; }
 
 instructions() { sed -nE 's/^totals: ([0-9]+)$/\1/p' "$(part "$1")"; }
 
-# The two sides of a case stand one after the other.
+# The two sides of a case are one after the other.
 all() {
     local line=0 name tables side library hand
     printf '%-10s  %-11s  %8s  %8s  %s\n' case tables library 'by hand' ratio

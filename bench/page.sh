@@ -1,5 +1,5 @@
 #!/usr/bin/env bash
-# Makes the figures of docs/BENCHMARKS.md and docs/benchmarks.svg anew: runs the programs that measure, and writes what they print.
+# Makes the figures of docs/BENCHMARKS.md and docs/benchmarks.svg again: runs the programs that measure, and writes what they print.
 #
 #     rt staticlib terminal && bench/page.sh     all of them, some three minutes
 #     bench/page.sh PART..                       some; the others' figures stay as they were measured last

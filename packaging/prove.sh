@@ -5,7 +5,7 @@
 #     packaging/prove.sh staticlib NAME    a library, and its archive for C: `rt staticlib`
 #
 # A line for each crate as it is proved, with its number, how many there are, and the seconds; target/prove.log has all that
-# was said. Exit status: that of rt.
+# was reported. Exit status: that of rt.
 set -uo pipefail
 cd "$(dirname "$0")/.." || exit 2
 

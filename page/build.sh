@@ -1,7 +1,7 @@
 #!/usr/bin/env bash
 # Builds the page: the proved library and the command's reports as WebAssembly in one file of HTML that needs no server.
 #
-#     page/build.sh              target/page/tillerclover.html, and the module alone, target/page/tillerclover-page.wasm
+#     page/build.sh              target/page/tillerclover.html, and only the module, target/page/tillerclover-page.wasm
 #     page/build.sh --crates     what needs no library: Rust's standard library and the crates that the reports need
 #
 # Needs Debian's rustc-web, cargo-web and rust-web-src (rustc, cargo and rust-src of Debian 13), clang, wasi-libc, python3, gcc and the

@@ -32,7 +32,7 @@ TARGETS=(
     "wasm32-unknown-unknown -mcpu=generic -msimd128"
 )
 OWN=x86_64-unknown-linux-gnu
-# how the toolchain calls its compiler, but for the target's words and the level
+# how the toolchain calls its compiler, except for the target's words and the level
 FLAGS=(-ffunction-sections -fdata-sections -mllvm -trap-unreachable -mllvm -no-trap-after-noreturn --no-default-config
     -no-canonical-prefixes -fintegrated-cc1 -fno-crash-diagnostics -Werror -c -x ir)
 
@@ -55,7 +55,7 @@ stop() {
 links() { mkdir -p "$2" && ln -s "$1"/* "$2"/; }
 
 # The kit by links, with a compiler that keeps what it is given and then calls the real one. The prover clears the
-# environment of its compiler, so the paths stand in the script.
+# environment of its compiler, so the paths are in the script.
 keeping_kit() {
     local bin=$1/$tools/bin
     links "$kit" "$1" && rm "$1/on" && links "$kit/on/$(uname -m)" "$1/on/$(uname -m)"

@@ -21,7 +21,7 @@ static tillerclover_defaults defaults;
 static uint8_t reply[TILLERCLOVER_TEXT_MAX];
 static uint64_t seed, digest;
 static unsigned long seen[ALL_ANSWERS];
-/* the credential numbers of the terminal's partners are so many times 1, 2, .., and its owner's is this */
+/* the credential numbers of the terminal's partners are that many times 1, 2, .., and its owner's is this */
 static unsigned times, owner_number;
 
 /* ---- What is drawn. C leaves the order of arguments open, so that no two of one call are drawn at random. */
@@ -403,7 +403,7 @@ static void any_call(void)
     }
 }
 
-/* A bit of the terminal: of its head, its rows that are in use, or what waits. */
+/* A bit of the terminal: of its head, its rows that are in use, or the queue. */
 static uint8_t *any_place(void)
 {
     switch (any(4)) {
@@ -496,7 +496,7 @@ __attribute__((noinline)) static uintptr_t stack(void)
     return (uintptr_t)__builtin_frame_address(0);
 }
 
-/* So many calls. One in four finds a bit or two of the terminal turned, which are then turned back. Gives ALL_ANSWERS, or the first
+/* That many calls. One in four finds a bit or two of the terminal turned, which are then turned back. Gives ALL_ANSWERS, or the first
  * answer that was never given. */
 static unsigned random_calls(unsigned long calls)
 {

@@ -48,7 +48,7 @@ install() {
     done
 }
 
-# Code and data of the board that an emulator stands for; its memory is twice as large.
+# Code and data of the board that an emulator represents; its memory is twice as large.
 board() {
     local code=0x00000000 data=0x20000000
     [[ $1 != *an505* ]] || code=0x10000000 data=0x38000000

@@ -24,7 +24,7 @@ part_device() {
     file=$work/tables
 }
 
-# What is wrong with a device is said in one line, with exit status 1, and the device stays as it is.
+# What is wrong with a device is reported in one line, with exit status 1, and the device stays as it is.
 device_starts() {
     local rest=(-k "$KEYS" -p "$PORT" -s "$SECURE_PORT") length
     rm -f "$file"

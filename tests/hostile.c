@@ -1,4 +1,4 @@
-/* Fronts that the network has taken over, in the place of the example terminal's: each says one thing that no front
+/* Fronts that the network has taken over, instead of the example terminal's: each says one thing that no front
  * says, or nothing, or everything at once. The core has to survive them all. */
 #include <poll.h>
 #include <stdbool.h>
@@ -144,7 +144,7 @@ int front_main(const char *name, const char *address, const char *port)
     if (turn >= 0 && turn < TURNS) {
         misbehave((secure ? SECURE : CLEAR)[turn], secure);
     }
-    /* through: so each thing is said once */
+    /* through: so each thing is reported once */
     while (turn >= TURNS) {
         poll(NULL, 0, 500);
         say(MESSAGE_ALIVE, 0, NULL, 0);

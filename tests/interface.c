@@ -85,7 +85,7 @@ static const uint8_t *body_of(const tillerclover_record *r)
     return r->bytes + TILLERCLOVER_HEADER_LENGTH;
 }
 
-/* ---- Calls on one terminal without default rows. It stands at an odd address, with a byte before and after it that no call
+/* ---- Calls on one terminal without default rows. It is at an odd address, with a byte before and after it that no call
  * may change. */
 
 static uint8_t memory[1 + sizeof(tillerclover_terminal) + 1];

@@ -133,7 +133,7 @@ static int equal(const tillerclover_terminal *x, const tillerclover_terminal *y)
     return memcmp(x, y, sizeof *x) == 0;
 }
 
-/* What is left of a terminal after a restart: with the tables alone nothing waits. */
+/* What is left of a terminal after a restart: with only the tables nothing waits. */
 static tillerclover_terminal restarted(const tillerclover_terminal *x)
 {
     tillerclover_terminal left = *x;

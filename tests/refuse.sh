@@ -4,7 +4,7 @@
 #     tests/refuse.sh CRATE FILE.edit
 #
 # FILE.edit has a line 'file: ' with a file of the crate below src/, specs/ or proofs/, and pairs of lines 'old: ' and 'new: '; each
-# old text stands in the file exactly once. Lines before them are a comment. crates/*/must-fail/ has examples. The edit is applied
+# old text is in the file exactly once. Lines before them are a comment. crates/*/must-fail/ has examples. The edit is applied
 # to a copy: nothing in the repository changes. Crates that are proved in target/ are not proved again.
 #
 # Exit status: 0 refused, 1 not refused (the program with the edit is still proved), 2 the edit or the call does not fit.
@@ -34,7 +34,7 @@ command -v rt >/dev/null || fail "the command rt is not on the path"
 work=$(mktemp -d) || fail "no temporary folder"
 trap 'rm -rf "$work"' EXIT
 
-# below CRATE: the crate and all that it stands on
+# below CRATE: the crate and all that it is on
 below() {
     local name
     echo "$1"

@@ -100,7 +100,7 @@ new_yard() {
 
 # ---- the parts
 
-# What is wrong at the start is said in one line, with exit status 1.
+# What is wrong at the start is reported in one line, with exit status 1.
 refuses() {
     local words=$1 status
     shift
@@ -136,7 +136,7 @@ part_starts() {
         echo "$line" >"$keys"
         refuses "line 1" -f "$file" "${good[@]}" -k "$keys"
     done
-    # Nothing hides behind a zero byte, and a comment ends with its line.
+    # Nothing hides after a zero byte, and a comment ends with its line.
     printf '7 long-enough-for-a-key\0\n' >"$keys"
     refuses "line 1" -f "$file" "${good[@]}" -k "$keys"
     printf '#%254s7 long-enough-for-a-key\n7 long-enough-for-a-key\n7\n' "" >"$keys"
@@ -216,7 +216,7 @@ part_yard() {
     expect "2.04 Drive on" 0 post /display "$(printf 'Drive on' | od -An -tx1 | tr -d ' \n')"
     expect "4.03 8 not permitted" 0 post /weight
     expect "4.03 16 no endpoint for the connection" 7 get /display
-    # The haulier tares over DTLS. The same in clear is turned away, and a wrong key gets no session.
+    # The haulier tares over DTLS. The same in clear is refused, and a wrong key gets no session.
     expect "2.04 tare 14000 kg" 7 post /tare
     expect "4.03 16 no endpoint for the connection" 0 post /tare
     KEY=0123456789abcdef0123456789abcdef PATIENCE=1 expect none 7 post /tare
@@ -324,7 +324,7 @@ until_true() {
     return 1
 }
 
-# lines MANY PATTERN FILE: whether so many lines match
+# lines MANY PATTERN FILE: whether that many lines match
 lines() { [ "$(grep -ac "$2" "$3")" -ge "$1" ]; }
 
 # again: the haulier asks for the device state twice in one session, a second apart. The terminal is halted in between, and
@@ -408,7 +408,7 @@ mend() {
     finish
 }
 
-# A damaged file is said to be so, every record gets 1, and the button mends it.
+# A damaged file is reported to be so, every record gets 1, and the button mends it.
 part_damage() {
     new_yard || return
     finish
@@ -487,7 +487,7 @@ part_noise() {
         # lines of 1 to 64 random bytes
         od -An -v -w64 -tx1 -N 25600 /dev/urandom | tr -d ' ' | awk '{ print substr($0, 1, 2 * (1 + NR % 64)) }' |
             datagrams "$i"
-        # random bytes behind a head that passes for a message of the protocol
+        # random bytes after a head that passes for a message of the protocol
         od -An -v -w40 -tx1 -N 8000 /dev/urandom | tr -d ' ' | sed 's/^..../4402/' | datagrams "$i"
         od -An -v -w40 -tx1 -N 4000 /dev/urandom | tr -d ' ' | sed 's/^......../16fefd00/' | datagrams "$i"
     done
@@ -545,7 +545,7 @@ part_partners() {
     : >"$work/over"
     wait "${jobs[@]}"
     start=$(($(date +%s%N) - start))
-    # Partner 1 stands in its own way: its clients share one place.
+    # Partner 1 is in its own way: its clients share one place.
     least=$(for i in {2..24}; do cat "$work/many.$i"; done | sort -n | head -n 1)
     most=$(for i in {2..24}; do cat "$work/many.$i"; done | sort -n | tail -n 1)
     echo "24 partners: each of 23 got $least to $most lists of 71 requests"
@@ -585,7 +585,7 @@ part_kills() {
     file=$work/tables
 }
 
-# kill_again WRITES KILLS: until so many writes are confirmed, and so many kills done
+# kill_again WRITES KILLS: until that many writes are confirmed, and that many kills done
 kill_again() {
     local i jobs rows=() kills=0 confirmed=0 before=$faults
     rm -f "$file" "$work"/tried.* "$work"/confirmed.*
@@ -639,7 +639,7 @@ check_rows() {
         fault "a row is newer than any that was sent"
 }
 
-# README's three commands as they stand there, in a copy of the project that has no tables yet.
+# README's three commands as they are there, in a copy of the project that has no tables yet.
 part_readme() {
     local commands root=$work/root group
     commands=$(sed -nE '/^    make -C examples\/terminal run/,/^$/s/^    //p' README.md)

@@ -62,7 +62,7 @@ yard() {
 
 # ---- the parts
 
-# The commands that the documents show, run as they stand, and the packages that they name.
+# The commands that the documents show, run as they are, and the packages that they name.
 part_documents() {
     sed -s -n '/^\[dependencies\]/,/^\[dev-/s/^\([a-z0-9_-]*\) = .*/\1/p' "$root"/{answers,tool}/Cargo.toml |
         grep -vx 'tillerclover\|answers' | tr _ - | sort -u >needed
@@ -205,7 +205,7 @@ part_records() {
     tillerclover new --force fresh >/dev/null && cmp -s a fresh || fault "after a RESET the tables are not fresh"
 }
 
-# What once was said wrongly, or not at all.
+# What once was reported wrongly, or not at all.
 part_faults() {
     local place
     yard a
@@ -230,7 +230,7 @@ part_faults() {
     # how many rows, and which
     tillerclover list text a >out 2>errors
     grep -qx "tillerclover: a: 2 rows with a season are left out, numbers 1, 3; --seasons writes them too" errors || fault "left out: $(cat errors)"
-    # the number that stands twice, and not the row before that gives too much
+    # the number that occurs twice, and not the row before that gives too much
     printf '%s\n' "number=1 subject=auth-crypt permission=U resources=/oic/sec/acl2" "number=2 subject=auth-crypt permission=R resources=/weight" \
         "number=2 subject=auth-crypt permission=R resources=/tare" >rows
     gives 1 "rows: not made, 20: row 3: repeats number 2 of row 2; no file was written" list make rows gone
@@ -548,7 +548,7 @@ while not os.path.exists("stop"):
     wait 2>/dev/null
 }
 
-# The old file is kept, and comes back; what deletes all rows must be said; a list does not eat its source.
+# The old file is kept, and comes back; what deletes all rows must be reported; a list does not eat its source.
 part_backups() {
     yard a
     cp a before && rm -f a~
@@ -589,7 +589,7 @@ int linkat(int a, const char *b, int c, const char *d, int e) { (void)a, (void)b
     LD_PRELOAD=$PWD/nolink.so tillerclover judge c UPDATE /oic/sec/pstat as 5 state=RFPRO >out 2>errors ||
         fault "without links: $(cat errors)"
     cmp -s c~ before && [ "$(stat -c %a c~)" = 640 ] && ! cmp -s c before || fault "without links no copy is kept"
-    # a disk that does not confirm: before the change nothing is changed, after it that is said
+    # a disk that does not confirm: before the change nothing is changed, after it that is reported
     echo '#include <errno.h>
 #include <sys/stat.h>
 #include <sys/syscall.h>
@@ -873,7 +873,7 @@ part_lines() {
     gives 1 "refused    26" hand-in a UPDATE /lamp as 7
     gives 1 "nothing    27     take" take a 3
     gives 1 "nothing waits" take a
-    # a form without room for what waits
+    # a form without room for the queue
     tillerclover new --form tables small >/dev/null && cp small before
     gives 2 "small: has no room for records that wait, by its form; nothing was changed" hand-in small RETRIEVE /weight
     gives 0 "kept" hand-in small --dry-run RETRIEVE /weight

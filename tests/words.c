@@ -19,7 +19,7 @@ static void hexadecimal(const void *bytes, size_t length)
         printf("%02x", ((const uint8_t *)bytes)[i]);
 }
 
-/* Memory with random bytes; one in four is all zeros but for a few. */
+/* Memory with random bytes; one in four is all zeros except for a few. */
 static uint8_t *bytes_of(size_t length)
 {
     uint8_t *bytes = malloc(length);
@@ -209,7 +209,7 @@ static void permissions(void)
     }
 }
 
-/* Each letter in the place of a digit. */
+/* Each letter instead of a digit. */
 static void digits(void)
 {
     for (int letter = 1; letter < 128; letter++) {

@@ -31,7 +31,7 @@ pub fn rows(text: &str) -> Result<Vec<Ace>, String> {
     lines.iter().enumerate().map(row).collect()
 }
 
-/// A row, by the words that it stands for.
+/// A row, by the words that it represents.
 fn row(head: &[String], line: &[String]) -> Result<Ace, String> {
     let mut said: Vec<String> = Vec::new();
     for (name, cell) in head.iter().zip(line) {

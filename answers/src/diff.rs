@@ -124,7 +124,7 @@ fn head(from: &Terminal, to: &Terminal) -> Vec<Change> {
     state.into_iter().chain(owner).chain(owned).chain(rows).collect()
 }
 
-/// Rows by a key; those that repeat it are told apart by their order.
+/// Rows by a key; those that repeat it are distinguished by their order.
 fn keyed<R: Copy>(rows: &[R], key: impl Fn(&R) -> u16) -> BTreeMap<(u16, usize), R> {
     let mut keyed = BTreeMap::new();
     for row in rows {

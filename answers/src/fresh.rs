@@ -23,7 +23,7 @@ pub struct Found {
     pub left: Option<String>,
 }
 
-/// Looks at a file's bytes: the tables, what waits, and in a store the spare image.
+/// Looks at a file's bytes: the tables, the queue, and in a store the spare image.
 pub fn look(file: &Path, bytes: &[u8], defaults: &Given) -> Found {
     let found = |form, left| Found { file: file.into(), form, left };
     match Stored::of(bytes, defaults.clone()) {

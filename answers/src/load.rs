@@ -154,7 +154,7 @@ pub struct Loaded {
     pub changes: Vec<Change>,
     /// How many rows it has.
     pub count: usize,
-    /// What is to be said of the terminal afterwards.
+    /// What is to be reported of the terminal afterwards.
     pub notes: Vec<String>,
 }
 

@@ -15,7 +15,7 @@ pub enum Mark {
     Over,
     /// Its first second is after the clock.
     ToCome,
-    /// It holds now, and its last second comes within thirty days: in so many whole ones.
+    /// It holds now, and its last second comes within thirty days: in that many whole ones.
     EndsSoon(u32),
     /// Its subject fits no sender.
     NoSender,
@@ -84,7 +84,7 @@ impl Marker {
         let needs: Vec<(Verb, Permission)> =
             Verb::ALL.iter().map(|&verb| (verb, probe(Sender::Clear, Resource::DOXM).needed_for(verb))).collect();
         let mut resources = Vec::new();
-        // One sender of each connection stands for all.
+        // One sender of each connection represents all.
         for sender in Sender::all(tables).into_iter().take(2) {
             let (terminal, number) = sender.at(terminal);
             for &resource in Resource::ALL {

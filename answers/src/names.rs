@@ -20,7 +20,7 @@ pub struct Partner {
     pub name: String,
 }
 
-/// Whom a name stands for.
+/// Whom a name represents.
 #[derive(Clone, Debug, PartialEq, Eq)]
 pub enum Named {
     /// A partner.
@@ -130,7 +130,7 @@ impl Names {
         partners.chain(self.roles.iter().map(|(_, name)| name)).collect()
     }
 
-    /// Whom a word stands for: a whole name, or the only one that begins so, or of which a word does.
+    /// Whom a word represents: a whole name, or the only one that begins so, or of which a word does.
     fn find(&self, word: &str) -> Result<Named, String> {
         let own = folded(word);
         let like: Vec<&String> = self.all().into_iter().filter(|name| has(name, &own)).collect();
@@ -153,7 +153,7 @@ impl Names {
     }
 }
 
-/// Whom a word stands for by the chosen names; none where there are no names.
+/// Whom a word represents by the chosen names; none where there are no names.
 pub fn find(word: &str) -> Option<Result<Named, String>> {
     NAMES.with_borrow(|names| (!names.all().is_empty()).then(|| names.find(word)))
 }
@@ -207,7 +207,7 @@ pub fn agree_with(tables: &Tables) -> bool {
     NAMES.with_borrow(|names| names.clone().with(tables).as_ref() == Ok(names))
 }
 
-/// A name after what it stands for, in parentheses, where there is one.
+/// A name after what it represents, in parentheses, where there is one.
 pub fn beside(what: String, name: Option<String>) -> String {
     match name {
         Some(name) => format!("{what} ({name})"),

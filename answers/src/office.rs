@@ -17,7 +17,7 @@ use crate::times::{self, Day};
 /// The keys of the extension.
 const SEASON: [&str; 2] = ["first", "last"];
 
-/// JSON in which no key stands twice.
+/// JSON in which no key occurs twice.
 struct Strict(Value);
 
 impl<'a> Deserialize<'a> for Strict {

@@ -63,7 +63,7 @@ pub fn columns(lines: &[String]) -> String {
     text.lines().map(|line| format!("{}\n", line.trim_end())).collect()
 }
 
-/// A text whose lines have at most so many letters: longer ones go on below, further to the right. Colours have no width.
+/// A text whose lines have at most that many letters: longer ones go on below, further to the right. Colours have no width.
 pub fn folded(text: &str, width: usize) -> String {
     let mut folded = String::with_capacity(text.len());
     for line in text.lines() {

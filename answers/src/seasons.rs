@@ -14,14 +14,14 @@ use crate::show;
 use crate::stored::Stored;
 use crate::{times, words};
 
-/// Where the clock stands in a season.
+/// Where the clock is in a season.
 #[derive(Clone, Copy, Debug, PartialEq, Eq)]
 pub enum Place {
-    /// It ended so many seconds ago.
+    /// It ended that many seconds ago.
     Over(u32),
-    /// It holds for so many seconds more; none where it has no end.
+    /// It holds for that many seconds more; none where it has no end.
     Now(Option<u32>),
-    /// It begins in so many seconds.
+    /// It begins in that many seconds.
     ToCome(u32),
 }
 
@@ -30,7 +30,7 @@ pub enum Place {
 pub struct Season {
     /// The row.
     pub row: Ace,
-    /// Where the clock stands in it.
+    /// Where the clock is in it.
     pub place: Place,
     /// The number of the row that gives the same later.
     pub renewed: Option<u16>,
@@ -47,7 +47,7 @@ impl Place {
         }
     }
 
-    /// Whether the season ends within so many seconds from now on.
+    /// Whether the season ends within that many seconds from now on.
     pub fn ends_within(self, seconds: u32) -> bool {
         matches!(self, Place::Now(Some(left)) if left < seconds)
     }

@@ -35,7 +35,7 @@ pub fn is_idle(terminal: &Terminal) -> bool {
     open.ask(0, &record(Verb::RETRIEVE, Resource::WEIGHT, ANYONE, &[])).answer == Answer::WRONG_STATE
 }
 
-/// What is to be said after a change: that it locks everybody out, and that nothing is weighed.
+/// What is to be reported after a change: that it locks everybody out, and that nothing is weighed.
 pub fn notes(before: &Terminal, after: &Terminal) -> Vec<String> {
     let locked = locks_out(before, after).then(|| format!("from now on {LOCKED_OUT}"));
     let idle = is_idle(after).then(|| {

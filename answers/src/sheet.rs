@@ -39,7 +39,7 @@ pub fn sheet(path: &Path, stored: &Stored, clock: u32, named: &[Yard], by: &str)
     )
 }
 
-/// A text that stands for itself in a page.
+/// A text that represents itself in a page.
 fn escape(text: &str) -> String {
     let mut escaped = String::with_capacity(text.len());
     for letter in text.chars() {

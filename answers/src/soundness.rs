@@ -71,7 +71,7 @@ struct Places<'a> {
     name: &'a str,
     held: usize,
     capacity: usize,
-    /// Where the count stands, where the first place does, and how long a place is.
+    /// Where the count is, where the first place does, and how long a place is.
     count_at: usize,
     start: usize,
     length: usize,
@@ -235,7 +235,7 @@ fn subject_fault(subject: Subject) -> String {
     }
 }
 
-/// What is wrong with what waits, beside tables that are sound.
+/// What is wrong with the queue, with tables that are sound.
 fn in_memory(terminal: &Terminal) -> Vec<Finding> {
     let Terminal { tables, waiting, .. } = terminal;
     let mut round = Waiting::FRESH;

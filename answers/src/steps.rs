@@ -9,7 +9,7 @@ use crate::times::{self, Day};
 /// One thing that is done.
 #[derive(Clone, Debug, PartialEq, Eq)]
 pub enum Act {
-    /// A record is judged at once.
+    /// A record is judged directly.
     Judge(Vec<u8>),
     /// A record is handed in, to wait for its turn.
     HandIn(Vec<u8>),

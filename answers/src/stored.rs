@@ -13,20 +13,20 @@ use crate::error::Error;
 pub enum Form {
     /// The tables alone: 2,172 bytes.
     Tables,
-    /// The tables and what waits: 8,676 bytes.
+    /// The tables and the queue: 8,676 bytes.
     Memory,
-    /// The same as the example terminal keeps it, with its mark before and a checksum behind: 8,688 bytes.
+    /// The same as the example terminal keeps it, with its mark before and a checksum after: 8,688 bytes.
     Terminal,
     /// A store of the tables: 4,352 bytes, or more with padding.
     Store,
-    /// A store of the tables and what waits: 17,360 bytes, or more with padding.
+    /// A store of the tables and the queue: 17,360 bytes, or more with padding.
     StoreMemory,
 }
 
 /// With the version of the format, as the example terminal writes it.
 const MARK: [u8; 8] = [b't', b'i', b'l', b'l', b'e', b'r', b'0' + FORMAT / 10, b'0' + FORMAT % 10];
 const BOTH: usize = Tables::SIZE + Waiting::SIZE;
-/// Images in a store may be padded to pages of at most so many bytes.
+/// Images in a store may be padded to pages of at most that many bytes.
 const LARGEST_PAGE: usize = 4096;
 
 impl Form {
@@ -53,7 +53,7 @@ impl Form {
         }
     }
 
-    /// How many of them are tables and what waits.
+    /// How many of them are tables and the queue.
     fn image(self) -> usize {
         match self {
             Form::Tables | Form::Store => Tables::SIZE,
@@ -150,7 +150,7 @@ fn pages() -> impl Iterator<Item = usize> {
     [1].into_iter().chain((3..).map(|power| 1 << power).take_while(|page| *page <= LARGEST_PAGE))
 }
 
-/// The tables at the beginning of these bytes, and what waits after them.
+/// The tables at the beginning of these bytes, and the queue after them.
 fn terminal(form: Form, bytes: &[u8], defaults: Given) -> Terminal {
     let (tables, rest) = bytes.split_at(Tables::SIZE);
     let mut waiting = Waiting::FRESH;

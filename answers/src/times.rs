@@ -88,7 +88,7 @@ fn offset(text: &str) -> Option<FixedOffset> {
     }
 }
 
-/// Which second of a day stands for the day, and which of an hour that the clock shows twice.
+/// Which second of a day represents the day, and which of an hour that the clock shows twice.
 #[derive(Clone, Copy, Debug, PartialEq, Eq)]
 pub enum Day {
     /// Its first.
@@ -158,7 +158,7 @@ pub fn now() -> Result<u32, String> {
     NOW.get().ok_or_else(|| "the time is not known here: write it out".into())
 }
 
-/// So many seconds: a number, or one with s, m, h, d or w after it.
+/// That many seconds: a number, or one with s, m, h, d or w after it.
 pub fn duration(text: &str) -> Result<u32, String> {
     let end = text.find(|letter: char| !letter.is_ascii_digit()).unwrap_or(text.len());
     let unit = match &text[end..] {

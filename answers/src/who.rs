@@ -123,7 +123,7 @@ impl Question {
     fn asserted(self, terminal: &Terminal, row: Cred, role: Role) -> Option<(Terminal, bool)> {
         let body = Body::Role(Asserted { role, last: u32::MAX }).to_bytes();
         let record = tillerclover::record(Verb::UPDATE, Resource::ROLES, row.number, &body);
-        // Roles are asserted in normal operation; whether the terminal is there now is said elsewhere.
+        // Roles are asserted in normal operation; whether the terminal is there now is reported elsewhere.
         let mut after = terminal.clone();
         after.tables.state = State::RFNOP.number();
         let answer = after.judge(self.clock, &record).answer;
@@ -158,7 +158,7 @@ fn rows_in_words(rows: &[u16]) -> Option<String> {
     (!rows.is_empty()).then(|| format!("access row {}", numbers.join(", ")))
 }
 
-/// What is to be said of roles wherever they give a right.
+/// What is to be reported of roles wherever they give a right.
 pub const ROLES_ARE_OPEN: &str = "A role row is open to every credential: any holder may assert any role.";
 
 /// The answers as a report: status 0 where somebody may.

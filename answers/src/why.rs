@@ -1,5 +1,5 @@
-//! `why`: the answer to a record explained. What is said of permission comes from
-//! the library; what is added in words speaks of the bytes alone.
+//! `why`: the answer to a record explained. What is reported of permission comes from
+//! the library; what is added in words speaks of only the bytes.
 
 use serde_json::{json, Value};
 use tillerclover::{pstat_body, Answer, Body, Connection, Header, Resource, Response, State, Tables, Terminal, Verb};
@@ -51,7 +51,7 @@ pub fn explain(terminal: &Terminal, clock: u32, record: &[u8]) -> Explanation {
     }
 }
 
-/// Rows that would give what is needed but for one part.
+/// Rows that would give what is needed except for one part.
 fn nearly(rights: &Rights) -> Vec<String> {
     let lacking = |fit: &Fit| match (fit.subject, fit.resource, fit.season) {
         (false, true, true) => Some("subject"),

@@ -238,7 +238,7 @@ pub fn slot_json(slot: &Slot) -> Value {
     json!({ "sender": slot.sender, "record": hex::write(&slot.record), "words": record(&slot.record) })
 }
 
-/// Where the round of the queue stands.
+/// Where the round of the queue is.
 pub fn round(last_taken: Option<u16>) -> String {
     match last_taken {
         None => "begins anew".into(),

@@ -283,7 +283,7 @@ pub const UNTIL: &str = "\
 Each yard gets what it would get without the others, until somebody of no yard sets an owner, clears the terminal, or stores a
 yard's credential row or an access row that gives create, update or delete on a security resource. Ask again after that.";
 
-/// What is to be said wherever they are not.
+/// What is to be reported wherever they are not.
 const NOT_ALL: &str = "Whoever is not isolated could disturb every yard.";
 
 /// The report of yards, in a sound terminal.

@@ -1,4 +1,4 @@
-//! What is said is put beside what the library decides, over the model's
+//! What is reported is put beside what the library decides, over the model's
 //! random records, tables and lists.
 
 #![forbid(unsafe_code)]
@@ -28,7 +28,7 @@ fn terminal(case: &Case) -> Terminal {
     }
 }
 
-/// Random sessions, and one in so many of the cases by enumeration.
+/// Random sessions, and one in that many of the cases by enumeration.
 fn visit(records: u64, one_in: u64, mut visit: impl FnMut(&Case)) {
     walk_sessions(1, records, &mut |_, case| {
         visit(case);

@@ -17,7 +17,7 @@ use model::library;
 use tillerclover::{record, Ace, Answer, Asserted, Body, Given, Header, Permission, Resource, State, Subject, Tables};
 use tillerclover::{Terminal, Verb, ANYONE};
 
-/// Sound terminals on the way of random sessions, one in so many.
+/// Sound terminals on the way of random sessions, one in that many.
 fn visit(records: u64, one_in: u64, mut visit: impl FnMut(&Terminal, &Case)) {
     let mut count = 0;
     walk_sessions(7, records, &mut |_, case| {
@@ -246,7 +246,7 @@ fn passed(senders: &[Sender], terminal: &Terminal, clock: u32) -> Vec<bool> {
     passed
 }
 
-/// Where all are locked out, no record changes an owner, the state, or a row but for its asserted roles.
+/// Where all are locked out, no record changes an owner, the state, or a row except for its asserted roles.
 #[test]
 fn nobody_changes_what_is_locked() {
     let (mut locked, mut open) = (0, 0);

@@ -5,7 +5,7 @@
 
 #include "rows.h"
 
-/* ---- Pieces of text: each returns the place behind it */
+/* ---- Pieces of text: each returns the place after it */
 
 static inline uint8_t *put(uint8_t *to, const char *text, size_t length)
 {
@@ -81,7 +81,7 @@ typedef struct name {
     size_t length;
 } name;
 
-/* The names by number, each as it stands in the list of resources. */
+/* The names by number, each as it is in the list of resources. */
 #define NAME(text)                                                                                                     \
     {                                                                                                                  \
         "{\"href\":\"" text "\"},", sizeof "{\"href\":\"" text "\"}," - 1                                              \
@@ -137,7 +137,7 @@ static inline bool in_text(const uint8_t *row)
 /* ---- The text */
 
 enum {
-    /* of one row with its comma: a full table of the longest rows, without what stands around it */
+    /* of one row with its comma: a full table of the longest rows, without what is around it */
     ROW_TEXT_MAX = (TILLERCLOVER_TEXT_MAX - (int)sizeof "{\"aclist2\":[]}" + 2) / TILLERCLOVER_ACE_CAPACITY
 };
 

@@ -82,7 +82,7 @@ static inline uint8_t *turn(const tillerclover_tables *t, uint8_t *queue)
     }
 }
 
-/* A sound queue has zeros behind its records, and in its unused slots. */
+/* A sound queue has zeros after its records, and in its unused slots. */
 static inline void enqueue(uint8_t *queue, const uint8_t *record, size_t length)
 {
     uint8_t *slot = slot_at(queue, queue[TILLERCLOVER_WAITING_COUNT_AT]);
@@ -92,7 +92,7 @@ static inline void enqueue(uint8_t *queue, const uint8_t *record, size_t length)
     queue[TILLERCLOVER_WAITING_COUNT_AT]++;
 }
 
-/* Closes up the slots behind this one. */
+/* Closes up the slots after this one. */
 static inline void drop_slot(uint8_t *queue, uint8_t *slot)
 {
     uint8_t *last = slot_at(queue, --queue[TILLERCLOVER_WAITING_COUNT_AT]);
@@ -101,7 +101,7 @@ static inline void drop_slot(uint8_t *queue, uint8_t *slot)
 }
 
 /* After credential rows went, or `added` came: the records of those that went go, and a round that names no seat, or one that
- * was none before, begins anew. */
+ * was none before, starts over. */
 static inline void drop_orphans(const tillerclover_tables *t, uint8_t *queue, unsigned added)
 {
     uint8_t *round = queue + TILLERCLOVER_WAITING_ROUND_AT;

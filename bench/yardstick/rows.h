@@ -82,7 +82,7 @@ static inline bool ace_storable(const uint8_t *row)
            be32(row + TILLERCLOVER_ACE_FIRST_AT) <= be32(row + TILLERCLOVER_ACE_LAST_AT);
 }
 
-/* ---- Rows by number, which stands first in every row and slot */
+/* ---- Rows by number, which is first in every row and slot */
 
 static inline const uint8_t *find_row(const uint8_t *rows, size_t count, size_t size, unsigned number)
 {

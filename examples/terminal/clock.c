@@ -41,7 +41,7 @@ int64_t clock_steady(void)
 /* How far the system's clock was before the steady one, at most. */
 static int64_t ahead;
 
-/* Arms the watch anew, and gives how far the system's clock is before the steady one. */
+/* Arms the watch again, and gives how far the system's clock is before the steady one. */
 static int64_t arm(int watch)
 {
     /* The timer itself never comes. */

@@ -117,7 +117,7 @@ static void end_sessions(struct core *c)
     }
 }
 
-/* The front has ended the sessions of a credential. All that it handed over before has come by now. */
+/* The front has ended the sessions of a credential. All that it passed before has come by now. */
 static bool take_ended(struct core *c, int front, const struct message *m)
 {
     if (front != FRONT_SECURE || m->length != 0 || m->number > UINT16_MAX || c->unconfirmed[m->number] == 0) {

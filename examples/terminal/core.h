@@ -1,4 +1,4 @@
-/* The core's records: what a front hands over is handed in, taken in rounds, acted on and answered. */
+/* The core's records: what a front passes is handed in, taken in rounds, acted on and answered. */
 #ifndef CORE_H
 #define CORE_H
 
@@ -35,7 +35,7 @@ struct core {
     /* records that came */
     unsigned long came;
     /* For each credential, how often the secure front was told that its sessions are over and has not confirmed it:
-     * until then what it hands over in this name may be of a session that was opened under another row. And which life
+     * until then what it passes in this name may be of a session that was opened under another row. And which life
      * of the front that is about. */
     uint16_t unconfirmed[UINT16_MAX + 1];
     unsigned life;

@@ -89,7 +89,7 @@ static bool read_byte(int file, uint64_t at, uint8_t *byte)
     return many == 1;
 }
 
-/* Writes a byte, and reads back what the device has made of it. While there is no file, memory stands for it. */
+/* Writes a byte, and reads back what the device has made of it. While there is no file, memory represents it. */
 static void put(struct device *d, uint64_t at, uint8_t byte)
 {
     if (d->file.descriptor < 0) {

@@ -6,8 +6,8 @@
 #include "store.h"
 #include "tillerclover_store.h"
 
-/* The tables are the image, without what waits. A record is answered when it was taken, and nothing waits after a
- * round: so nothing that was answered is lost with what waits, and hand-ins wear out no memory. */
+/* The tables are the image, without the queue. A record is answered when it was taken, and nothing waits after a
+ * round: so nothing that was answered is lost with the queue, and hand-ins wear out no memory. */
 enum {
     DEVICE_IMAGE = sizeof(tillerclover_tables),
     DEVICE_LENGTH = TILLERCLOVER_STORE_LENGTH(DEVICE_IMAGE)

@@ -147,7 +147,7 @@ static int create(const struct file *f, const char *next)
 }
 
 /* The new file takes the path: over the old one, or where there was none, only if there is still none. Where there is no
- * lock yet another process may have put its own file in the place of the new one. */
+ * lock yet another process may have put its own file instead of the new one. */
 static bool put_in_place(const struct file *f, const char *next, int file)
 {
     if (renameat2(AT_FDCWD, next, AT_FDCWD, f->path, f->descriptor < 0 ? RENAME_NOREPLACE : 0) != 0) {

@@ -36,7 +36,7 @@ enum {
     PAUSE_LEAST = 50,
     PAUSE_MOST = 800,
     OLD = 10000,
-    /* The core looks after the fronts every second, unless it stands still itself, as before a slow disk. */
+    /* The core looks after the fronts every second, unless it is still itself, as before a slow disk. */
     STANDSTILL = 3000,
     /* until it listens, and until it has ended by itself */
     PATIENCE = 30000,

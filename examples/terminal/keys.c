@@ -47,7 +47,7 @@ static bool add(struct keys *keys, const char *line, unsigned place, char error[
     return added;
 }
 
-/* Reads the lines of a text that ends with a zero behind its last byte. */
+/* Reads the lines of a text that ends with a zero after its last byte. */
 static bool read_lines(struct keys *keys, char *text, size_t length, char error[KEYS_ERROR])
 {
     bool good = true;

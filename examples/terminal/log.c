@@ -160,7 +160,7 @@ void log_tend(void)
     dropped = 0;
     dropped_changes = 0;
     log_say("%lu lines of the log were dropped, %lu of them of changes", many, changes);
-    /* Nobody reads it: they stay to be said. */
+    /* Nobody reads it: they stay to be reported. */
     dropped_changes += dropped > 0 ? changes : 0;
     dropped += dropped > 0 ? many - 1 : 0;
 }

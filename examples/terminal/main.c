@@ -1,4 +1,4 @@
-/* A weighbridge terminal over CoAP and DTLS: an example of the library behind a stack.
+/* A weighbridge terminal over CoAP and DTLS: an example of the library after a stack.
  *
  *     terminal -f FILE -k KEYS [-a ADDRESS] [-p PORT] [-s PORT] [-c CLOCK] [-v] [--new]
  *     terminal -e FILE -k KEYS and the same
@@ -156,7 +156,7 @@ static void read_signals(struct program *p)
     }
 }
 
-/* The stack measures by the system's clock. Where that is set back, its sessions end or stand still. */
+/* The stack measures by the system's clock. Where that is set back, its sessions end or are still. */
 static void read_clock_watch(struct program *p)
 {
     if (clock_went_back(p->clock_watch)) {

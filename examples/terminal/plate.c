@@ -14,7 +14,7 @@ enum {
     MOST = 60000
 };
 
-/* A lorry stands on the plate from the 10th to the 50th second of each minute, each minute another one. In between
+/* A lorry is on the plate from the 10th to the 50th second of each minute, each minute another one. In between
  * there is nothing but dirt. */
 static int load(const struct plate *p, uint32_t clock)
 {
@@ -84,7 +84,7 @@ static void show(const struct plate *p, uint32_t clock, unsigned resource, char 
     }
 }
 
-/* A tare by its weight, or what stands on the plate. */
+/* A tare by its weight, or what is on the plate. */
 static enum done set_tare(struct plate *p, uint32_t clock, const char *body)
 {
     int tare = gross(p, clock);

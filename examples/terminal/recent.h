@@ -16,7 +16,7 @@ enum {
     RECENT_EACH_CLEAR = RECENT
 };
 
-/* What tells a request from others. A client that starts anew may begin with the same message id and token, so the
+/* What tells a request from others. A client that starts again may begin with the same message id and token, so the
  * record counts too: nobody is told that another request was done. */
 struct recent_request {
     coap_address_t from;

@@ -412,7 +412,7 @@ void server_tend(struct server *s)
             end_session(s, session);
         }
     }
-    /* The core answers each sign of life before the next: so what lies before a core that stands still is bounded, and
+    /* The core answers each sign of life before the next: so what lies before a core that is still is bounded, and
      * no line for the log takes a record's room. */
     if (!s->unheard && clock_steady() - s->pulse >= PULSE) {
         s->pulse = clock_steady();

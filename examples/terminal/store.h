@@ -1,4 +1,4 @@
-/* The file that the terminal's tables live in, with what waits. It is written whole or not at all. */
+/* The file that the terminal's tables live in, with the queue. It is written whole or not at all. */
 #ifndef STORE_H
 #define STORE_H
 

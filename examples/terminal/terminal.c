@@ -20,7 +20,7 @@ static const uint8_t *row_of(const tillerclover_tables *tables, const uint8_t *n
     return NULL;
 }
 
-/* Lists the rows of the stored tables that are gone, or others: but for roles that the partner asserts itself. */
+/* Lists the rows of the stored tables that are gone, or others: except for roles that the partner asserts itself. */
 static void note_ended(struct terminal *t)
 {
     t->ended_length = 0;

@@ -40,7 +40,7 @@ struct taken {
  * it. */
 void terminal_open(struct terminal *t, const char *path, bool on_device, bool make);
 
-/* Starts from what is stored, or as a new terminal. What waits in the file is judged, and neither answered nor acted on:
+/* Starts from what is stored, or as a new terminal. The queue in the file is judged, and neither answered nor acted on:
  * whoever sent it is gone. False: the file is damaged, and every record is answered with TILLERCLOVER_NOT_SOUND until
  * the terminal is cleared. */
 bool terminal_start(struct terminal *t, uint32_t clock);

@@ -8,7 +8,7 @@ use crate::tables::TableBytes;
 /// What is asked of the terminal.
 #[derive(Clone, Copy, Debug, PartialEq, Eq)]
 pub enum Call {
-    /// To judge a record at once.
+    /// To judge a record directly.
     Judge,
     /// To enqueue a record until its turn. Clock, capacity and default lists don't
     /// matter.

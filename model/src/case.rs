@@ -183,7 +183,7 @@ impl Case {
     }
 
     /// With the clock, all ends of periods and the last seconds of asserted roles
-    /// so many seconds earlier, save the first and the last second of all.
+    /// that many seconds earlier, save the first and the last second of all.
     fn with_ends_earlier(&self, seconds: u32) -> Case {
         let mut case = Case { clock: self.clock - seconds, ..self.clone() };
         let earlier = |end: &mut [u8]| {
@@ -319,7 +319,7 @@ pub struct Seen {
     /// The links that the yard answers, and their count as it is reported.
     pub links: u64,
     pub link_count: usize,
-    /// The length of the record that a take hands out, and all bytes there are for
+    /// The length of the record that a take gives out, and all bytes there are for
     /// it; of another call none.
     pub taken: usize,
     pub record: Vec<u8>,
@@ -327,7 +327,7 @@ pub struct Seen {
     pub queue: QueueBytes,
 }
 
-/// So many bytes after the buffer are watched.
+/// That many bytes after the buffer are watched.
 pub const GUARD: usize = 64;
 
 impl Seen {

@@ -74,13 +74,13 @@ pub fn cases(seed: u64) -> impl Iterator<Item = File> {
     files.into_iter().flatten().chain((0..RANDOM).map(move |_| random_file(&mut random)))
 }
 
-/// So many rows of an older terminal, some of them for anybody.
+/// That many rows of an older terminal, some of them for anybody.
 pub fn good_file(random: &mut Random, rows: usize) -> Vec<u8> {
     let stars = random.pick(&[0, 30, 50, 100]);
     (0..rows).flat_map(|_| old_row(random, stars).bytes()).collect()
 }
 
-/// A row, for anybody in so many of a hundred cases.
+/// A row, for anybody in that many of a hundred cases.
 fn old_row(random: &mut Random, stars: usize) -> OldRow {
     OldRow {
         subject: (!random.chance(stars)).then(|| generate::uuid(random)),

@@ -446,7 +446,7 @@ pub struct Session {
     pub defaults: Defaults,
     pub style: Style,
     pub records: usize,
-    /// Whether records are handed in and taken, or all judged at once.
+    /// Whether records are handed in and taken, or all judged directly.
     pub turns: bool,
 }
 
@@ -494,7 +494,7 @@ fn record_of(random: &mut Random, tables: &Tables, owner: Seat) -> Vec<u8> {
     }
 }
 
-/// A queue to start from: empty, sound, or spoilt in so many of a hundred cases.
+/// A queue to start from: empty, sound, or spoilt in that many of a hundred cases.
 fn queue_bytes(random: &mut Random, tables: &TableBytes, fresh: usize, spoilt: usize) -> QueueBytes {
     let tables = match Tables::read(tables) {
         Ok(tables) if !random.chance(fresh) => tables,
@@ -649,7 +649,7 @@ impl Wish {
         anon.into_iter().chain(partners.map(Row::number)).collect()
     }
 
-    /// From the right or a permitted sender in so many of a hundred cases, if
+    /// From the right or a permitted sender in that many of a hundred cases, if
     /// there is one.
     fn sent(&self, random: &mut Random, tables: &Tables, clock: u32, percent: usize) -> Vec<u8> {
         let permitted = self.permitted(tables, clock);

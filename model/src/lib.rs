@@ -1,10 +1,10 @@
 //! A second model of the terminal's access rules, written from the scope paper
-//! and the change requests alone, and the means to compare the proved library
+//! and only the change requests, and the means to compare the proved library
 //! with it.
 
 #![forbid(unsafe_code)]
 
-// The rules. Of what follows them they import nothing, but for their tests.
+// The rules. Of what follows them they import nothing, except for their tests.
 pub mod answers;
 pub mod bits;
 pub mod call;

@@ -34,7 +34,7 @@ pub fn cases(seed: u64) -> impl Iterator<Item = Vec<u8>> {
     lists.into_iter().flatten().chain((0..RANDOM).map(move |_| random_list(&mut random)))
 }
 
-/// So many rows with which nothing is wrong.
+/// That many rows with which nothing is wrong.
 pub fn good_list(random: &mut Random, rows: usize) -> Vec<u8> {
     let mut list: Vec<Access> = Vec::new();
     for _ in 0..rows {

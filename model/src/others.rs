@@ -12,7 +12,7 @@ use crate::queue::{seat, Queue, QueueBytes, Seat};
 use crate::random::Random;
 use crate::tables::{TableBytes, Tables};
 
-/// So many calls has a run at most.
+/// That many calls has a run at most.
 const CALLS: usize = 60;
 
 /// How the terminal answers a call: as the model does, or as the library.
@@ -32,7 +32,7 @@ pub struct Counts {
     pub chosen: u64,
     /// Those of them that had waited.
     pub taken: u64,
-    /// Runs at whose end records wait or the round stands somewhere: neither is compared.
+    /// Runs at whose end records wait or the round is somewhere: neither is compared.
     pub waiting: u64,
     /// Runs whose tables differ at the end, in roles that the chosen asserted.
     pub asserted: u64,

@@ -146,7 +146,7 @@ impl Queries {
                 self.set_store(&nearly(random, &image));
                 let far = [1 << 32, 1 << 63, u64::MAX - 1, u64::MAX];
                 (0..2 * n as u64 + 11).chain(far).for_each(|from| self.step(from));
-                // Twice the last length is the store's but for an overflow.
+                // Twice the last length is the store's except for an overflow.
                 (0..n as u64 + 5).chain(far).chain([(1 << 63) + n as u64]).for_each(|n| self.current(n));
                 self.run();
             }
@@ -209,7 +209,7 @@ impl Queries {
 
     /// Stores and images of their real lengths: a row is stored, the first one
     /// goes, the terminal is cleared, and a full one takes its place; then one with
-    /// what waits.
+    /// the queue.
     fn terminals(&mut self, random: &mut Random) {
         let row = |number| access(number, AUTH, MAY_RETRIEVE, 0, &[WEIGHT]);
         let mut tables = Tables { accesses: (1..9).map(row).collect(), ..owned(State::Rfnop) };

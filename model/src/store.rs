@@ -47,7 +47,7 @@ pub fn current(store: &[u8], n: usize) -> Option<(usize, &[u8])> {
     Some((which * n, parts.images[which]))
 }
 
-/// The next step. From 0, and from behind the images, it is first asked whether the new image is in force.
+/// The next step. From 0, and from after the images, it is first asked whether the new image is in force.
 pub fn next(store: &[u8], new: &[u8], from: usize) -> Step {
     let n = new.len();
     let Some(parts) = parts(store, n) else { return Step::Unfit };

@@ -119,10 +119,10 @@ pub struct Asserted {
 impl Asserted {
     /// Of a body, in a row of the tables, and in a reply.
     pub const SIZE: usize = 8;
-    /// A row holds so many.
+    /// A row holds that many.
     pub const CAPACITY: usize = 2;
 
-    /// Its fields: the authority and the number of the role, the number alone, the
+    /// Its fields: the authority and the number of the role, only the number, the
     /// last second.
     pub const ROLE: Range<usize> = 0..4;
     pub const ROLE_NUMBER: Range<usize> = 2..4;

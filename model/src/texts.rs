@@ -64,7 +64,7 @@ pub struct Picks {
     last: Option<(TableBytes, QueueBytes)>,
 }
 
-/// So many of a hundred.
+/// That many of a hundred.
 const PICKED: usize = 12;
 
 impl Picks {

@@ -1,6 +1,6 @@
 //! Access rows in any order (U14): two tables that hold the same access rows,
 //! each in its own order, give every run of records, hand-ins and takes the same,
-//! but for that order.
+//! except for that order.
 
 #![forbid(unsafe_code)]
 
@@ -54,7 +54,7 @@ fn same_listed(one: &[u8], other: &[u8]) -> bool {
     one.len() == other.len() && (one.is_empty() || one[..OWNER] == other[..OWNER] && sorted(one) == sorted(other))
 }
 
-/// The response to the record, but for the order.
+/// The response to the record, except for the order.
 fn same_but_order(record: &[u8], one: &Outcome, other: &Outcome) -> bool {
     let same_reply = if is_listing(record) {
         same_listed(&one.response.reply, &other.response.reply)

@@ -57,7 +57,7 @@ fn without_the_premise_the_others_notice() {
     assert!(noticed > RUNS / 20, "{noticed} runs");
 }
 
-/// A terminal that hands out other bytes than were handed in.
+/// A terminal that gives out other bytes than were handed in.
 fn other_bytes(case: &Case) -> Seen {
     let mut seen = case.expected();
     if case.call == Call::Take && seen.taken > HEADER_SIZE {

@@ -1,6 +1,6 @@
 //! Yards on one plate, at random: senders who are isolated stay so until a record
 //! of somebody else endangers them, and each of two yards has its run as if the
-//! other sent nothing, but for the roles that the other's partners asserted.
+//! other sent nothing, except for the roles that the other's partners asserted.
 
 #![forbid(unsafe_code)]
 
@@ -62,7 +62,7 @@ fn isolation_ends_by_what_endangers_alone() {
     assert!(ended > RUNS / 20, "isolation ended in {ended} runs");
 }
 
-/// A record, its clock, and what came of it but for the tables.
+/// A record, its clock, and what came of it except for the tables.
 type Told = (Vec<u8>, Outcome);
 
 /// Judges the records in their order; what came of each, and the tables at the end.

@@ -10,7 +10,7 @@ thread_local! {
     static MESSAGE: RefCell<Vec<u8>> = const { RefCell::new(Vec::new()) };
 }
 
-/// A buffer of so many bytes for the question. It is the script's until the next call.
+/// A buffer of that many bytes for the question. It is the script's until the next call.
 #[no_mangle]
 extern "C" fn room(length: usize) -> *mut u8 {
     MESSAGE.with_borrow_mut(|message| {

@@ -34,7 +34,7 @@ pub fn one(arguments: &ArgMatches, id: &str) -> bool {
     paths.len() == 1 && paths.next().is_some_and(|path| !path.is_dir())
 }
 
-/// The files of a folder but for hidden ones, those that a change kept, and names.
+/// The files of a folder except for hidden ones, those that a change kept, and names.
 pub fn in_folder(folder: &Path) -> Result<Vec<PathBuf>, Error> {
     let unread = |error: io::Error| unreadable(folder, &error);
     let mut files = Vec::new();

@@ -99,7 +99,7 @@ fn report(path: &Path, clock: u32, judged: &[Judged], file: [bool; 2], last: &st
     Report::new(text, json, Status::of(judged.iter().all(Judged::permitted)))
 }
 
-/// What is said where one of all was refused.
+/// What is reported where one of all was refused.
 fn refused_of(judged: usize, count: usize) -> String {
     match count - judged {
         0 => format!("unchanged, since all of {count} are to be permitted"),

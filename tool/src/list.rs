@@ -34,7 +34,7 @@ fn check(path: &Path) -> Result<Report, Error> {
     Ok(list::check(path, &bytes(path)?))
 }
 
-/// The bytes of a list or of tables. A text is none, and what to do with it is said.
+/// The bytes of a list or of tables. A text is none, and what to do with it is reported.
 fn bytes(path: &Path) -> Result<Vec<u8>, Error> {
     let bytes = store::read(path)?;
     match load::no_list(&bytes) {
@@ -51,7 +51,7 @@ fn text(arguments: &ArgMatches) -> Result<Report, Error> {
     }
 }
 
-/// Makes a new list of an older terminal's. A bad list leaves no file behind.
+/// Makes a new list of an older terminal's. A bad list leaves no file after.
 fn convert(arguments: &ArgMatches) -> Result<Report, Error> {
     let (old, new) = (file(arguments, "OLD"), file(arguments, "NEW"));
     not_itself(old, new)?;
@@ -64,7 +64,7 @@ fn convert(arguments: &ArgMatches) -> Result<Report, Error> {
     Ok(list::converted(new, &bytes, &made).after_change(new))
 }
 
-/// Makes a list of words or of the office's JSON. Rows that could not be stored leave no file behind.
+/// Makes a list of words or of the office's JSON. Rows that could not be stored leave no file after.
 fn make(arguments: &ArgMatches) -> Result<Report, Error> {
     let (from, new) = (file(arguments, "FROM"), file(arguments, "NEW"));
     not_itself(from, new)?;

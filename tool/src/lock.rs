@@ -126,7 +126,7 @@ impl Locked {
         self.file.metadata()
     }
 
-    /// At most so many bytes from its beginning.
+    /// At most that many bytes from its beginning.
     pub fn bytes(&self, most: u64) -> io::Result<Vec<u8>> {
         let mut bytes = Vec::new();
         let mut file = &self.file;

@@ -95,7 +95,7 @@ fn print(report: &Report, json: bool) -> Result<Status, Error> {
     let written = io::stdout().write_all(text.as_bytes()).and_then(|()| io::stdout().flush());
     let written = if screen::output_is_closed() { Err(io::ErrorKind::BrokenPipe.into()) } else { written };
     match (written, &report.changed) {
-        // A reader that has seen enough is no error, but for the report of a change.
+        // A reader that has seen enough is no error, except for the report of a change.
         (Err(error), None) if error.kind() == io::ErrorKind::BrokenPipe => Ok(report.status),
         (Err(error), None) => Err(Error::new(format!("the output cannot be written: {}", plain(&error)))),
         (Err(error), Some(file)) => {

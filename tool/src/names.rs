@@ -1,4 +1,4 @@
-//! The yard's names: the file that `--names` names, or the one beside the tables.
+//! The yard's names: the file that `--names` names, or the one with the tables.
 
 use std::path::{Path, PathBuf};
 
@@ -18,7 +18,7 @@ pub fn choose(arguments: &ArgMatches) -> Result<(), Error> {
     choose_for(path(arguments, "names"), about.map(PathBuf::as_path))
 }
 
-/// Chooses the names of a file, or of the one beside the tables where there is one.
+/// Chooses the names of a file, or of the one with the tables where there is one.
 pub fn choose_for(given: Option<&Path>, tables: Option<&Path>) -> Result<(), Error> {
     let Some(file) = file_for(given, tables) else {
         Names::default().choose();
@@ -32,13 +32,13 @@ pub fn choose_for(given: Option<&Path>, tables: Option<&Path>) -> Result<(), Err
     Ok(())
 }
 
-/// The file of the names: the given one, or the one beside the tables where there is one.
+/// The file of the names: the given one, or the one with the tables where there is one.
 pub fn file_for(given: Option<&Path>, tables: Option<&Path>) -> Option<PathBuf> {
     let beside = tables.filter(|tables| !store::is_standard(tables)).map(|tables| tables.with_extension("names"));
     given.map(PathBuf::from).or_else(|| beside.filter(|file| Some(file.as_path()) != tables && file.exists()))
 }
 
-/// The tables of a file, where they can be read: what is wrong with them is said by the command itself.
+/// The tables of a file, where they can be read: what is wrong with them is reported by the command itself.
 fn rows_of(path: &Path) -> Option<Tables> {
     let bytes = if store::is_standard(path) || !path.is_file() { return None } else { store::read(path).ok()? };
     Stored::of(&bytes, Default::default()).ok().map(|stored| stored.terminal.tables)

@@ -11,7 +11,7 @@ use answers::steps::{of_lines, Make, Step};
 use crate::error::Error;
 use crate::store;
 
-/// The steps that arguments name. `-` stands for lines from standard input, `@FILE` for lines of a file.
+/// The steps that arguments name. `-` represents lines from standard input, `@FILE` for lines of a file.
 pub fn of_arguments(arguments: &[OsString], clock: u32, make: Make) -> Result<Vec<Step>, Error> {
     let mut steps = Vec::new();
     let mut words: Vec<String> = Vec::new();
@@ -29,7 +29,7 @@ pub fn of_arguments(arguments: &[OsString], clock: u32, make: Make) -> Result<Ve
     Ok(steps)
 }
 
-/// An argument as text. One that is none would be another record with other bytes in the place of its own.
+/// An argument as text. One that is none would be another record with other bytes instead of its own.
 pub fn word(argument: &OsString) -> Result<String, Error> {
     let shown = argument.to_string_lossy();
     let text = argument.to_str().map(String::from);
@@ -38,7 +38,7 @@ pub fn word(argument: &OsString) -> Result<String, Error> {
     })
 }
 
-/// The file that an argument stands for, where it is no record itself.
+/// The file that an argument represents, where it is no record itself.
 fn file_of_lines(argument: &OsStr) -> Option<&Path> {
     match argument.as_bytes() {
         b"-" => Some(Path::new("-")),

@@ -42,7 +42,7 @@ struct Input<R> {
 }
 
 impl<R: Read> Input<R> {
-    /// As many bytes as there are, up to so many.
+    /// As many bytes as there are, up to that many.
     fn take(&mut self, many: usize) -> io::Result<Vec<u8>> {
         let mut bytes = Vec::with_capacity(many);
         self.reader.by_ref().take(many as u64).read_to_end(&mut bytes)?;

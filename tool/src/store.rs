@@ -20,7 +20,7 @@ use crate::lock::Locked;
 /// No file of tables and no list is longer.
 const LONGEST: u64 = 65_536;
 
-/// The name that stands for standard input.
+/// The name that represents standard input.
 pub fn is_standard(path: &Path) -> bool {
     path == Path::new("-")
 }
@@ -69,7 +69,7 @@ pub fn standard() -> Result<Stdin, Error> {
     }
 }
 
-/// A file, or standard input, up to one byte more than so many.
+/// A file, or standard input, up to one byte more than that many.
 fn read_up_to(path: &Path, most: u64) -> Result<Vec<u8>, Error> {
     let mut bytes = Vec::new();
     let done = if is_standard(path) {
@@ -104,7 +104,7 @@ pub fn backup_path(path: &Path) -> PathBuf {
     PathBuf::from(name)
 }
 
-/// Behind a link the file itself is replaced.
+/// After a link the file itself is replaced.
 fn target_of(path: &Path) -> PathBuf {
     fs::canonicalize(path).unwrap_or_else(|_| path.to_path_buf())
 }
@@ -123,7 +123,7 @@ impl Locked {
         not_too_long(&self.path, bytes)
     }
 
-    /// Writes the file anew: a temporary file beside it, synced, renamed, and the folder synced. With `backup` the old
+    /// Writes the file again: a temporary file beside it, synced, renamed, and the folder synced. With `backup` the old
     /// file stays, with `~` after its name.
     pub fn replace(self, bytes: &[u8], backup: bool) -> Result<(), Error> {
         let unwritten = |reason: String| Error::of(&self.path, format!("cannot be written: {reason}; it is as it was"));

@@ -44,7 +44,7 @@ pub fn record_holder(file: &File) -> io::Result<Option<u32>> {
 
 static OUTPUT_CLOSED: AtomicBool = AtomicBool::new(false);
 
-/// The system calls it before the standard library begins, which opens /dev/null in the place of a closed output.
+/// The system calls it before the standard library begins, which opens /dev/null instead of a closed output.
 #[used]
 #[link_section = ".init_array"]
 static LOOK_AT_OUTPUT: extern "C" fn() = look_at_output;

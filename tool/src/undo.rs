@@ -44,7 +44,7 @@ pub fn undo(path: &Path, wait: Duration) -> Result<Report, Error> {
     Ok(if now == before { report } else { report.after_change(path) })
 }
 
-/// What is to be said of the tables that are put back.
+/// What is to be reported of the tables that are put back.
 fn notes(now: &[u8], before: &[u8]) -> Vec<String> {
     match [now, before].map(|bytes| Stored::of(bytes, Given::default())) {
         [Ok(now), Ok(before)] if now != before => service::notes(&now.terminal, &before.terminal),

@@ -1,5 +1,5 @@
 //! The functions of include/tillerclover.h, one by one, over slices: tables and
-//! what waits are changed in place. Beside it `store` and `yards` alone call the library.
+//! the queue are changed in place. Beside it `store` and `yards` alone call the library.
 
 use core::mem::offset_of;
 
@@ -46,7 +46,7 @@ pub struct Outcome {
     pub payload_offset: usize,
     /// How many bytes the payload has.
     pub payload_length: usize,
-    /// How many bytes of the lent buffer are the reply.
+    /// How many bytes of the caller's buffer are the reply.
     pub reply_length: usize,
     /// The table that a DELETE leaves places to store in.
     pub store_table: Option<Table>,
@@ -67,20 +67,20 @@ pub struct Taken {
     pub outcome: Outcome,
     /// How many bytes the record has; 0 where none was taken.
     pub record_length: usize,
-    /// The record, zeros behind it.
+    /// The record, zeros after it.
     pub record: [u8; RECORD_MAX],
 }
 
-/// What is said of a text.
+/// What is reported of a text.
 #[derive(Clone, Copy, Debug, PartialEq, Eq)]
 pub struct Listed {
     /// Permitted, not sound or no room.
     pub answer: Answer,
-    /// How many bytes of the lent buffer are the text.
+    /// How many bytes of the caller's buffer are the text.
     pub length: usize,
 }
 
-/// What is said of a list of access rows.
+/// What is reported of a list of access rows.
 #[derive(Clone, Copy, Debug, PartialEq, Eq)]
 pub struct Tested {
     /// Permitted, a bad size, a row not storable, or one that gives too much.
@@ -89,12 +89,12 @@ pub struct Tested {
     pub row: usize,
 }
 
-/// What is said of a conversion.
+/// What is reported of a conversion.
 #[derive(Clone, Copy, Debug, PartialEq, Eq)]
 pub struct Converted {
     /// Permitted, a bad file, too many rows or no room.
     pub answer: Answer,
-    /// How many bytes of the lent buffer are the rows.
+    /// How many bytes of the caller's buffer are the rows.
     pub length: usize,
 }
 
@@ -204,8 +204,8 @@ extern "C" {
     fn tillerclover_convert_list_at(file: *const u8, length: u64, rows: *mut u8, capacity: u64, said: *mut u64);
 }
 
-// The library takes any bytes, keeps no pointer and reads and writes within the lengths alone. Each pointer and length
-// below is that of a living slice or reference, and what is written to is borrowed for the call alone.
+// The library takes any bytes, keeps no pointer and reads and writes within only the lengths. Each pointer and length
+// below is that of a living slice or reference, and what is written to is borrowed for only the call.
 
 /// Where the five parts of tables begin, for a call: the first is state, owned and the two counts.
 const PARTS: [usize; 5] =
@@ -226,7 +226,7 @@ pub(crate) fn parts_mut(tables: &mut Tables) -> [*mut u8; 5] {
 }
 
 impl Outcome {
-    /// What was said of this record. Where there are places to store, its resource names their table.
+    /// What was reported of this record. Where there are places to store, its resource names their table.
     #[inline(always)]
     pub(crate) fn of(said: &Said, record: &[u8]) -> Outcome {
         let &[answer, permission, offset, length, reply_length, store_first, store_count, links, link_count] = said;

@@ -73,7 +73,7 @@ extern "C" {
 }
 
 // The yardstick, too, keeps no pointer and stays within the lengths. Each pointer and length below is that of a living slice
-// or reference, and what is written to is borrowed for the call alone.
+// or reference, and what is written to is borrowed for only the call.
 
 /// Judges a record at once.
 #[inline]

@@ -173,7 +173,7 @@ named! {
     Answer {
         /// The record may pass, the list is good, the text is written.
         PERMITTED = 0, "permitted";
-        /// The tables are not sound, or the memory of what waits is not.
+        /// The tables are not sound, or the memory of the queue is not.
         NOT_SOUND = 1, "tables not sound";
         /// Under 4 or over 256 bytes.
         BAD_LENGTH = 2, "record too short or too long";
@@ -413,7 +413,7 @@ impl fmt::Display for Wildcards {
     }
 }
 
-/// A set of resources; the top bit stands for resource 0.
+/// A set of resources; the top bit represents resource 0.
 ///
 /// ```
 /// use tillerclover::{Resource, Set};

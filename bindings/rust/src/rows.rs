@@ -101,7 +101,7 @@ impl Cred {
     pub const SHORT: usize = 21;
     /// Of a row of the tables.
     pub const ROW: usize = 39;
-    /// So many rows the tables hold.
+    /// That many rows the tables hold.
     pub const CAPACITY: usize = 24;
 
     /// Reads a row of the tables.
@@ -162,7 +162,7 @@ pub enum Subject {
     Other {
         /// The two bits of the kind.
         kind: u8,
-        /// The sixteen bytes behind it.
+        /// The sixteen bytes after it.
         bytes: [u8; 16],
     },
 }
@@ -259,7 +259,7 @@ impl Ace {
     pub const LENGTH: usize = 36;
     /// Of the body without a period.
     pub const SHORT: usize = 28;
-    /// So many rows the tables hold.
+    /// That many rows the tables hold.
     pub const CAPACITY: usize = 32;
 
     /// Reads a row.
@@ -315,7 +315,7 @@ impl Ace {
 /// A row of an older terminal's list.
 #[derive(Clone, Copy, Debug, Default, PartialEq, Eq)]
 pub struct OldRow {
-    /// Whom it is for; nil stands for anybody.
+    /// Whom it is for; nil represents anybody.
     pub subject: Uuid,
     /// What it gives.
     pub permission: Permission,

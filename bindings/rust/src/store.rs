@@ -94,7 +94,7 @@ extern "C" {
     fn tillerclover_store_current(store: *const u8, store_length: u64, n: u64, place: *mut u64) -> u64;
 }
 
-// The library takes any bytes, keeps no pointer and reads within the lengths alone. Each pointer and length below is that
+// The library takes any bytes, keeps no pointer and reads within only the lengths. Each pointer and length below is that
 // of a living slice, and what is written to is a local of the call.
 
 /// What to do next to store an image, where `store` is what the device holds. `from` is 0 at the start, and then the

@@ -1,4 +1,4 @@
-//! The tables and the memory of what waits, as bytes and by names. Any content
+//! The tables and the memory of the queue, as bytes and by names. Any content
 //! is allowed; whether it is sound is the library's to say.
 
 #[cfg(feature = "alloc")]
@@ -33,9 +33,9 @@ pub struct Tables {
     pub devowner: [u8; 16],
     /// The row owners of doxm, pstat, cred and acl2, or nil.
     pub rowners: [u8; 64],
-    /// Credential rows in order of arrival, zeros behind the last.
+    /// Credential rows in order of arrival, zeros after the last.
     pub creds: [u8; Cred::CAPACITY * Cred::ROW],
-    /// Access rows in order of arrival, zeros behind the last.
+    /// Access rows in order of arrival, zeros after the last.
     pub aces: [u8; Ace::CAPACITY * Ace::LENGTH],
 }
 
@@ -169,7 +169,7 @@ pub struct Slot {
     pub record: Vec<u8>,
 }
 
-/// The memory of what waits: 6,504 bytes, which belong to the tables.
+/// The memory of the queue: 6,504 bytes, which belong to the tables.
 ///
 /// ```
 /// use tillerclover::{record, Resource, Terminal, Verb, ANYONE};
@@ -197,12 +197,12 @@ impl Waiting {
     pub const SIZE: usize = size_of::<Waiting>();
     /// Of a slot: sender, length and 256 bytes.
     pub const SLOT: usize = 260;
-    /// So many records can wait.
+    /// That many records can wait.
     pub const CAPACITY: usize = 25;
     /// Nothing waits.
     pub const FRESH: Waiting = Waiting { bytes: [0; 6504] };
 
-    /// Where the slots begin, behind the count and the round.
+    /// Where the slots begin, after the count and the round.
     pub const SLOTS: usize = 4;
 
     /// How many records it says to hold.
@@ -210,7 +210,7 @@ impl Waiting {
         self.bytes[0]
     }
 
-    /// Whose record was taken last, 0 for an unauthenticated sender's; none while the round begins anew.
+    /// Whose record was taken last, 0 for an unauthenticated sender's; none while the round starts over.
     pub fn last_taken(&self) -> Option<u16> {
         (self.bytes[1..Waiting::SLOTS] != [0; 3]).then(|| u16::from_be_bytes([self.bytes[2], self.bytes[3]]))
     }

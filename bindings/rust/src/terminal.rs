@@ -1,4 +1,4 @@
-//! A terminal: the tables, what waits beside them and the build's default rows,
+//! A terminal: the tables, the queue beside them and the build's default rows,
 //! kept together, since they belong together.
 
 use alloc::string::String;
@@ -24,7 +24,7 @@ impl Given {
     }
 }
 
-/// The tables, what waits, and the build's default rows.
+/// The tables, the queue, and the build's default rows.
 ///
 /// ```
 /// use tillerclover::{record, Answer, Resource, Terminal, Verb, ANYONE};
@@ -41,7 +41,7 @@ impl Given {
 pub struct Terminal {
     /// The tables that hold now.
     pub tables: Tables,
-    /// What waits beside them.
+    /// The queue beside them.
     pub waiting: Waiting,
     /// The build's default rows.
     pub defaults: Given,

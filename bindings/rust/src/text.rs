@@ -2,7 +2,7 @@
 
 use core::fmt::{self, Write};
 
-/// Up to so many bytes of text; more is an error.
+/// Up to that many bytes of text; more is an error.
 struct Short<const N: usize> {
     bytes: [u8; N],
     length: usize,

@@ -1,5 +1,5 @@
 //! UUIDs: sixteen bytes, written in the 8-4-4-4-12 form. Nil, sixteen zeros,
-//! stands for nobody.
+//! represents nobody.
 
 use core::error::Error;
 use core::fmt;

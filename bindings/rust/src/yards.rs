@@ -121,7 +121,7 @@ extern "C" {
     fn tillerclover_identity() -> u64;
 }
 
-// The library takes any bytes, keeps no pointer and reads within the lengths alone. Each pointer below is that of a part of living
+// The library takes any bytes, keeps no pointer and reads within only the lengths. Each pointer below is that of a part of living
 // tables, of the length that the library reads, or of a slice with its own length; the three words are a local of the call.
 
 /// Whether the senders of a list are isolated in these tables. An entry is two bytes, a credential number with its most

@@ -9,7 +9,7 @@ use tillerclover::{
 };
 use tillerclover::{Waiting, Wildcards, FORMAT, INTERFACE_MAJOR, INTERFACE_MINOR};
 
-/// The header's enums, each with its constants; macros that are numbers stand in one without a name.
+/// The header's enums, each with its constants; macros that are numbers are in one without a name.
 fn header() -> BTreeMap<String, BTreeMap<String, usize>> {
     let path = concat!(env!("CARGO_MANIFEST_DIR"), "/include/tillerclover.h");
     let text = std::fs::read_to_string(path).expect("the header");

@@ -1,5 +1,5 @@
 -- The bytes of the roles in force, and of those after one is asserted, from each place on.
--- The row afterwards is its body and these, and zeros behind them.
+-- The row afterwards is its body and these, and zeros after them.
 use Rattle.rows.proofs.Prelude.{_≡_, ap, _∙_, true, false, not, _&&_, List, [], _∷_, _++_, append-assoc, append-nil, ℕ, _+_, _-_, _≤_, arith, length, replicate}
 use Rattle.rows.proofs.Prelude.{length-append, not-false, not-true, and-left, and-right, and-false-right, bool-cases}
 use Rattle.text.specs.Buffer.{Puts}

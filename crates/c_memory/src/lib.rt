@@ -9,7 +9,7 @@ ghost use Rattle.rules.specs.Contracts.Results.{resultWith};
 ghost use Rattle.rules_interface.specs.Memory.{headAt, countsOf};
 ghost use Rattle.rules_interface.specs.Interface.{offsetOf, wordsIn};
 
-// The head of the tables that is lent.
+// The head of the tables that is passed in.
 // Rules out: the counts exchanged; an owner left out.
 pub fn head_at(counts: &[u8; 4], devowner: &[u8; 16], rowners: &[u8; 64]) -> Head
     ensures { λ r. ⌜ r ≡ headAt (was counts) (was devowner) (was rowners) ⌝ }
@@ -40,7 +40,7 @@ pub fn put_head(h: Head, counts: &mut [u8; 4], devowner: &mut [u8; 16], rowners:
     *rowners = owners;
 }
 
-// Where a payload of this length stands in its record.
+// Where a payload of this length is in its record.
 fn offset_of(length: usize) -> usize
     ensures { λ r. ⌜ r ≡ offsetOf length ⌝ }
 {

@@ -50,7 +50,7 @@ later i k b h e =
     let at : i + (k - i) ≡ k = omega arith in
     ap (λ (j : ℕ). allZero (drop j b)) (sym at) ∙ and-right (allZero (take (k - i) (drop i b))) _ (sym (zeros-part (k - i) i b) ∙ e)
 
--- n bytes from i on, and those from k on, which begins within them or just behind
+-- n bytes from i on, and those from k on, which begins within them or just after
 pub overlap : (n i k : ℕ) (b : List ℕ) → i ≤ k → k ≤ i + n → (allZero (take n (drop i b)) && allZero (drop k b)) ≡ allZero (drop i b)
 overlap n i k b h l =
     let parts = zeros-part n i b in
@@ -60,7 +60,7 @@ overlap n i k b h l =
     (λ t. rw t (bool-cases (allZero (drop k b)) (λ z. contradiction (parts ∙ rw (t, later k (i + n) b l z)) e) (λ z. z)))
     (λ t. rw t)))
 
--- bytes are the first n of them with zeros behind exactly where the rest is zeros
+-- bytes are the first n of them with zeros after exactly where the rest is zeros
 zeros-behind : (n m : ℕ) (b : List ℕ) → m + n ≡ length b → same b (take n b ++ replicate m 0) ≡ allZero (drop n b)
 unfolding same allZero
 zeros-behind zero zero [] h = refl

@@ -1,4 +1,4 @@
-// The decision on a record beside sound tables: the checks after 1 in their order and, where none applies, what is permitted.
+// The decision on a record with sound tables: the checks after 1 in their order and, where none applies, what is permitted.
 // The caller is found once, for all checks and for the permission. Check 1 is in check_waiting: it covers the queue too.
 use action::action_of;
 use caller::caller_of;

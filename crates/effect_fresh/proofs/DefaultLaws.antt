@@ -1,4 +1,4 @@
--- The rows of a build's default list: each is its body and what stands behind a body, and over a table of zeros they are the table.
+-- The rows of a build's default list: each is its body and what is after a body, and over a table of zeros they are the table.
 -- Over the table, so that both have one law.
 use Rattle.rows.proofs.Prelude.{_≡_, refl, sym, ap, _∙_, true, false, List, [], _∷_, _++_, map, append-nil, ℕ, _-_, _*_, _/_, _≤_, _<_, mul-le-mul-right, arith}
 use Rattle.rows.proofs.Prelude.{length, take, drop, replicate, length-append, length-map, length-replicate, leb-true, and-left}
@@ -24,7 +24,7 @@ good-few k b h = leb-true (length b / longest k) 2 (search and-left)
 
 -- ---- a row
 
--- what stands behind the body
+-- what is after the body
 pub behind : Table → List ℕ
 behind k = replicate (stride k - longest k) 0
 
@@ -43,13 +43,13 @@ from-long : (k : Table) (b : List ℕ) → length b ≡ longest k → length (ro
 from-long Creds b l = rw (length-append, l)
 from-long Aces b l = l
 
--- ---- so many rows
+-- ---- that many rows
 
 -- each from s bytes
 abbrev pub rowsFrom : Table → ℕ → ℕ → List ℕ → List ℕ
 rowsFrom k s n b = joined (map (rowFrom k) (rowsOf s n b))
 
--- the first, and those behind it
+-- the first, and those after it
 pub from-take : (k : Table) (s n : ℕ) (b : List ℕ) → 0 < n → rowsFrom k s n b ≡ rowFrom k (take s b) ++ rowsFrom k s (n - 1) (take (length b - s) (drop s b))
 unfolding joined
 from-take k s n b h = rw (rowsOf-suc s n b h, take-rest)

@@ -87,7 +87,7 @@ fn put_defaults(table: Table, out: &mut [u8], list: &[u8]) -> usize
     0
 }
 
-// The tables of a new terminal, made in the rows that are lent: the empty tables, whatever stood there, and the default rows.
+// The tables of a new terminal, made in the rows that are passed in: the empty tables, whatever stood there, and the default rows.
 // Rules out: a third row taken; a list with a bad row taken by half; a byte of the old rows left.
 pub fn fresh_in(
     creds: &mut [u8; CRED_ROWS],

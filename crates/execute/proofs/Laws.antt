@@ -125,7 +125,7 @@ module _ (t : Tables) (q : Request) (g : Decision) (is : g ≡ decided t q) (pas
     pub links-as : permittedLinks (q .clock) t (g .caller) ≡ linksOf (q .clock) t (q .bytes)
     links-as = ap (permittedLinks (q .clock) t) caller-is ∙ links-are t (q .bytes) form-passes (q .clock)
 
-    -- what is said, with the tables afterwards, and the buffer
+    -- what is reported, with the tables afterwards, and the buffer
     pub says : (d : Defaults) (n : ℕ) (p : StoreRange) (k : Links) (next : Tables) → n ≡ length (payloadOf (q .bytes)) → p ≡ storeRangeOf t (body (q .bytes)) (g .action) → k ≡ linksOf (q .clock) t (q .bytes)
         → next ≡ effectBy d t q (g .action)
         → record { answer = 0; permission = g .permission; payload = n; reply = g .reply; store = p; links = k; tables = next } ≡ resultOf (outcome d t q)

@@ -1,4 +1,4 @@
--- A decision that passes, beside what waits: the memory that it leaves.
+-- A decision that passes, with the queue: the memory that it leaves.
 -- An application record leaves the tables as they are.
 use Rattle.rows.proofs.Prelude.{_≡_, sym, ap, _∙_, Bool, true, false, _&&_, List, eqb, eq-eqb, ne-eqb}
 use Rattle.rows.specs.Rows.{Row, without}

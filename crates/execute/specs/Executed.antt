@@ -26,7 +26,7 @@ abbrev pub payloadBy : Check → Header → Bytes → Bytes
 payloadBy Pass header r = passedOn header (body r)
 payloadBy (Refuse n) header r = []
 
--- of a request q beside tables t: what is said with the tables afterwards, and the lent buffer
+-- of a request q with tables t: what is reported with the tables afterwards, and the caller's buffer
 pub record Executes (d : Defaults) (t : Tables) (q : Request) (lent : Bytes) (j : Judgement) (creds aces buffer : Bytes) : Type 0 where
   pub says : resultWith j creds aces ≡ resultOf (outcome d t q)
   pub fills : buffer ≡ filled lent (responseTo d t q .contents)

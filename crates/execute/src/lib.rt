@@ -45,8 +45,8 @@ pub fn payload(d: Decision, rec: &[u8]) -> &[u8]
     body_of(rec)
 }
 
-// A permitted record: what its sender is told, and the tables afterwards, their rows in the bytes that were lent.
-// Rules out: one that answers and never alters the tables; a reply read from the tables afterwards; a byte written behind the reply.
+// A permitted record: what its sender is told, and the tables afterwards, their rows in the bytes that were passed in.
+// Rules out: one that answers and never alters the tables; a reply read from the tables afterwards; a byte written after the reply.
 pub fn execute(
     h: Head,
     creds: &mut [u8; CRED_ROWS],
@@ -94,7 +94,7 @@ fn is_reset(a: Action) -> bool
     target == 0
 }
 
-// A permitted record and what waits, for an action that may change the tables: with a credential row its waiting record goes, and RESET leaves nothing waiting.
+// A permitted record and the queue, for an action that may change the tables: with a credential row its waiting record goes, and RESET leaves nothing waiting.
 fn execute_changing(
     h: Head,
     creds: &mut [u8; CRED_ROWS],
@@ -145,8 +145,8 @@ fn execute_changing(
     j
 }
 
-// A permitted record beside what waits: one for an application resource has no reply, and leaves the tables and the memory as they are.
-// Rules out: a record that outlives its credential row; a byte of the memory changed by a read; a RESET that keeps what waits.
+// A permitted record with the queue: one for an application resource has no reply, and leaves the tables and the memory as they are.
+// Rules out: a record that outlives its credential row; a byte of the memory changed by a read; a RESET that keeps the queue.
 pub fn execute_queued(
     h: Head,
     creds: &mut [u8; CRED_ROWS],

@@ -44,7 +44,7 @@ module _ (t : Tables) (m r : List ℕ) (e : verdict (handInChecks (terminal t m)
 
 -- ---- the answer, and the memory
 
--- the answer alone is said, of a refusal and of a record that is kept
+-- only the answer is reported, of a refusal and of a record that is kept
 pub transition : (f : Head) (cs es m r : List ℕ) (c v : Check) → c ≡ verdict (handInChecks (terminal (tablesOf f cs es) m) r) → c ≡ v
     → (j : Judgement) (m′ : List ℕ) → j ≡ numberJudgement f (numberOf c) → m′ ≡ handInOf (terminal (tablesOf f cs es) m) r v .terminal .queue
     → resultWith (numberJudgement f (numberOf v)) cs es ≡ transitionResult (handInOf (terminal (tablesOf f cs es) m) r v)

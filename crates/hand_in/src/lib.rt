@@ -57,7 +57,7 @@ fn check_hand_in<'a>(
     check_free(queue, rec)
 }
 
-// What is said of a record that is kept: 0, with permission 0 and all else empty.
+// What is reported of a record that is kept: 0, with permission 0 and all else empty.
 fn kept(h: Head) -> Judgement
     ensures { λ r. ⌜ r ≡ numberJudgement h 0 ⌝ }
 {

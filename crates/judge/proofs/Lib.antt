@@ -1,2 +1,2 @@
--- Laws of a record that is judged at once, as the code does it.
+-- Laws of a record that is judged directly, as the code does it.
 mod Laws

@@ -31,7 +31,7 @@ module _ (passes : Row → Bool) (s count : ℕ) (rows : List ℕ) where
     unfolding some
     some-end h = sym (inv ∙ rw (rows-end s left rest h))
 
--- ---- what so many rows become
+-- ---- what that many rows become
 
 entries-more : (n : ℕ) (b : List ℕ) → 0 < n
     → allEntries (rowsOf 25 n b) ≡ entriesOf (take 25 b) ++ allEntries (rowsOf 25 (n - 1) (take (length b - 25) (drop 25 b)))

@@ -83,7 +83,7 @@ fn put_all(out: &mut [u8], file: &[u8]) -> usize
     p
 }
 
-// A file of old rows as access rows: the answer, the length of the rows, and the lent buffer afterwards.
+// A file of old rows as access rows: the answer, the length of the rows, and the caller's buffer afterwards.
 // Rules out: a byte written on a refusal; 24 for 32 rows, or before 23; 25 where the rows just fit; anon-clear before auth-crypt.
 pub fn convert(file: &[u8], rows: &mut [u8]) -> Converted
     ensures answer { λ r. ⌜ r .answer ≡ numberOf (conversionVerdict (was file) (length (was rows))) ⌝ }

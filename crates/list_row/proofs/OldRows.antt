@@ -25,7 +25,7 @@ permission-byte o h = bits-in-byte o 16 0 5 (omega arith) ∙ omega arith
 zeros-byte : (o : Row) → oldZeros o ≡ getD o 16 0 % 8
 zeros-byte o = bits-in-byte o 16 5 3 (omega arith) ∙ omega arith
 
--- the set stands 13 bytes later than in an access row
+-- the set is 13 bytes later than in an access row
 pub bad-is : (o : Row) (b : ℕ) → b ≡ getD o 16 0 → (not (eqb (b % 8) 0) || not (setKnown (drop 13 o) 64)) ≡ badRow o
 unfolding badRow
 bad-is o b e =
@@ -47,7 +47,7 @@ row-puts i kind subject set row b h e l f p q r s =
     rw (permission-byte row (rw (← e) l), ← e, ← f, ← append-assoc set subject everySecond)
     (puts-then h (puts-then h (puts-then h p q) r) s)
 
--- a text as long as the buffer is all that stands there
+-- a text as long as the buffer is all that is there
 exact : {o o′ : List ℕ} {r : ℕ} (text : List ℕ) → length o ≡ length text → Puts o 0 text o′ r → o′ ≡ text
 exact {o} text h p =
     let fits : length text ≤ length o = omega arith in
@@ -74,7 +74,7 @@ written-at o zero s h = written-start o s (omega arith)
 written-at [] (suc at) s h = absurd (omega arith)
 written-at (b ∷ o) (suc at) s h = ap (λ (l : List ℕ). b ∷ l) (written-at o at s (omega arith))
 
--- the part from `at` on is lent, and comes back as y
+-- the part from `at` on is passed in, and comes back as y
 pub row-put : (o : List ℕ) (at : ℕ) (text made y : List ℕ) → length o ≤ largest → at + aceRowSize ≤ length o → length text ≡ aceRowSize → made ≡ text
     → y ≡ withRow aceRowSize 0 made (take (length o - at) (drop at o)) → Puts o at text (take at o ++ (y ++ drop (length o - at) (drop at o))) (at + aceRowSize)
 unfolding withRow

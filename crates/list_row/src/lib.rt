@@ -21,10 +21,10 @@ ghost use Rattle.rules.specs.Sizes.{aceRowSize};
 // Bytes of an old row.
 pub const OLD_ROW: usize = 25;
 
-// Where an old row's permission stands, with the three zero bits behind it.
+// Where an old row's permission is, with the three zero bits after it.
 const FLAGS_AT: usize = 16;
 
-// Where its set of resources stands.
+// Where its set of resources is.
 const SET_AT: usize = 17;
 
 // Bytes of a subject, which an old row begins with.
@@ -47,7 +47,7 @@ fn flags(row: &[u8]) -> u8
     }
 }
 
-// Whether a zero bit is set or an unknown resource is in the set, which stands 13 bytes later than in an access row.
+// Whether a zero bit is set or an unknown resource is in the set, which is 13 bytes later than in an access row.
 // Rules out: the last zero bit ignored; a set in which only the last resource is tested.
 pub fn is_bad(row: &[u8]) -> bool
     ensures { λ r. ⌜ r ≡ badRow (was row) ⌝ }

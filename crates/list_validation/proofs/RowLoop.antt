@@ -1,5 +1,5 @@
 -- The loop over a list's rows: its invariant, a bad row, a turn, the end.
--- The first i rows have no fault; what is said of the list is said of the rest behind them, and so is where a number first repeats.
+-- The first i rows have no fault; what is reported of the list is reported of the rest after them, and so is where a number first repeats.
 use Rattle.rows.proofs.Prelude.{_≡_, refl, sym, _∙_, Bool, not, _||_, cond, List, [], _∷_, ℕ, suc, _+_, _*_, _≤_, _<_, add-one, arith, length, take, drop}
 use Rattle.rows.proofs.Prelude.{drop-of-length-le, eqb, eq-eqb, ne-eqb, bool-cases, or-right}
 use Rattle.rows.specs.Rows.{Row, rowsOf, some, numberedAs, beforeRepeat}

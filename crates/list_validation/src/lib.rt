@@ -65,8 +65,8 @@ fn test_rows(rows: &[u8], count: usize) -> Tested
     Tested { answer: 0, row: 0 }
 }
 
-// What is said of the list: 0 and row 0 where it is accepted, 19 and row 0 for its size, else the fault of the first bad row, counted from 1.
-// Rules out: a list of 33 rows; a later bad row named; a number that stands twice; a row for a
+// What is reported of the list: 0 and row 0 where it is accepted, 19 and row 0 for its size, else the fault of the first bad row, counted from 1.
+// Rules out: a list of 33 rows; a later bad row named; a number that occurs twice; a row for a
 // connection that gives UPDATE of acl2; 21 for a row that could not be stored.
 pub fn test_list(rows: &[u8]) -> Tested
     ensures { λ r. ⌜ r ≡ listTested (was rows) ⌝ }

@@ -1,4 +1,4 @@
-// The office text of one access control entry, put into a lent buffer at a position.
+// The office text of one access control entry, put into a caller's buffer at a position.
 // Every public function is total: a byte past the buffer's end is not written, and the position goes on.
 use fields::ace;
 use fields::be16;

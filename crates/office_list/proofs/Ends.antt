@@ -15,7 +15,7 @@ use Rattle.rules_office.specs.Office.{comma, separated, rowText, rowsText, list
 use Rattle.rules_office.proofs.Bounds.{text-short}
 use Rattle.rules.specs.Sizes.{aceRowSize}
 
--- the text of so many rows, those of a shorter period left out
+-- the text of that many rows, those of a shorter period left out
 abbrev pub entries : Bool → ℕ → List ℕ → List ℕ
 entries first n b = separated first (map rowText (rowsWritten (rowsOf aceRowSize n b)))
 

@@ -100,9 +100,9 @@ fn is_too_short(capacity: usize, naces: u8, aces: &[u8; ACE_ROWS]) -> bool
     capacity < n
 }
 
-// The tables' access list as office text: the answer, the length of the text, and the lent buffer afterwards.
+// The tables' access list as office text: the answer, the length of the text, and the caller's buffer afterwards.
 // Rules out: a byte written on 18; 18 where the text fits exactly; the text of tables that are
-// not sound, be it only in what waits; a row of a shorter period in the text.
+// not sound, be it only in the queue; a row of a shorter period in the text.
 pub fn access_list<'a>(
     h: Head,
     creds: &'a [u8; CRED_ROWS],

@@ -59,6 +59,6 @@ module _ (w : Row) (first : Bool) (k : ℕ) where
       → Puts out p (cond b (comma first ++ x) []) out′ p′ → x ≡ braced (getD choices k []) → Writing o at whole (items w (not b && first) (suc k)) out′ p′
   items-put h e v q d = writing-step _ _ v (rw d (items-next h e)) q
 
-  -- the wildcards alone
+  -- only the wildcards
   pub items-last : count ≤ k → k ≤ count → items w first k ≡ items w first count ++ []
   items-last h l = let e : k ≡ count = omega arith in ap (items w first) e ∙ sym (append-nil (items w first count))

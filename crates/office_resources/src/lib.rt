@@ -1,4 +1,4 @@
-// The office text of an access row's resources, put into a lent buffer at a position.
+// The office text of an access row's resources, put into a caller's buffer at a position.
 // Every public function is total: a byte past the buffer's end is not written, and the position goes on.
 use fields::ace;
 use rules::Resource;
@@ -24,7 +24,7 @@ pub fn put_comma(out: &mut [u8], at: usize, first: bool) -> usize
     direct::put(out, at, b",")
 }
 
-// The names of the application resources, which stand in `names` after the five of security.
+// The names of the application resources, which are in `names` after the five of security.
 fn put_application(out: &mut [u8], at: usize, n: u16) -> usize
     ensures { λ r. ⌜ Puts (was out) at (ascii (lookup n (drop 5 names) "")) (became out) r ⌝ }
 {

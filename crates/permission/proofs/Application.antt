@@ -1,4 +1,4 @@
--- On a link of /yard, an application resource, the access rows alone count.
+-- On a link of /yard, an application resource, only the access rows count.
 -- It has no owners, and it is not roles, on which partners have rights.
 use Rattle.rows.proofs.Prelude.{_≡_, refl, sym, _∙_, false, List, ℕ, eqb, or-zero-r}
 use Rattle.rows.specs.Rows.{Row, unionOf}

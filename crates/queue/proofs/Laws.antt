@@ -44,11 +44,11 @@ head-set m n r h t =
 
 -- ---- the slots
 
--- the memory's slots, as they are lent
+-- the memory's slots, as they are passed in
 abbrev pub slotsOf : List ℕ → List ℕ
 slotsOf m = take (length m - 4) (drop 4 m)
 
--- the memory while other slots stand there
+-- the memory while other slots are there
 abbrev pub between : List ℕ → List ℕ → List ℕ
 between m last = take 4 m ++ (last ++ drop (length m - 4) (drop 4 m))
 
@@ -130,7 +130,7 @@ module _ (s n : ℕ) (b : List ℕ) (t : IsTable s n b) where
       let few : length (take (n * s) b) ≤ n * s = omega (arith, used-long) in
       record { numbered = t .numbered; fits = rw used-long (omega arith); zeros = ap allZero (drop-of-length-le (take (n * s) b) few) }
 
-  -- what is left of them, with the zeros behind
+  -- what is left of them, with the zeros after
   pub used-packed : (ws : List Row) (last : List ℕ) → last ≡ packed (length (take (n * s) b)) ws → length last ≡ length (take (n * s) b)
       → last ++ drop (n * s) b ≡ packed (length b) ws
   unfolding packed

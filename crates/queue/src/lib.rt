@@ -24,7 +24,7 @@ ghost use Rattle.rules_terminal.specs.Terminal.{withRecord};
 ghost use Rattle.queue.specs.Queue.{IsQueue};
 
 // The record that a slot keeps.
-// Rules out: the slot's head taken for the record; a byte behind the record.
+// Rules out: the slot's head taken for the record; a byte after the record.
 pub fn record_in(slot: &[u8]) -> &[u8]
     ensures { λ r. ⌜ now r ≡ recordOf (was slot) ⌝ }
 {
@@ -70,7 +70,7 @@ fn put_head(queue: &mut [u8], count: usize, round: [u8; 3])
     queue[3] = round[2];
 }
 
-// Takes the slot of a seat out: the slots behind it move down. Returns how many are left.
+// Takes the slot of a seat out: the slots after it move down. Returns how many are left.
 fn take_out(slots: &mut [u8], count: usize, seat: &[u8]) -> usize
     requires { ⌜ IsTable slotSize count (now slots) ⌝ }
     ensures { λ r. ⌜ r ≡ length (without (hasKey 0 (was seat)) (rowsOf slotSize count (was slots))) ⌝ }
@@ -83,7 +83,7 @@ fn take_out(slots: &mut [u8], count: usize, seat: &[u8]) -> usize
 }
 
 // Removes the record of a seat. The round continues after that seat.
-// Rules out: another's record emptied; a round that stands still.
+// Rules out: another's record emptied; a round that is still.
 pub fn dequeue(queue: &mut [u8], seat: &[u8])
     requires { ⌜ (IsQueue (now queue)) × (length (now seat) ≡ 2) ⌝ }
     ensures { λ _. ⌜ became queue ≡ queueOf (afterSeat (was seat)) (without (hasKey 0 (was seat)) (waiting (was queue))) ⌝ }
@@ -173,7 +173,7 @@ pub fn settle(was_valid: bool, count: u8, creds: &[u8; CRED_ROWS], queue: &mut [
     put_head(queue, kept, round);
 }
 
-// Nothing waits, and the round begins anew.
+// Nothing waits, and the round starts over.
 // Rules out: a byte left.
 pub fn clear(queue: &mut [u8; QUEUE])
     ensures { λ _. ⌜ became queue ≡ emptyQueue ⌝ }

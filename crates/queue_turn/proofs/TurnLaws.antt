@@ -49,7 +49,7 @@ module _ (creds slots : List ℕ) (count kept : ℕ) where
   unfolding slotIn rowsOf
   none rest left inv h = let e : left ≡ 0 = omega arith in sym (inv .slot ∙ rw e)
 
--- ---- where the last seat stands
+-- ---- where the last seat is
 
 index-place : (k : ℕ) (p : Seat) (ws : List Row) → length p ≡ 2
     → indexFrom k (hasKey 0 p) ws ≡ cond (some (same p) (map (take 2) ws)) (At (k + rowsBefore (same p) (map (take 2) ws))) Nothing
@@ -118,7 +118,7 @@ anew-turned ns =
     let all : length ns ≤ length ns = omega arith in
     rw (drop-of-length-le ns all, take-all (length ns) ns all, append-nil ns)
 
--- behind the last seat taken, then the unauthenticated seat, then the rows before
+-- after the last seat taken, then the unauthenticated seat, then the rows before
 turned : (k : Round) (ns : List Seat) → inTurn k (nobody ∷ ns) ≡ drop (rowsAhead k ns) ns ++ nobody ∷ take (rowsAhead k ns) ns
 unfolding inTurn start rowsAhead isSeat some rowsBefore
 turned anew ns = anew-turned ns

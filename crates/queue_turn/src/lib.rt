@@ -43,7 +43,7 @@ fn first_waiting(creds: &[u8], count: usize, slots: &[u8], kept: usize) -> Found
     Found::Nothing
 }
 
-// How many credential rows stand before the seat that is first in turn.
+// How many credential rows are before the seat that is first in turn.
 fn rows_before(creds: &[u8], count: usize, m: &[u8]) -> usize
     requires { ⌜ (count * stride Creds ≤ length (now creds)) × (4 ≤ length (now m)) ⌝ }
     ensures { λ r. ⌜ r ≡ rowsAhead (roundOf (was m)) (map (take 2) (rowsOf (stride Creds) count (was creds))) ⌝ }
@@ -97,7 +97,7 @@ fn due_slot<'a>(h: Head, creds: &'a [u8; CRED_ROWS], aces: &'a [u8; ACE_ROWS], m
     i
 }
 
-// The bytes behind a slot's head: its record, with zeros behind.
+// The bytes after a slot's head: its record, with zeros after.
 fn record_bytes(slot: &[u8]) -> [u8; 256]
     requires { ⌜ length (now slot) ≡ slotSize ⌝ }
     ensures { λ r. ⌜ r ≡ drop 4 (was slot) ⌝ }
@@ -107,7 +107,7 @@ fn record_bytes(slot: &[u8]) -> [u8; 256]
     bytes
 }
 
-// The record whose turn it is, by value with zeros behind, its length and its seat.
+// The record whose turn it is, by value with zeros after, its length and its seat.
 pub struct Due {
     pub bytes: [u8; 256],
     pub size: usize,
@@ -115,7 +115,7 @@ pub struct Due {
 }
 
 // The record whose turn it is, in a sound terminal where one waits.
-// Rules out: the first record that came; that of the last seat taken, once more; a byte of another record behind it.
+// Rules out: the first record that came; that of the last seat taken, once more; a byte of another record after it.
 pub fn due_record<'a>(
     h: Head,
     creds: &'a [u8; CRED_ROWS],

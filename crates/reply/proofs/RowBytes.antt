@@ -17,7 +17,7 @@ pub row-part : (n m : ℕ) (b p : List ℕ) → m ≡ min n 32 → p ≡ take (m
 unfolding rowsIn
 row-part n m b p e f = rw (f, e) (sym (joined-rowsOf aceRowSize (min n 32) b))
 
--- ---- the bodies of so many credential rows
+-- ---- the bodies of that many credential rows
 
 abbrev pub bodies : ℕ → List ℕ → List ℕ
 bodies n b = joined (map bodyOf (rowsOf credRowSize n b))
@@ -30,7 +30,7 @@ one-more : (n : ℕ) (b : List ℕ) → bodies (suc n) b ≡ take credBodySize b
 unfolding rowsOf joined
 one-more n b = ap (λ (l : List ℕ). l ++ bodies n (drop credRowSize b)) (take-take credBodySize credRowSize b (omega arith))
 
--- the first, and those behind it
+-- the first, and those after it
 pub bodies-take : (n : ℕ) (b : List ℕ) → 0 < n → bodies n b ≡ take credBodySize b ++ bodies (n - 1) (take (length b - credRowSize) (drop credRowSize b))
 bodies-take n b h =
     let e : n ≡ suc (n - 1) = omega arith in
@@ -40,7 +40,7 @@ pub bodies-end : (n : ℕ) (b : List ℕ) → n ≤ 0 → bodies n b ≡ []
 unfolding rowsOf joined
 bodies-end n b h = let e : n ≡ 0 = omega arith in ap (λ (k : ℕ). bodies k b) e
 
--- so many bytes, where the rows are there
+-- that many bytes, where the rows are there
 pub bodies-long : (n : ℕ) (b : List ℕ) → n * credRowSize ≤ length b → length (bodies n b) ≡ n * credBodySize
 unfolding rowsOf joined
 bodies-long zero b h = omega arith

@@ -108,7 +108,7 @@ header-length : length header ≡ 20
 unfolding header ascii
 header-length = refl
 
--- r bytes of the whole text stand in the buffer
+-- r bytes of the whole text are in the buffer
 pub run-whole : (s : List ℕ) {o o₁ o₂ : List ℕ} {p q r : ℕ} → length o ≤ largest
     → Puts o 0 header o₁ p → Puts o₁ p (lines s) o₂ q × LinesFit s → r ≡ min q (length o₂)
     → (r ≡ min (length (runText s)) (length o))

@@ -22,7 +22,7 @@ unfoldable pub line : Number → Answer → Permission → State → Text
 line number answer permission state =
     decimal number ++ ascii " " ++ decimal answer ++ ascii " " ++ decimal permission ++ ascii " " ++ decimal state ++ ascii "\n"
 
--- each record is lent a buffer that fits any reply
+-- each record is passed in a buffer that fits any reply
 abbrev pub lent : Clock → Bytes → Request
 lent clock r = received clock r longestReply
 

@@ -1,5 +1,5 @@
-// The text of a run: the input is cut into records after 32-bit clocks and 16-bit lengths, and a line for each is written into a lent buffer.
-// Each record is judged on the tables that the one before handed back.
+// The text of a run: the input is cut into records after 32-bit clocks and 16-bit lengths, and a line for each is written into a caller's buffer.
+// Each record is judged on the tables that the one before returned.
 use fields::be16;
 use fields::be32;
 use fields::skip;

@@ -52,7 +52,7 @@ later i k b h e =
     let at : i + (k - i) ≡ k = omega arith in
     ap (λ (j : ℕ). allZero (drop j b)) (sym at) ∙ and-right (allZero (take (k - i) (drop i b))) _ (sym (zeros-part (k - i) i b) ∙ e)
 
--- n bytes from i on, and those from k on, which begins within them or just behind
+-- n bytes from i on, and those from k on, which begins within them or just after
 pub overlap : (n i k : ℕ) (b : List ℕ) → i ≤ k → k ≤ i + n → (allZero (take n (drop i b)) && allZero (drop k b)) ≡ allZero (drop i b)
 overlap n i k b h l =
     let parts = zeros-part n i b in

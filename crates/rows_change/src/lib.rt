@@ -35,7 +35,7 @@ pub fn clear(bytes: &mut [u8])
     }
 }
 
-// Takes the first `n` bytes out: the others move down, and `n` zeros stand at the end.
+// Takes the first `n` bytes out: the others move down, and `n` zeros are at the end.
 fn shift_down(bytes: &mut [u8], n: usize)
     requires { ⌜ n ≤ length (now bytes) ⌝ }
     ensures { λ _. ⌜ became bytes ≡ drop n (was bytes) ++ replicate n 0 ⌝ }
@@ -91,7 +91,7 @@ pub fn store(rows: &mut [u8], stride: usize, count: usize, row: &[u8]) -> usize
 }
 
 // Removes each row that has the key's bytes from `at` on. Returns the new count.
-// Rules out: the first match alone; the last row moved into the gap.
+// Rules out: only the first match; the last row moved into the gap.
 pub fn remove(rows: &mut [u8], stride: usize, count: usize, at: usize, key: &[u8]) -> usize
     requires { ⌜ IsTable stride count (now rows) ⌝ }
     ensures { λ r. ⌜ r ≡ length (without (hasKey at (was key)) (rowsOf stride count (was rows))) ⌝ }

@@ -28,7 +28,7 @@ fn again(seen: bool, rows: &[u8], stride: usize, i: usize) -> bool
     false
 }
 
-// How many of the `count` rows stand before the first that has the number of an earlier one; all, where there is none.
+// How many of the `count` rows are before the first that has the number of an earlier one; all, where there is none.
 // Only a low byte seen before asks for a search.
 // Rules out: only neighbours compared; two numbers that share a low byte taken as one; the last of several that repeat.
 pub fn before_repeat(rows: &[u8], stride: usize, count: usize) -> usize
@@ -49,7 +49,7 @@ pub fn before_repeat(rows: &[u8], stride: usize, count: usize) -> usize
 }
 
 // Whether no two of the `count` rows have the same number.
-// Rules out: a number that stands twice passed over; a table of no rows refused.
+// Rules out: a number that occurs twice passed over; a table of no rows refused.
 pub fn distinct(rows: &[u8], stride: usize, count: usize) -> bool
     requires { ⌜ (2 ≤ stride) × (count * stride ≤ length (now rows)) ⌝ }
     ensures { λ r. ⌜ r ≡ distinctNumbers (rowsOf stride count (was rows)) ⌝ }

@@ -1,4 +1,4 @@
--- Two sound tables that differ in the asserted roles of the chosen partners alone give a
+-- Two sound tables that differ in the asserted roles of only the chosen partners give a
 -- record of the others the same answer, permission, reply, places and links.
 -- Afterwards they still differ in these roles alone.
 use Rattle.rows.proofs.Prelude.{_≡_, refl, sym, ap, ap₂, _∙_, Bool, true, false, not, _&&_, cond, List, [], _∷_, _++_, map, ℕ, _≤_, _<_, arith, length, take}
@@ -133,7 +133,7 @@ module _ (chosen : Sender → Bool) where
     length-alike : length (rows Creds s) ≡ length (rows Creds t)
     length-alike = responses-alike length _ (λ ws. length-map ws (redacted chosen))
 
-    -- a test that sees the body alone
+    -- a test that sees only the body
     module _ (p : Row → Bool) (sees : (w : Row) → p (redacted chosen w) ≡ p w) where
       some-alike : some p (rows Creds s) ≡ some p (rows Creds t)
       some-alike = responses-alike (some p) _ (some-map (redacted chosen) hidden-body p sees)
@@ -254,7 +254,7 @@ module _ (chosen : Sender → Bool) where
 
     -- ---- the outcome
     module _ (d : Defaults) (q : Request) (c : chosen (sender (q .bytes)) ≡ false) where
-      -- the same for the sender, and afterwards the same but for what is hidden
+      -- the same for the sender, and afterwards the same except for what is hidden
       pub outcome-alike : (responseTo d s q ≡ responseTo d t q) × (redactedIn chosen (tablesAfter d s q) ≡ redactedIn chosen (tablesAfter d t q))
       unfolding outcome outcomeAt
       outcome-alike =

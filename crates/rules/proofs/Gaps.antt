@@ -1,5 +1,5 @@
 -- Theorems, U4: after a DELETE each reported place holds another row number than before, 0 when unused, and no other place does.
--- No byte before the first place is another, nor one behind the last, so that the old bytes with the places overwritten are the new ones.
+-- No byte before the first place is another, nor one after the last, so that the old bytes with the places overwritten are the new ones.
 -- Over the rows that go; of a record in Wear.antt. The bytes' lengths are those that the struct's types give.
 use Rattle.rows.proofs.Prelude.{_≡_, refl, sym, ap, _∙_, Bool, true, false, not, List, [], _∷_, ℕ, _+_, _-_, _*_, _≤_, _<_, mul-le-mul-right, suc-mul, arith}
 use Rattle.rows.proofs.Prelude.{length, take, drop, take-append-drop, drop-drop, take-take, eqb, eq-eqb, not-true, bool-cases, contradiction, and-left}
@@ -143,7 +143,7 @@ module _ (k : Table) (t : Tables) (goes : Row → Bool) (h : sound t ≡ true) (
       (gap.bytes-before goes (stride k) (tableSize k) (rows k t) long long′ (gap.before-all goes (rows k t)))))
       (λ s. rw (none-same s))
 
-  -- nor a byte behind the last
+  -- nor a byte after the last
   pub bytes-rest :
       drop ((gapOf goes (rows k t) .first + gapOf goes (rows k t) .count) * stride k) (bytes k after)
       ≡ drop ((gapOf goes (rows k t) .first + gapOf goes (rows k t) .count) * stride k) (bytes k t)

@@ -1,5 +1,5 @@
 -- Theorem, demand 3 over the rules: what the chosen senders send changes nothing for the
--- others, nor the tables at the end but for the roles that chosen partners asserted.
+-- others, nor the tables at the end except for the roles that chosen partners asserted.
 -- One claim over the whole list, from 'The others alone'; the premise is read along the others' run. Each request has its clock and its buffer's length.
 use Rattle.rows.proofs.Prelude.{_≡_, refl, sym, ap, _∙_, Bool, true, false, not, _||_, List, ℕ, length, eqb, eqb-true, not-false, not-true, cond-cases}
 use Rattle.rows.proofs.Prelude.{bool-cases, contradiction, or-left, or-right}
@@ -77,7 +77,7 @@ module _ (d : Defaults) (chosen : Sender → Bool) where
         (λ f. contradiction (rw (eqb-true v 3 e) at may) (or-right (has p C || has p U) _ (lacks f))))
         (λ _. cond-cases Still (eqb v 4) (λ _. read-still b) (λ _ _. refl))))
 
-    -- sound tables are the same afterwards but for what is hidden
+    -- sound tables are the same afterwards except for what is hidden
     unchanged : Harmless chosen t → redactedIn chosen (tablesAfter d t q) ≡ redactedIn chosen t
     unfolding outcome outcomeAt permissionOf notPermitted actionOf
     unchanged safe =

@@ -1,4 +1,4 @@
--- Theorems, U1: the rows that a reply tells, sent as bodies one after the other, make the table again, but for asserted roles; and how long a reply gets.
+-- Theorems, U1: the rows that a reply tells, sent as bodies one after the other, make the table again, except for asserted roles; and how long a reply gets.
 -- The lengths of the owners' fields are those that the struct's types give.
 use Rattle.rows.proofs.Prelude.{_≡_, refl, sym, ap, _∙_, true, false, List, [], _∷_, _++_, map, append-nil, ℕ, _+_, _-_, _*_, _≤_, arith, length, take, drop}
 use Rattle.rows.proofs.Prelude.{drop-of-length-le, length-append, length-drop, length-map, length-take, drop-at, length-take-le, ltb, eqb, eqb-true, le-ltb}

@@ -1,4 +1,4 @@
--- Theorems, U1 over whole outcomes: the rows of the reply to a permitted RETRIEVE make the table again, but for asserted roles.
+-- Theorems, U1 over whole outcomes: the rows of the reply to a permitted RETRIEVE make the table again, except for asserted roles.
 -- As rows that are stored; and judged, as records one straight after the other, from tables without rows of that kind.
 -- The length of the row owners' field is what the struct's type gives.
 use Rattle.rows.proofs.Prelude.{_≡_, refl, sym, ap, _∙_, true, _||_, or-false, List, [], _∷_, map, ℕ, length, length-map, eqb, eqb-true, not-false, and-left}

@@ -24,7 +24,7 @@ held-parts w h = record {
 pub body-long : (w : Row) → length w ≡ credRowSize → length (bodyOf w) ≡ credBodySize
 body-long w l = length-take-le credBodySize w (omega arith)
 
--- ---- roles that stand in the places of one row
+-- ---- roles that are in the places of one row
 
 -- the place that begins the bytes, where it is not free
 slot-role : (clock : ℕ) (x : List ℕ) → roleSlotSize ≤ length x → free clock (take roleSlotSize x) ≡ false → Role (take roleSlotSize x)
@@ -95,7 +95,7 @@ few-long (p ∷ q ∷ r ∷ ps) f = absurd f
 abbrev pub slotsIn : List ℕ → List Row
 slotsIn x = rowsOf roleSlotSize roleSlots x
 
--- in places that hold such roles, zeros stand behind them alone
+-- in places that hold such roles, zeros are after them alone
 pub few-slots : (f : Row → Bool) → f (replicate roleSlotSize 0) ≡ true → (ps : List Row) → Few ps → without f (slotsIn (packed rolesSize ps)) ≡ without f ps
 unfolding packed joined rowsOf without
 few-slots f z [] g = rw z
@@ -177,7 +177,7 @@ module _ (clock : ℕ) (b : List ℕ) (w : Row) (p : Held w) where
     asserted-storable =
         and-both _ _ (and-both _ _ (eq-eqb (length (asserted clock b w)) credRowSize (asserted-held .long)) (asserted-held .body)) (asserted-held .roles)
 
-    -- but for its places it is the same
+    -- except for its places it is the same
     pub asserted-without : withoutRoles (asserted clock b w) ≡ withoutRoles w
     unfolding withoutRoles
     asserted-without = rw (asserted-body, asserted-held .long, p .long)
@@ -189,7 +189,7 @@ unasserted-is b l =
     let long : length (unasserted b) ≡ credRowSize = rw (length-append, l) in
     rw (eq-eqb (length (unasserted b)) credRowSize long, body-is b l (replicate rolesSize 0), sound-is b l (replicate rolesSize 0) ∙ sound-few [] tt) (and-true (credStorable b))
 
--- a role holds on its last second, and not behind it: role 7 of authority 1, to second 100
+-- a role holds on its last second, and not after it: role 7 of authority 1, to second 100
 pub last-second : map (λ clock. free clock (0 ∷ 1 ∷ 0 ∷ 7 ∷ 0 ∷ 0 ∷ 0 ∷ 100 ∷ [])) (99 ∷ 100 ∷ 101 ∷ []) ≡ false ∷ false ∷ true ∷ []
 unfolding free noRole bits bit
 last-second = refl

@@ -31,7 +31,7 @@ use Rattle.rules.proofs.SoundKept.{Passed, passed-all, asserted-sound}
 use Rattle.rules.proofs.Refusals.{none-permitted, permitted-passes, permitted-outcome, answer-is}
 use Rattle.rules.specs.Sizes.{credBodySize, roleSlotSize, rolesSize}
 
--- ---- a row stored in the place of the one with its number
+-- ---- a row stored instead of the one with its number
 
 none-instead : (own new : Row) (ws : List Row) → some (numberedAs own) ws ≡ false → map (insteadOf own new) ws ≡ ws
 unfolding some insteadOf

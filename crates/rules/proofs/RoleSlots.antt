@@ -75,7 +75,7 @@ module _ (p q : Row) (l : length p ≡ roleSlotSize) (m : length q ≡ roleSlotS
       contradiction (ap noRole (sym (drop-at p q roleSlotSize l) ∙ ap (drop roleSlotSize) zeros) ∙ no-role-zeros) f)
       (λ z. z)
 
-  -- a role in the second place alone is not where it should be
+  -- a role in only the second place is not where it should be
   second-alone : noRole p ≡ true → noRole q ≡ false → same (p ++ q) (packed rolesSize (q ∷ [])) ≡ false
   second-alone e f =
       bool-cases (same (p ++ q) (packed rolesSize (q ∷ [])))
@@ -96,7 +96,7 @@ module _ (p q : Row) (l : length p ≡ roleSlotSize) (m : length q ≡ roleSlotS
       (λ f. rw (e, f, first-there, and-true))
       (λ f. rw (e, f, two-packed, same-refl (p ++ q), or-false, and-true)))
 
--- one place after the other: behind the roles that are there all bytes are zero, and the second is not the first again
+-- one place after the other: after the roles that are there all bytes are zero, and the second is not the first again
 pub slots-sound : (w : Row) → length w ≡ credRowSize
     → rolesSound w ≡ cond (noRole (place w 0)) (allZero (drop credBodySize w))
     (cond (noRole (place w 1)) (allZero (drop (credBodySize + roleSlotSize) w)) (not (sameRole (place w 0) (place w 1))))

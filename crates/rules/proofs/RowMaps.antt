@@ -1,4 +1,4 @@
--- Credential rows that change behind their bodies only: what finds, stores, removes or counts rows by their bodies does not see it.
+-- Credential rows that change after their bodies only: what finds, stores, removes or counts rows by their bodies does not see it.
 -- The change is any function of a row that keeps the row's body; `withoutRoles` is one.
 use Rattle.rows.proofs.Prelude.{_≡_, refl, sym, ap, _∙_, Bool, true, List, [], _∷_, _++_, map, ℕ, zero, suc, _+_, _-_, _≤_, arith, length, take, drop}
 use Rattle.rows.proofs.Prelude.{replicate, take-take, bool-cases, contradiction}
@@ -87,7 +87,7 @@ module _ (f : Row → Row) (keeps : (w : Row) → bodyOf (f w) ≡ bodyOf w) whe
   stored-map new (w ∷ ws) =
       rw (new-same new, as-same new w) (bool-cases (numberedAs new w) (λ e. rw e) (λ e. rw (e, stored-map new ws)))
 
-  -- a row stored over one that it is equal to but for the change
+  -- a row stored over one that it is equal to except for the change
   pub stored-over : (new : Row) (ws : List Row) → some (numberedAs new) ws ≡ true → f new ≡ f (firstRow (numberedAs new) ws) → map f (stored new ws) ≡ map f ws
   unfolding stored some firstRow
   stored-over new [] h e = contradiction h refl

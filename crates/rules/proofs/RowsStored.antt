@@ -68,7 +68,7 @@ all-may k t f one (b ∷ bs) (q ∷ qs) l e =
 
 -- ---- what rows of the table do not change
 
--- tables that are the same but for these rows
+-- tables that are the same except for these rows
 abbrev SameBut : Table → Tables → Tables → Type 0
 SameBut k v t = withRows k v [] ≡ withRows k t []
 

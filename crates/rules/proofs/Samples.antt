@@ -1,5 +1,5 @@
 -- The rows and tables that the examples of all requests are made of, and names that open the definitions for them.
--- The examples that take longer to compute stand in `rules_examples`.
+-- The examples that take longer to compute are in `rules_examples`.
 use Rattle.rows.proofs.Prelude.{_≡_, refl, false, List, [], _∷_, _++_, map, ℕ, zero, suc, _+_, _*_, _/_, _%_, replicate, ones, onesIn}
 use Rattle.rows.specs.Rows.{Row, rowsBefore, rowsOf, joined, packed, allZero, same, hasKey, numberedAs}
 use Rattle.rows.specs.Rows.{firstRow, some, every, without, distinctNumbers, stored, unionOf, withRow}

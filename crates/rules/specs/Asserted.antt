@@ -41,11 +41,11 @@ insteadOf own new v = cond (numberedAs own v) new v
 
 -- of the tables before and after, for the sender s who asserted the body b at this clock
 pub record RoleAsserted (clock : ℕ) (b : List ℕ) (s : Sender) (t t′ : Tables) : Type 0 where
-  -- each row stands where it stood: the sender's own is its row afterwards, and every other is as it was
+  -- each row is where it stood: the sender's own is its row afterwards, and every other is as it was
   pub rows-left : rows Creds t′ ≡ map (insteadOf (senderRow t s) (senderRow t′ s)) (rows Creds t)
   -- the own row has the same body
   pub own-body : bodyOf (senderRow t′ s) ≡ bodyOf (senderRow t s)
-  -- at any clock: of the roles that were in force, and the new one in the place of its equal or else at the end, those that are in force
+  -- at any clock: of the roles that were in force, and the new one instead of its equal or else at the end, those that are in force
   pub own-roles : (later : ℕ) → rolesInForce later (senderRow t′ s) ≡ without (free later) (withRole b (rolesInForce clock (senderRow t s)))
   -- access rows and all else in the tables are the same
   pub others : t′ ≡ withRows Creds t (rows Creds t′)

@@ -21,7 +21,7 @@ use Rattle.rules.specs.declared.Table.{Table}
 pub record SubjectGone (s : List ℕ) (t t′ : Tables) : Type 0 where
   -- the rows are those without the subject
   pub rows-left : rows Creds t′ ≡ without (hasSubject s) (rows Creds t)
-  -- so none of them has it, each row of another subject is one of them, and they stand in their order
+  -- so none of them has it, each row of another subject is one of them, and they are in their order
   pub orphaned : (w : Row) → List·Memᴰ w (rows Creds t′) → credSubject w ≡ s → ⊥
   pub left : (w : Row) → List·Memᴰ w (rows Creds t) → (credSubject w ≡ s → ⊥) → List·Memᴰ w (rows Creds t′)
   pub order : Sublistᴰ (rows Creds t′) (rows Creds t)
@@ -32,7 +32,7 @@ pub record SubjectGone (s : List ℕ) (t t′ : Tables) : Type 0 where
 pub record Worn (k : Table) (t t′ : Tables) (p : StoreRange) : Type 0 where
   -- the old bytes, with the places overwritten and nothing else, are the new bytes
   pub stored : overwritten (stride k) p (bytes k t) (bytes k t′) ≡ bytes k t′
-  -- no byte before the first place is another, nor one behind the last
+  -- no byte before the first place is another, nor one after the last
   pub front : take (p .first * stride k) (bytes k t′) ≡ take (p .first * stride k) (bytes k t)
   pub rest : drop ((p .first + p .count) * stride k) (bytes k t′) ≡ drop ((p .first + p .count) * stride k) (bytes k t)
   -- the last place is the last that held a row
@@ -43,7 +43,7 @@ pub record Worn (k : Table) (t t′ : Tables) (p : StoreRange) : Type 0 where
   pub behind : (i : ℕ) → p .first + p .count ≤ i → i < capacity k → numberAt (stride k) i (bytes k t′) ≡ numberAt (stride k) i (bytes k t)
   -- it is 0 when the place is unused
   pub unused : (i : ℕ) → count k (headOf t′) ≤ i → i < capacity k → numberAt (stride k) i (bytes k t′) ≡ 0 ∷ 0 ∷ []
-  -- all else in the tables is the same, but for the count
+  -- all else in the tables is the same, except for the count
   pub others : t′ ≡ withRows k t (rows k t′)
 
 -- of everything else, with the tables before and after it: a record that is refused, one that is no DELETE of rows, and a DELETE after which as many rows are held

@@ -1,4 +1,4 @@
--- What stands beside a number in a short list: the definitions' form of a table with named rows.
+-- What is beside a number in a short list: the definitions' form of a table with named rows.
 use Prim.Native.Nat.{ℕ}
 use mathlib.Core.Bool.{cond}
 use mathlib.Core.List.{List, [], _∷_}

@@ -1,4 +1,4 @@
--- Reading the tables back (U1): what a permitted RETRIEVE of a security resource fills the lent buffer with.
+-- Reading the tables back (U1): what a permitted RETRIEVE of a security resource fills the caller's buffer with.
 -- The resource's own body, its row owner, and its rows in table order; of roles the sender's own in force. Every other record has no reply.
 use Prim.Native.Nat.{_+_, _*_, _%_}
 use mathlib.Core.Bool.{Bool, _&&_, cond}
@@ -18,7 +18,7 @@ use Rattle.rules.specs.Tables.{tableSize, headOf, rows, rowOwner}
 use Rattle.rules.specs.Permission.{senderRow}
 use Rattle.rules.specs.Types.{Bytes, Clock, ResourceNumber, Size}
 
--- what an UPDATE of doxm or pstat would set to what is: owned stands in the first bit, the state in the first three; the tables' resources have no such body
+-- what an UPDATE of doxm or pstat would set to what is: owned is in the first bit, the state in the first three; the tables' resources have no such body
 unfoldable pub ownBody : Head → ResourceNumber → Bytes
 ownBody head n = lookup n ((doxm, head .owned % 2 * 128 ∷ head .devowner) ∷ (pstat, head .state % 8 * 32 ∷ []) ∷ []) []
 

@@ -34,7 +34,7 @@ free clock role = noRole role || ltb (assertedLast role) clock
 unfoldable pub sameRole : Row → Row → Bool
 sameRole new role = same (take 4 role) (take 4 new)
 
--- no role stands twice
+-- no role occurs twice
 unfoldable pub distinctRoles : List Row → Bool
 distinctRoles [] = true
 distinctRoles (role ∷ roles) = not (some (sameRole role) roles) && distinctRoles roles

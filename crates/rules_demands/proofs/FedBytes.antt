@@ -1,4 +1,4 @@
--- The records judged in a run are bytes, where those handed in, those judged at once and the queue at the start are.
+-- The records judged in a run are bytes, where those handed in, those judged directly and the queue at the start are.
 use Rattle.rows.proofs.Prelude.{_≡_, refl, Bool, true, false, List, [], _∷_, _++_, map, ℕ, zero, suc, min, take, drop, getD, eqb, cond-cases}
 use Rattle.rows.specs.Rows.{Row, rowsOf, firstRow, without}
 use Rattle.rules.specs.Bits.{bits}

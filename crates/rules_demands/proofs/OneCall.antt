@@ -50,7 +50,7 @@ module _ (d : Defaults) (e : DefaultBytes d) (x : Terminal) (i : IsStruct (x .ta
   unfolding judged verdictBytes writtenLinks setOf ones
   unsound-told q h s lent queue buffer j = record { says = rw h at (j .says); fills = rw h at (j .leaves .fills) }
 
-  -- a record judged at once; on a terminal that is not sound, 1
+  -- a record judged directly; on a terminal that is not sound, 1
   pub judge-typed : (q : ByteRequest) → isBytes (q .bytes) ≡ true → (s : Result) (lent queue buffer : List ℕ) → Judges d x q s lent queue buffer
       → Tells (judgedIn d x q) (x .tables) s lent buffer
   unfolding judged verdictBytes
@@ -63,7 +63,7 @@ module _ (d : Defaults) (e : DefaultBytes d) (x : Terminal) (i : IsStruct (x .ta
       })
       (λ h. rw (not-sound q h) (unsound-told q h s lent queue buffer j))
 
-  -- a take that hands out a record: the outcome of that record, at the take's clock
+  -- a take that gives out a record: the outcome of that record, at the take's clock
   pub take-typed : (clock capacity : ℕ) → verdictBytes (takeChecks x) ≡ Pass → isBytes (due x) ≡ true → (u : HandedOut) (lent queue buffer : List ℕ)
       → Takes d x clock capacity u lent queue buffer → Tells (judgedIn d x (received clock (due x) capacity)) (x .tables) (u .judgement) lent buffer
   unfolding taken

@@ -38,7 +38,7 @@ tablesIn x = when (soundTerminal x) (tablesOf (x .tables))
 abbrev pub judgedIn : Defaults → Terminal → ByteRequest → Outcome
 judgedIn d x q = outcome (freshOf d) (tablesIn x) (readRecord q)
 
--- what is said is this outcome, written over the tables t, and the lent buffer is filled with its reply
+-- what is reported is this outcome, written over the tables t, and the caller's buffer is filled with its reply
 pub record Tells (o : Outcome) (t : ByteTables) (s : Result) (lent buffer : List ℕ) : Type 0 where
   pub says : s ≡ resultOf (writtenOutcome t o)
   pub fills : buffer ≡ filled lent (replyBytes (o .response .reply))

@@ -31,7 +31,7 @@ use Rattle.rules_examples.proofs.Waiting.{waitingDefinitions, quiet, cl
 abbrev pub answersOn : Terminal → List Input → List ℕ
 answersOn x is = map answerTold (callsOn noDefaults (memoryOf x) is)
 
--- ---- records judged at once
+-- ---- records judged directly
 
 -- the run of Isolation, through C: the owner is told what the book answers, though the chosen write
 abbrev pub yardCalls : List CCall
@@ -66,7 +66,7 @@ pub start-needed : (answersOn quiet (direct (received 0 (ask 0x32 7) 0) ∷ []) 
 unfolding waitingDefinitions quiet closed ask
 start-needed = (refl, refl)
 
--- ---- a take that is not answered with 1 or 27 judges; one that is judges nothing, and hands out 256 zeros
+-- ---- a take that is not answered with 1 or 27 judges; one that is judges nothing, and gives out 256 zeros
 
 pub takes-answered :
     map {B = ℕ × List ℕ} (λ (c : CCall). (answerTold c, c .size)) (callsOn noDefaults (memoryOf quiet) (handIn (ask 0x32 7) ∷ takeAt 0 0 ∷ takeAt 0 0 ∷ []))
@@ -74,7 +74,7 @@ pub takes-answered :
 unfolding waitingDefinitions quiet ask
 takes-answered = refl
 
--- ---- restarts, where the tables alone are stored
+-- ---- restarts, where only the tables are stored
 
 -- 7 hands in, and the program starts again: nothing waits, and 25 takes hand nothing out. So the 25 takes have to be those of one stretch
 unfoldable pub before : List Input

@@ -36,7 +36,7 @@ pub reset-restores : tablesAfter build (tablesAfter build several (deletes (0x00
 unfolding samples build several deletes
 reset-restores = refl
 
--- all rows deleted by whoever stands at a terminal without an owner: the default rows are free too
+-- all rows deleted by whoever is at a terminal without an owner: the default rows are free too
 pub emptied : Tables
 emptied = tablesAfter build (tablesAfter build (fresh build) (lent (0x60 ∷ 0x80 ∷ 0x00 ∷ 0x00 ∷ []))) (lent (0x60 ∷ 0xc0 ∷ 0x00 ∷ 0x00 ∷ []))
 

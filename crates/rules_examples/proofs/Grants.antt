@@ -67,7 +67,7 @@ seasonRow n = aceBody n 0 2 0 weight (replicate 16 0x22) ++ (0 ∷ 0 ∷ 0 ∷ 1
 pub harvest : Tables
 harvest = withCreds (serving (seasonRow 1 ∷ [])) (credRow 5 ∷ haulierRow 7 ∷ [])
 
--- the clock before, on and behind both ends
+-- the clock before, on and after both ends
 pub periods : map (λ clock. effective clock harvest (Partner 7) 8) (0 ∷ 9 ∷ 10 ∷ 20 ∷ 21 ∷ 4294967295 ∷ []) ≡ 0 ∷ 0 ∷ 2 ∷ 2 ∷ 0 ∷ 0 ∷ []
 unfolding samples harvest seasonRow
 periods = refl

@@ -123,7 +123,7 @@ is-quiet x (i ∷ is) [] e = tt
 is-quiet x (i ∷ is) (a ∷ answers) e =
     (is-steady x i a (and-left _ _ e), is-quiet (a .terminal) is answers (and-right (steady x i a) _ e))
 
--- until the record is handed out
+-- until the record is given out
 unfoldable pub steadyFor : List ℕ → Terminal → List Input → List Transition → Bool
 steadyFor r x [] answers = true
 steadyFor r x (i ∷ is) [] = true
@@ -196,7 +196,7 @@ morning-none-lost p =
 unfoldable pub afterTake : List ℕ → Terminal
 afterTake r = final (next noDefaults) closed (handIn (ask 0x22 0) ∷ handIn (ask 0x32 7) ∷ handIn r ∷ takeAt 0 0 ∷ takeAt 0 0 ∷ [])
 
--- 5 deletes row 7, whose record goes; 5 deletes its own row, and the round begins anew; 5 goes to RESET, and nothing waits
+-- 5 deletes row 7, whose record goes; 5 deletes its own row, and the round starts over; 5 goes to RESET, and nothing waits
 pub taken-waits : map (λ (r : List ℕ). recordsIn (afterTake r)) (deleting 7 ∷ deleting 5 ∷ resetting ∷ []) ≡ [] ∷ (ask 0x32 7 ∷ []) ∷ [] ∷ []
 unfolding flooding closed deleting resetting afterTake
 taken-waits = refl

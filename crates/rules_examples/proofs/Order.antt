@@ -1,4 +1,4 @@
--- U14 is not empty: two orders of three access rows, one run with a hand-in, a take and a record judged at once in it, and what both sides tell.
+-- U14 is not empty: two orders of three access rows, one run with a hand-in, a take and a record judged directly in it, and what both sides tell.
 -- And that both terminals must be sound.
 use Rattle.rows.proofs.Prelude.{_≡_, refl, List, [], _∷_, _++_, map, ℕ, replicate, leb}
 use Rattle.rows.specs.Rows.{Row, joined}
@@ -61,7 +61,7 @@ orders = tt
 -- ---- everybody is permitted, with the same permission, and handed the same record; the rows that are listed
 -- and the places that the DELETE reports do differ
 
--- each input's answer and permission, the record handed out, the numbers of the rows that the reply lists, and the places
+-- each input's answer and permission, the record given out, the numbers of the rows that the reply lists, and the places
 abbrev Result : Type 0
 Result = ℕ × ℕ × List ℕ × List ℕ × StoreRange
 
@@ -109,7 +109,7 @@ pub day-any-order : InPairs SameAnswer day (replies (transition noDefaults) (nex
 unfolding orders
 day-any-order = any-order noDefaults numbered shuffled day in-step refl
 
--- ---- both must be sound: with a byte behind its rows the second answers 1
+-- ---- both must be sound: with a byte after its rows the second answers 1
 
 pub spoiled : Terminal
 spoiled = terminal (withBytes (numbered .tables) (joined (first ∷ second ∷ third ∷ []) ++ (7 ∷ replicate 1043 0))) emptyQueue

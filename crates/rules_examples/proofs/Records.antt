@@ -1,4 +1,4 @@
--- The paper's own examples as theorems: the fourteen rows of 'Why a record is turned away', the worked run, the readings to guard against, full tables.
+-- The paper's own examples as theorems: the fourteen rows of 'Why a record is refused', the worked run, the readings to guard against, full tables.
 -- Each is computed from the definitions.
 use Rattle.rows.proofs.Prelude.{_≡_, refl, false, List, [], _∷_, map, ℕ, zero, suc, replicate}
 use Rattle.rows.specs.Rows.{Row, packed}
@@ -25,7 +25,7 @@ credRows : ℕ → List (List ℕ)
 credRows zero = []
 credRows (suc n) = credRow (suc n) ∷ credRows n
 
--- 25 credential rows are claimed where 24 stand: nothing else is wrong
+-- 25 credential rows are claimed where 24 are: nothing else is wrong
 overfull : Tables
 overfull = record {
   state = 1;

@@ -146,7 +146,7 @@ permitted-today = refl
 pub read-as : ℕ → ℕ → List ℕ → List ℕ
 read-as clock capacity r = let o = responseTo noDefaults two-roles (received clock r capacity) in o .answer ∷ o .contents
 
--- both; one; none; another partner; a buffer that is too short; OBSERVE; connection 0 while there is no owner; and the reply of cred, in which no role stands
+-- both; one; none; another partner; a buffer that is too short; OBSERVE; connection 0 while there is no owner; and the reply of cred, in which no role is
 pub read-today :
     read-as 90 16 (0x31 ∷ 0x00 ∷ 0x00 ∷ 0x07 ∷ [])
     ∷ read-as 91 16 (0x31 ∷ 0x00 ∷ 0x00 ∷ 0x07 ∷ [])
@@ -197,7 +197,7 @@ pub dropped-by-reset : owner-does (0x50 ∷ 0x40 ∷ 0x00 ∷ 0x05 ∷ []) (0x00
 unfolding the-day two-roles owner-does
 dropped-by-reset = refl
 
--- ---- what sound tables hold: nothing; one role; two; not the second place alone; not a
+-- ---- what sound tables hold: nothing; one role; two; not only the second place; not a
 -- role twice; no role 0 with an authority; no byte in a place that is not used
 
 pub roles-held :

@@ -61,7 +61,7 @@ resetting = 0x50 ∷ 0x40 ∷ 0 ∷ 5 ∷ 0 ∷ []
 abbrev pub atOnce : List ℕ → Input
 atOnce r = direct (received 0 r 0)
 
--- a take's record deletes row 7, whose record goes with it; one that is judged at once does the same
+-- a take's record deletes row 7, whose record goes with it; one that is judged directly does the same
 pub removing : List Input
 removing = handIn (ask 0x32 7) ∷ handIn (deleting 7) ∷ takeAt 0 0 ∷ takeAt 0 0 ∷ []
 
@@ -86,7 +86,7 @@ pub resetting-answers : replies answerTo (next noDefaults) closed (handIn (ask 0
 unfolding waitingDefinitions closed ask resetting
 resetting-answers = refl
 
--- seat 7 was taken last; its row goes, and comes again with another behind it: the round begins anew, with the unauthenticated seat
+-- seat 7 was taken last; its row goes, and comes again with another after it: the round starts over, with the unauthenticated seat
 pub returning : List Input
 returning =
     handIn (ask 0x32 7) ∷ takeAt 0 0 ∷ atOnce (deleting 7) ∷ atOnce (storing 7) ∷ atOnce
@@ -104,7 +104,7 @@ pub staying-turns : map bytesOf (turns noDefaults closed staying) ≡ ask 0x32 7
 unfolding waitingDefinitions closed ask storing staying
 staying-turns = refl
 
--- the start tables do not hold the seat taken last: the round begins anew, also once a row with that number comes
+-- the start tables do not hold the seat taken last: the round starts over, also once a row with that number comes
 pub elsewhere : Terminal
 elsewhere = terminal (withState yard 2) (queueOf (afterSeat (0 ∷ 9 ∷ [])) [])
 
@@ -114,9 +114,9 @@ pub elsewhere-turns : map bytesOf (turns noDefaults elsewhere
 unfolding waitingDefinitions elsewhere ask storing
 elsewhere-turns = refl
 
--- ---- check 1: two that are sound; memory that is too short, claims 26 records, has bytes of a seat though the round begins anew, has
--- ---- a round's first byte that is neither 0 nor 1, or a byte behind the slots; that keeps a record in another's seat, one without a row,
--- ---- one with a byte behind it, or two in one seat
+-- ---- check 1: two that are sound; memory that is too short, claims 26 records, has bytes of a seat though the round starts over, has
+-- ---- a round's first byte that is neither 0 nor 1, or a byte after the slots; that keeps a record in another's seat, one without a row,
+-- ---- one with a byte after it, or two in one seat
 
 pub beside : List ℕ → Terminal
 beside m = terminal yard m

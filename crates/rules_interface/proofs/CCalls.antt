@@ -31,7 +31,7 @@ use Rattle.rules_interface.proofs.Payload.{part-found}
 
 -- ---- each call meets what demand 3 asks for
 
--- what is said, in words, with the tables that are left
+-- what is reported, in words, with the tables that are left
 result-back : (a : Transition) (words : List ℕ) (t : Tables) → words ≡ wordsOf a → t ≡ a .terminal .tables → resultIn words t ≡ transitionResult a
 result-back a words t w e = rw (w, e)
 
@@ -95,7 +95,7 @@ pub c-isolation :
     → AsTheBook d chosen (terminalAt m) (kept (othersTurn chosen) (callTurns is (callsOf is cs))) (handedBack (terminalAt m) (callsOf is cs) .tables)
 c-isolation d chosen m is cs b = built-isolation d chosen (terminalAt m) is (callsOf is cs) (c-built d m is cs b)
 
--- ---- records judged at once alone
+-- ---- records judged directly alone
 
 -- demand 3 over a list of them: each of the others' is told what the book answers
 pub c-direct-isolation :

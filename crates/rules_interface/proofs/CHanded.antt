@@ -1,4 +1,4 @@
--- Theorems of C calls: demand 3 with the book fed what was handed in, within 25 takes, none lost, what waits, the round, whose turn it is.
+-- Theorems of C calls: demand 3 with the book fed what was handed in, within 25 takes, none lost, the queue, the round, whose turn it is.
 -- The C calls are calls (`c-built`), so each theorem is the one over calls (rules_runs/proofs/Calls.antt).
 use Rattle.rows.proofs.Prelude.{_≡_, Bool, true, List, _++_, ℕ, _+_, _≤_}
 use Rattle.rows.specs.Rows.{same, some}
@@ -27,7 +27,7 @@ module _ (d : Defaults) (m : Memory) (is : List Input) (cs : List CCall) (b : CB
       (leftBy m is cs .tables)
   c-rules = built-rules d (terminalAt m) is (callsOf is cs) (c-built d m is cs b)
 
-  -- a record handed out waited at the start or was kept
+  -- a record given out waited at the start or was kept
   pub c-came : (r : List ℕ) → some (same r) (gathered recordTaken is (shownBy is cs)) ≡ true
       → some (same r) (recordsIn (terminalAt m) ++ gathered recordKept is (shownBy is cs)) ≡ true
   c-came = built-came d (terminalAt m) is (callsOf is cs) (c-built d m is cs b)
@@ -37,12 +37,12 @@ module _ (d : Defaults) (m : Memory) (is : List Input) (cs : List CCall) (b : CB
   c-resets = built-resets d (terminalAt m) is (callsOf is cs) (c-built d m is cs b)
 
   module _ (h : soundTerminal (terminalAt m) ≡ true) where
-    -- a waiting record is handed out within 25 takes, while it waits and no credential row comes or goes and the tables are not cleared
+    -- a waiting record is given out within 25 takes, while it waits and no credential row comes or goes and the tables are not cleared
     pub c-served : (r : List ℕ) → some (same r) (recordsIn (terminalAt m)) ≡ true → QuietFor r (terminalAt m) is (shownBy is cs) → 25 ≤ takes is
         → some (same r) (gathered recordTaken is (shownBy is cs)) ≡ true
     c-served = built-served d (terminalAt m) is (callsOf is cs) (c-built d m is cs b) h
 
-    -- none is lost: as many are handed out or wait at the end as waited at the start or were kept
+    -- none is lost: as many are given out or wait at the end as waited at the start or were kept
     pub c-none-lost : (p : List ℕ → Bool) → Quiet (terminalAt m) is (shownBy is cs)
         → countOf p (gathered recordTaken is (shownBy is cs)) + countOf p (recordsIn (leftBy m is cs))
         ≡ countOf p (recordsIn (terminalAt m)) + countOf p (gathered recordKept is (shownBy is cs))
@@ -52,10 +52,10 @@ module _ (d : Defaults) (m : Memory) (is : List Input) (cs : List CCall) (b : CB
     pub c-waits : recordsIn (leftBy m is cs) ≡ waitsAtEnd (recordsIn (terminalAt m)) is (shownBy is cs)
     c-waits = built-waits d (terminalAt m) is (callsOf is cs) (c-built d m is cs b) h
 
-    -- where the round stands at the end
+    -- where the round is at the end
     pub c-round : roundIn (leftBy m is cs) ≡ roundAtEnd (roundIn (terminalAt m)) is (shownBy is cs)
     c-round = built-round d (terminalAt m) is (callsOf is cs) (c-built d m is cs b) h
 
-    -- each take hands out the record of the first seat in turn for which one waits
+    -- each take gives out the record of the first seat in turn for which one waits
     pub c-turns : TakenInTurn (terminalAt m .tables) (roundIn (terminalAt m)) (recordsIn (terminalAt m)) is (shownBy is cs)
     c-turns = built-turns d (terminalAt m) is (callsOf is cs) (c-built d m is cs b) h

@@ -41,7 +41,7 @@ use Rattle.rules_interface.proofs.CCalls.{c-meets}
 
 -- ---- judged as the rules judge it
 
--- a record judged at once that does not get 1
+-- a record judged directly that does not get 1
 at-once : (d : Defaults) (x : Terminal) (q : Request) → eqb (judged d x q .response .answer) 1 ≡ false
     → (judged d x q .response ≡ responseTo d (x .tables) q) × (judged d x q .terminal .tables ≡ tablesAfter d (x .tables) q)
 unfolding judged

@@ -30,7 +30,7 @@ text-out lent text buffer n f e = rw (f, e) (take-at text (drop (length text) le
 
 -- ---- the office's list
 
--- 0: the terminal is sound, and the text is handed out
+-- 0: the terminal is sound, and the text is given out
 office-zero : (x : Terminal) (capacity : ℕ) → numberOf (officeVerdict x capacity) ≡ 0
     → (soundTerminal x ≡ true) × (officeReply x capacity ≡ officeText (x .tables))
 unfolding officeVerdict officeReply verdict
@@ -47,7 +47,7 @@ module _ (m : Memory) (words lent buffer : List ℕ) (lists : ListsAt m words le
       let o = office-zero x (length lent) (sym told ∙ z) in
       (o .0, text-out lent (officeReply x (length lent)) buffer _ (lists .fills) (ap (λ (l : List ℕ). getD l 1 0) (lists .says)) ∙ o .1)
 
--- two calls that are answered with 0 and hand out the same text: the tables have the same access rows, but for those left out
+-- two calls that are answered with 0 and hand out the same text: the tables have the same access rows, except for those left out
 pub c-lists-injective :
     (m n : Memory) (words lent buffer words′ lent′ buffer′ : List ℕ)
     → ListsAt m words lent buffer

@@ -28,7 +28,7 @@ c-calls : (d : Defaults) (x y : Terminal) (act : Act) (c : CCall) → CGives d x
 c-calls d x y act c (gives m _ _ p) = c-act d m act c p
 
 module _ (d : Defaults) where
-  -- tables and what waits as one image: a run without power cuts
+  -- tables and the queue as one image: a run without power cuts
   pub c-whole : (s end : List ℕ) (es : List (Event Act CCall)) (z : Terminal) → length s ≡ sizeFor terminalSize
       → Day (whole (CGives d)) (found (whole (CGives d)) s) s es z end
       → AsRun (byCalls d) (found (byCalls d) s) (seen es) z × (found (byCalls d) end ≡ z)
@@ -36,7 +36,7 @@ module _ (d : Defaults) where
   c-whole s end es z f days =
       whole-calls d s end (seen es) z f (day-mapped (whole (CGives d)) (Calls d) callAt (c-calls d) (found (whole (CGives d)) s) z s end es days)
 
-  -- the tables alone: nothing waits after a restart
+  -- only the tables: nothing waits after a restart
   pub c-tables : (s end : List ℕ) (es : List (Event Act CCall)) (z : Terminal) → length s ≡ sizeFor tablesSize
       → Day (tablesAlone (CGives d)) (found (tablesAlone (CGives d)) s) s es z end
       → Restarts (tablesByCalls d) (found (tablesByCalls d) s) (seen es) z × (found (tablesByCalls d) end ≡ nothingWaits z)
@@ -87,7 +87,7 @@ module _ (d : Defaults) where
   rounds-inputs (day.cut acts ∷ es) = ap (λ (b : Bool). allInputs acts && b) (rounds-inputs es)
   rounds-inputs (day.idle ∷ es) = rounds-inputs es
 
-  -- with what waits stored: a day of C calls, cut however often
+  -- with the queue stored: a day of C calls, cut however often
   pub c-day : (s end : List ℕ) (es : List (Event Act CCall)) (z : Terminal) → length s ≡ sizeFor terminalSize
       → Day (whole (CGives d)) (found (whole (CGives d)) s) s es z end → noClear es ≡ true → CDay d (found (byCalls d) s) es z
   c-day s end es z f days none =
@@ -99,7 +99,7 @@ module _ (d : Defaults) where
         served = λ h r w q n. day-served d x z (seen es) run r h w q n;
       }
 
-  -- with the tables alone, in rounds: demand 3 across restarts
+  -- with only the tables, in rounds: demand 3 across restarts
   pub c-tables-day : (s end : List ℕ) (es : List (Event (List Act) (List CCall))) (z : Terminal) → length s ≡ sizeFor tablesSize
       → Day (inRounds (tablesAlone (CGives d))) (found (tablesAlone (CGives d)) s) s es z end → noClearIn es ≡ true
       → CTablesDay d (found (tablesByCalls d) s) es z

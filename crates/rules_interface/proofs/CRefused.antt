@@ -1,4 +1,5 @@
--- Theorems of C calls: a refusal says its number and zeros, and changes no byte of the tables, of what waits and of the buffer.
+-- Theorems of C calls: a refusal says its number and zeros, and changes no byte of the tables, of the queue and of the buffer.
+-- A take that refuses its record empties its place and moves the round, and changes nothing else.
 use Rattle.rows.proofs.Prelude.{_≡_, refl, sym, ap, _∙_, true, false, _||_, eqb, List, [], _∷_, ℕ, suc, arith, length, getD, replicate}
 use Rattle.rows.specs.Rows.{hasKey, without}
 use Rattle.rules.specs.Record.{Request}
@@ -34,7 +35,7 @@ queue-back m queue e =
     (four (m .counts) e)
 
 module _ (d : Defaults) (m : Memory) (sized : length (m .counts) ≡ 4) (c : CCall) (n : ℕ) where
-  -- a record judged at once that is refused
+  -- a record judged directly that is refused
   pub c-refused : (q : Request) → Promised d m (direct q) c → getD (c .words) 0 0 ≡ suc n
       → (c .words ≡ numberWords (suc n)) × (c .memory ≡ m) × (c .buffer ≡ c .lent)
   unfolding offsetOf filled
@@ -58,7 +59,7 @@ module _ (d : Defaults) (m : Memory) (sized : length (m .counts) ≡ 4) (c : CCa
         p .0 .fills ∙ ap (λ (t : Transition). filled (c .lent) (t .response .contents)) r,
       )
 
-  -- a take whose record is refused: the record is handed out whole and leaves its place, and the round stands behind that place. Nothing else
+  -- a take whose record is refused: the record is given out whole and leaves its place, and the round is after that place. Nothing else
   -- changes: no byte of the tables, no other record that waits
   pub c-refused-take : (clock capacity : ℕ) → Promised d m (takeAt clock capacity) c → soundTerminal (terminalAt m) ≡ true
       → eqb (length (waiting (m .queue))) 0 ≡ false → getD (c .words) 0 0 ≡ suc n

@@ -1,4 +1,4 @@
--- Laws for the code of the C functions: what a call gives beside a head and the bytes of the rows, it gives of the memory that C lends.
+-- Laws for the code of the C functions: what a call gives beside a head and the bytes of the rows, it gives of the memory that C passes.
 use Rattle.rows.proofs.Prelude.{_≡_, refl, ap, _∙_, subst, Bool, cond, List, [], _∷_, ℕ, length}
 use Rattle.rules.specs.declared.Head.{Head}
 use Rattle.rules.specs.declared.Judgement.{Judgement}
@@ -33,7 +33,7 @@ pub record PutBack (h : Head) (after : Memory) : Type 0 where
   pub devowner : after .devowner ≡ h .devowner
   pub rowners : after .rowners ≡ h .rowners
 
--- so it is the memory of the terminal with this head, and these rows and what waits
+-- so it is the memory of the terminal with this head, and these rows and the queue
 pub put-back : (h : Head) (x : Terminal) (after : Memory) → PutBack h after → tablesOf h (after .creds) (after .aces) ≡ x .tables → after .queue ≡ x .queue
     → after ≡ memoryOf x
 put-back h x after p t q =

@@ -10,13 +10,13 @@ use Rattle.rules_terminal.specs.Terminal.{Terminal, takeChecks, due, taken, dir
 use Rattle.rules_interface.specs.Interface.{offsetOf, wordsOf}
 use Rattle.rules_interface.specs.CallRun.{partAt, payloadIn}
 
--- a payload stands behind the header, and none has no place
+-- a payload is after the header, and none has no place
 pub part-found : (n : ℕ) (r : List ℕ) → partAt (offsetOf n) n r ≡ payloadPart n r
 unfolding offsetOf
 part-found zero r = refl
 part-found (suc n) r = rw (ne-eqb (suc n) 0 (λ z. omega arith))
 
--- ---- of a record judged at once, and of a record taken in the bytes that are handed out
+-- ---- of a record judged directly, and of a record taken in the bytes that are given out
 
 judged-payload : (d : Defaults) (x : Terminal) (q : Request)
     → payloadPart (length (judged d x q .response .payload)) (q .bytes) ≡ judged d x q .response .payload

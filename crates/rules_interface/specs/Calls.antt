@@ -10,7 +10,7 @@ use Rattle.rules_interface.specs.Memory.{Words, Memory, withQueue}
 use Rattle.rules_interface.specs.Interface.{HandsInAt, TakesAt, JudgesAt, ClearsAt}
 use Rattle.rules.specs.Types.{Bytes}
 
--- what a call said, and the memory that it left; of a take and of a record judged at once also the buffer as it was lent and as it was left;
+-- what a call said, and the memory that it left; of a take and of a record judged directly also the buffer as it was passed in and as it was left;
 -- of a take also the record's length and its bytes
 pub record CCall : Type 0 where
   pub words : Words
@@ -27,7 +27,7 @@ Promised d memory (takeAt clock capacity) call =
     TakesAt d memory clock capacity (call .words) (call .size) (call .bytes) (call .memory) (call .lent) (call .buffer) × (length (call .lent) ≡ capacity)
 Promised d memory (direct q) call = JudgesAt d memory q (call .words) (call .memory) (call .lent) (call .buffer) × (length (call .lent) ≡ q .capacity)
 
--- the clear button's call too; of it the memory counts alone
+-- the clear button's call too; of it only the memory counts
 abbrev pub PromisedBy : Defaults → Memory → Act → CCall → Type 0
 PromisedBy d memory (input i) call = Promised d memory i call
 PromisedBy d memory clear call = ClearsAt d memory (call .memory)

@@ -1,5 +1,5 @@
 -- What each C function promises of the caller's memory, with default rows: what it says, in words, and the bytes that it leaves.
--- A refusal leaves the terminal as it was, so by these equations the same bytes.
+-- A refusal leaves the terminal as it was, so by these equations the same bytes; a take that refuses its record empties its place.
 use mathlib.Core.Path.{_≡_}
 use mathlib.Core.Bool.{cond}
 use mathlib.Core.List.{[], _∷_}
@@ -61,18 +61,18 @@ pub record IsSoundAt (m : Memory) (told : Bit) : Type 0 where
 
 -- ---- records
 
--- a record is handed in; the tables are lent to be read
+-- a record is handed in; the tables are passed in to be read
 pub record HandsInAt (m : Memory) (r : Bytes) (words : Words) (queue : Queue) : Type 0 where
   pub says : words ≡ wordsOf (handedIn (terminalAt m) r)
   pub keeps : queue ≡ handedIn (terminalAt m) r .terminal .queue
 
--- a record is judged at once
+-- a record is judged directly
 pub record JudgesAt (d : Defaults) (m : Memory) (q : Request) (words : Words) (after : Memory) (lent buffer : Bytes) : Type 0 where
   pub says : words ≡ wordsOf (judged d (terminalAt m) q)
   pub keeps : after ≡ memoryOf (judged d (terminalAt m) q .terminal)
   pub fills : buffer ≡ filled lent (judged d (terminalAt m) q .response .contents)
 
--- a take, at a clock, with a buffer of a length: also the record's length, and the record with zeros behind it
+-- a take, at a clock, with a buffer of a length: also the record's length, and the record with zeros after it
 pub record TakesAt (d : Defaults) (m : Memory) (clock : Clock) (capacity : Size) (words size : Words) (bytes : Bytes) (after : Memory) (lent buffer : Bytes) : Type 0 where
   pub says : words ≡ wordsOf (taken d (terminalAt m) clock capacity)
   pub sized : size ≡ length (taken d (terminalAt m) clock capacity .bytes) ∷ []

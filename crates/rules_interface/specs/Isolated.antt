@@ -1,5 +1,5 @@
 -- The answer about isolation as three words, and the number that identifies the library.
--- The tables are lent as five arrays (Memory).
+-- The tables are passed in as five arrays (Memory).
 use Prim.Native.Nat.{ℕ, _+_, _*_}
 use mathlib.Core.List.{[], _∷_}
 use Rattle.rules_isolation.specs.declared.IsolationReport.{IsolationReport}

@@ -23,7 +23,7 @@ tablesOn m = terminalAt m .tables
 abbrev pub answerTold : CCall → ℕ
 answerTold c = getD (c .words) 0 0
 
--- the record that a take hands out
+-- the record that a take gives out
 abbrev pub recordOut : CCall → List ℕ
 recordOut c = take (getD (c .size) 0 0) (c .bytes)
 

@@ -1,5 +1,5 @@
--- The memory that C lends (Memory), what each C function promises of it (Interface, Storing, Isolated), and lists of C calls (Calls).
--- C calls as calls (CallRun), made by the definitions (Made); records judged at once (Direct), one C call that judges (Judged), days with
+-- The memory that C passes (Memory), what each C function promises of it (Interface, Storing, Isolated), and lists of C calls (Calls).
+-- C calls as calls (CallRun), made by the definitions (Made); records judged directly (Direct), one C call that judges (Judged), days with
 -- power cuts (Power), and a history that is asked again (Replay).
 pub mod Memory
 pub mod Interface

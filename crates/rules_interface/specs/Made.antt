@@ -16,7 +16,7 @@ use Rattle.rules.specs.Types.{Bytes, Size}
 abbrev pub zeros : Size → Bytes
 zeros n = replicate n 0
 
--- a take and a record judged at once, with a buffer of zeros
+-- a take and a record judged directly, with a buffer of zeros
 abbrev pub tookCall : Transition → Size → CCall
 tookCall t capacity =
     takeCall (wordsOf t) (length (t .bytes) ∷ []) (padded (t .bytes)) (memoryOf (t .terminal)) (zeros capacity) (filled (zeros capacity) (t .response .contents))

@@ -69,7 +69,7 @@ withQueue memory queue = record {
   queue = queue;
 }
 
--- ---- for contracts: what is lent, before a call and after it
+-- ---- for contracts: what is passed in, before a call and after it
 
 abbrev pub memoryBefore : Lent → Lent → Lent → Lent → Lent → Lent → Memory
 memoryBefore counts devowner rowners creds aces queue = record {

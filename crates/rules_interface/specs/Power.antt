@@ -24,7 +24,7 @@ use Rattle.rules_terminal.specs.Terminal.{Terminal, soundTerminal}
 pub data CGives (d : Defaults) : Terminal → Act → CCall → Terminal → Type 0 where
   gives : (m : Memory) (act : Act) (c : CCall) → PromisedBy d m act c → CGives d (terminalAt m) act c (terminalAt (c .memory))
 
--- a C call as a call. Of tillerclover_clear_at and tillerclover_fresh_at the memory counts alone
+-- a C call as a call. Of tillerclover_clear_at and tillerclover_fresh_at only the memory counts
 abbrev pub callAt : Act → CCall → Call
 callAt (input i) c = callOf i c
 callAt clear c = record {
@@ -52,7 +52,7 @@ seenRounds = map (eventOf callsAt)
 
 -- ---- what holds of a day on which the clear button is not pressed
 
--- what waits is stored with the tables: the day is a run of calls, of which demand 3 and 'within 25 takes that are answered' hold
+-- the queue is stored with the tables: the day is a run of calls, of which demand 3 and 'within 25 takes that are answered' hold
 pub record CDay (d : Defaults) (x : Terminal) (es : List (Event Act CCall)) (z : Terminal) : Type 0 where
   pub run : AsCalls d x (seen es) z
   pub isolated : (chosen : Sender → Bool) → BookPremise d chosen x (run .inputs) (allShown (run .inputs) (run .calls))
@@ -61,8 +61,8 @@ pub record CDay (d : Defaults) (x : Terminal) (es : List (Event Act CCall)) (z :
       → QuietFor r x (run .inputs) (allShown (run .inputs) (run .calls)) → 25 ≤ takesAnswered (seen es)
       → some (same r) (gathered recordTaken (run .inputs) (allShown (run .inputs) (run .calls))) ≡ true
 
--- the tables alone are stored, in rounds: the day is stretches of calls with restarts between them. Demand 3 holds across the restarts, and in
--- each stretch a waiting record is handed out within 25 takes
+-- only the tables are stored, in rounds: the day is stretches of calls with restarts between them. Demand 3 holds across the restarts, and in
+-- each stretch a waiting record is given out within 25 takes
 pub record CTablesDay (d : Defaults) (x : Terminal) (es : List (Event (List Act) (List CCall))) (z : Terminal) : Type 0 where
   pub run : AsStretches d x (seenRounds es) z
   pub isolated : (chosen : Sender → Bool)

@@ -23,8 +23,8 @@ CHistory d m (asked act ∷ es) [] = ⊥
 CHistory d m (asked act ∷ es) (c ∷ cs) = PromisedBy d m act c × CHistory d (c .memory) es cs
 CHistory d m (restarted ∷ es) cs = CHistory d (withQueue m emptyQueue) es cs
 
--- the same words, and the same bytes of tables and of what waits; of a record that is judged also the same reply, and the same buffer where
--- the same was lent; of a take also the same record. Of the clear button the memory counts alone
+-- the same words, and the same bytes of tables and of the queue; of a record that is judged also the same reply, and the same buffer where
+-- the same was passed in; of a take also the same record. Of the clear button only the memory counts
 abbrev pub SameReply : CCall → CCall → Type 0
 SameReply c e =
     (c .words ≡ e .words)

@@ -140,7 +140,7 @@ module _ (t : Tables) (list : List ℕ) where
   says-harmless x (names u h o f n) e = let z : _≡_ {A = ℕ} 0 1 = cc in absurd (omega arith)
   says-harmless x (alters u h o f n g) e = let z : _≡_ {A = ℕ} 0 1 = cc in absurd (omega arith)
 
-  -- 'isolated' is said only where it is so
+  -- 'isolated' is reported only where it is so
   pub isolated-harmless : isolationOf t list ≡ Isolated → (oddLength list ≡ false) × (sound t ≡ true) × Harmless (chosenBy list) t
   isolated-harmless e = says-harmless (isolationOf t list) says e
 

@@ -37,7 +37,7 @@ use Rattle.rules_isolation.proofs.Exact.{same-sender, isolated-harmless
 use Rattle.rules_isolation.proofs.Kept.{harmless-kept}
 use Rattle.rules_terminal.specs.Isolation.{others}
 
--- ---- one input: it judges a record, or leaves the tables alone
+-- ---- one input: it judges a record, or leaves only the tables
 
 data Moves (d : Defaults) (x : Terminal) (i : Input) : Type 0 where
   idle : judgedAt d x i ≡ [] → next d x i .tables ≡ x .tables → Moves d x i

@@ -181,7 +181,7 @@ module _ (d : Defaults) (chosen : Sender → Bool) (small : SmallNumbers chosen)
         (λ v. rw (v, tablesAfter) (effect-harmless (action (q .bytes)) o (passed-all t p q v) (rw (v, responseTo) at e)))
         (λ n v. rw (v, tablesAfter) safe)
 
-    -- of a chosen sender: but for its asserted roles the tables are as they were
+    -- of a chosen sender: except for its asserted roles the tables are as they were
     own-harmless : chosen (sender (q .bytes)) ≡ true → Harmless chosen (tablesAfter d t q)
     own-harmless o =
         let e = silent d chosen t t q (rw o) (λ _. safe) (record { same = refl; sound = refl }) in

@@ -48,7 +48,7 @@ wasPermitted turn = eqb (turnResponse turn .answer) 0
 unfoldable pub endangering : (Sender → Bool) → Turn → Bool
 endangering chosen turn = wasPermitted turn && endangers chosen (body (bytesOf turn)) (action (bytesOf turn))
 
--- so much of it stands in the header: a permitted UPDATE of doxm, pstat, cred or acl2
+-- so much of it is in the header: a permitted UPDATE of doxm, pstat, cred or acl2
 unfoldable pub updating : Turn → Bool
 updating turn = wasPermitted turn && eqb (verb (bytesOf turn)) update && leb (resource (bytesOf turn)) acl2
 

@@ -53,7 +53,7 @@ abbrev pub requestsWithout : (Sender → Bool) → List Turn → List Request
 requestsWithout theirs turns = map requestOf (kept (othersTurn theirs) turns)
 
 -- of all that was judged from the tables t on, which ends with the tables `end`: what our senders sent and were told is what the book has
--- that never saw a record of theirs, and so are the tables but for the roles that their partners asserted
+-- that never saw a record of theirs, and so are the tables except for the roles that their partners asserted
 pub record Alone (d : Defaults) (ours theirs : Sender → Bool) (t : Tables) (us : List Turn) (end : Tables) : Type 0 where
   pub response : turnsOf ours us ≡ turnsOf ours (bookTurns d t (requestsWithout theirs us))
   pub tables : compared theirs end ≡ compared theirs (final (tablesAfter d) t (requestsWithout theirs us))
@@ -64,7 +64,7 @@ module _ (d : Defaults) where
   abbrev pub AloneIn : (ours theirs : Sender → Bool) → Terminal → List Input → List Transition → Terminal → Type 0
   AloneIn ours theirs x is answers end = Alone d ours theirs (x .tables) (turnsHanded x is answers) (end .tables)
 
-  -- this yard, without those who are of the other yards alone
+  -- this yard, without those who are of only the other yards
   abbrev pub YardAlone : List Bytes → List ℕ → Terminal → List Input → List Transition → Terminal → Type 0
   YardAlone yards yard = AloneIn (chosenBy yard) (ofOtherYards yards yard)
 

@@ -28,7 +28,7 @@ pub struct IsolationReport {
 }
 
 impl Isolation {
-    // Rules out: a reason that is reported as isolated; the row in the place of the entry.
+    // Rules out: a reason that is reported as isolated; the row instead of the entry.
     pub fn report(self) -> IsolationReport
         ensures { λ r. ⌜ r ≡ reportOf self ⌝ }
     {

@@ -1,4 +1,4 @@
--- Theorems: each refusal exactly where it applies, what a refusal leaves, and what is handed out with 0.
+-- Theorems: each refusal exactly where it applies, what a refusal leaves, and what is given out with 0.
 use Rattle.rows.proofs.Prelude.{_≡_, refl, false, cond, List, [], append-nil, ℕ, suc, _/_, _≤_, arith, length, le-ltb, bool-cases}
 use Rattle.rows.specs.Rows.{joined}
 use Rattle.rows.proofs.Kept.{rowsOf-joined}
@@ -22,7 +22,7 @@ module _ (f : List ℕ) (capacity : ℕ) where
       bool-cases (badFile f) (λ a. rw a)
       (λ a. bool-cases (tooManyRows f) (λ b. rw (a, b)) (λ b. bool-cases (bufferTooShort f capacity) (λ c. rw (a, b, c)) (λ c. rw (a, b, c))))
 
-  -- with 0 no check applies, and the rows are handed out
+  -- with 0 no check applies, and the rows are given out
   pub converted : numberOf (conversionVerdict f capacity) ≡ 0 → Converted f capacity
   unfolding conversionReply conversionVerdict verdict
   converted e =
@@ -40,7 +40,7 @@ module _ (f : List ℕ) (capacity : ℕ) where
       go Pass e = absurd (omega arith)
       go (Refuse m) e = refl
 
--- and so leaves the lent buffer as it was
+-- and so leaves the caller's buffer as it was
 pub refused-kept : (f buffer : List ℕ) (n : ℕ) → numberOf (conversionVerdict f (length buffer)) ≡ suc n
     → filled buffer (conversionReply f (length buffer)) ≡ buffer
 unfolding filled
@@ -55,7 +55,7 @@ never-25 f few capacity h = le-ltb capacity (length (joined (rowsMade f))) (omeg
 
 -- ---- the rows are read back
 
--- what is handed out is a list of access rows, and those rows are the rows made
+-- what is given out is a list of access rows, and those rows are the rows made
 pub rows-listed : (f : List ℕ) → listed (joined (rowsMade f)) ≡ rowsMade f
 rows-listed f =
     let n : length (joined (rowsMade f)) / aceRowSize ≡ length (rowsMade f) = omega (arith, rows-size f) in

@@ -1,10 +1,10 @@
--- Laws of bits within a part of a list of bytes: behind its first bytes, within them, and before what is joined to it.
+-- Laws of bits within a part of a list of bytes: after its first bytes, within them, and before what is joined to it.
 use Rattle.rows.proofs.Prelude.{_≡_, refl, sym, ap, ap₂, _∙_, List, _++_, ℕ, zero, suc, _+_, _-_, _*_, _/_, _%_, _^_, _<_, add-assoc, arith, length, take, drop}
 use Rattle.rows.proofs.Prelude.{getD, getD-drop, getD-take}
 use lib.ListN.{List·getD-append}
 use Rattle.rules.specs.Bits.{bit, bits}
 
--- behind the first k bytes
+-- after the first k bytes
 pub bit-drop : (k : ℕ) (r : List ℕ) (i : ℕ) → bit (drop k r) i ≡ bit r (8 * k + i)
 unfolding bit
 bit-drop k r i =

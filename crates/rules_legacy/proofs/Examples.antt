@@ -99,7 +99,7 @@ pub anybodies :
 unfolding converting oldRow anybody times
 anybodies = refl
 
--- 32 and 33 rows with a UUID; 30 and 31 with a "*" row behind them
+-- 32 and 33 rows with a UUID; 30 and 31 with a "*" row after them
 pub uuids :
     answer (times 32 somebody) 1152 ∷ answer (times 33 somebody) 1152
     ∷ answer (times 30 somebody ++ anybody) 1152 ∷ answer (times 31 somebody ++ anybody) 1152 ∷ []
@@ -114,7 +114,7 @@ pub capacities :
 unfolding converting oldRow anybody somebody
 capacities = refl
 
--- each zero bit; resources 5, 7, 15, 17 and 63; a row that is cut, and a byte more; a bad row behind seventeen good ones that are too many, with no room
+-- each zero bit; resources 5, 7, 15, 17 and 63; a row that is cut, and a byte more; a bad row after seventeen good ones that are too many, with no room
 pub bad-files :
     answer (oldRow 0x11 0x31 0 0 0) 36 ∷ answer (oldRow 0x11 0x32 0 0 0) 36 ∷ answer (oldRow 0x11 0x34 0 0 0) 36
     ∷ answer (oldRow 0x11 0x30 0x04 0 0) 36 ∷ answer (oldRow 0x11 0x30 0x01 0 0) 36
@@ -133,7 +133,7 @@ all-known = refl
 
 -- ---- the test of a list (U10) on the rows made
 
--- the rows above; "*" may read acl2, and may update it behind a row for the UUID, which may as well; rows that give nothing; no rows
+-- the rows above; "*" may read acl2, and may update it after a row for the UUID, which may as well; rows that give nothing; no rows
 pub rows-made-tested :
     map (λ (f : List ℕ). listTested (conversionReply f 1152))
     ((anybody ++ somebody)

@@ -1,4 +1,4 @@
--- Rows numbered one after the other, whatever follows the numbers: how many they are, their numbers, and that no number stands twice.
+-- Rows numbered one after the other, whatever follows the numbers: how many they are, their numbers, and that no number occurs twice.
 use Rattle.rows.proofs.Prelude.{_≡_, refl, ap, ap₂, _∙_, true, false, _&&_, List, [], _∷_, _++_, map, ℕ, suc, _+_, _/_, _%_, _≤_, _<_, add-zero, arith}
 use Rattle.rows.proofs.Prelude.{length, eqb, eqb-true, bool-cases, and-left, and-right, or-neither}
 use Rattle.rows.specs.Rows.{Row, same, numberedAs, some, distinctNumbers}
@@ -30,7 +30,7 @@ unfolding numberedFrom
 numbers-are i [] h = refl
 numbers-are i (e ∷ es) h = ap₂ (λ (x : ℕ) (ns : List ℕ). x ∷ ns) (number-is i e (omega arith)) (numbers-are (i + 1) es (omega arith))
 
--- ---- none stands twice
+-- ---- none occurs twice
 
 be16-distinct : (j i : ℕ) → j < i → same (be16 i) (be16 j) ≡ false
 unfolding same be16

@@ -124,7 +124,7 @@ module _ (f : List ℕ) where
   pub rows-size : length (joined (rowsMade f)) ≡ length (rowsMade f) * aceRowSize
   rows-size = length-joined aceRowSize (rowsMade f) made-rows-long
 
-  -- no number stands twice
+  -- no number occurs twice
   pub rows-distinct : distinctNumbers (rowsMade f) ≡ true
   unfolding rowsMade
   rows-distinct = numbers-distinct _ (allEntries (oldRows f))

@@ -38,7 +38,7 @@ module _ (b : List ℕ) (whole : badSize b ≡ false) (sound : SoundRows Aces (l
       (ap not (and-left (storable Aces w) _ (and-right (every (storable Aces) before) _ stores)))
       (none-before before w (s .after) (rw (s .stands) at (sound .distinct)))
 
-  -- a row that gives too much stands among them
+  -- a row that gives too much is among them
   some-excessive : (before : List Row) (w : Row) → Behind before w (listed b) → excessive w ≡ true → some excessive (listed b) ≡ true
   unfolding some
   some-excessive before w s g = rw (s .stands, some-append excessive before (w ∷ s .after), g) (or-true (some excessive before))

@@ -1,4 +1,4 @@
--- The access rows that an old list becomes (U12), and the answer to a call for them, with the lent buffer afterwards.
+-- The access rows that an old list becomes (U12), and the answer to a call for them, with the caller's buffer afterwards.
 use Prim.Native.Nat.{ℕ, _+_, _*_, suc, zero}
 use mathlib.Core.Path.{_≡_}
 use mathlib.Core.Bool.{Bool, cond, false}
@@ -52,7 +52,7 @@ numberedFrom number (entry ∷ entries) = (be16 number ++ entry) ∷ numberedFro
 unfoldable pub rowsMade : Bytes → List Row
 rowsMade file = numberedFrom 1 (allEntries (oldRows file))
 
--- ---- the answer, and the bytes that are handed out
+-- ---- the answer, and the bytes that are given out
 
 -- more rows than an access list holds
 unfoldable pub tooManyRows : Bytes → Bool
@@ -75,14 +75,14 @@ handedOut file (Refuse n) = []
 unfoldable pub conversionReply : Bytes → Size → Bytes
 conversionReply file capacity = handedOut file (conversionVerdict file capacity)
 
--- no check applies, and the rows are handed out
+-- no check applies, and the rows are given out
 pub record Converted (f : List ℕ) (capacity : ℕ) : Type 0 where
   pub good : badFile f ≡ false
   pub few : tooManyRows f ≡ false
   pub fits : bufferTooShort f capacity ≡ false
   pub response : conversionReply f capacity ≡ joined (rowsMade f)
 
--- so many numbers, from i on
+-- that many numbers, from i on
 abbrev pub numbersFrom : Number → Size → List Number
 numbersFrom i zero = []
 numbersFrom i (suc k) = i ∷ numbersFrom (i + 1) k

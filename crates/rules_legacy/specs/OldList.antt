@@ -37,7 +37,7 @@ oldRows file = rowsOf 25 (length file / 25) file
 
 -- ---- what the rows gave to a sender with this credential row, or no bytes, over this connection
 
--- nil stands for "*"
+-- nil represents "*"
 unfoldable pub isAnybody : Row → Bool
 isAnybody old = isNil (oldSubject old)
 

@@ -1,5 +1,5 @@
 -- Theorems, U10: a list is accepted exactly where it has none of the faults, and otherwise refused with the first fault and its row.
--- What the test says of the rows is so (`rows-told`), and rows without a fault are passed over (`rows-past`), so nothing else can be said.
+-- What the test says of the rows is so (`rows-told`), and rows without a fault are passed over (`rows-past`), so nothing else can be reported.
 use Rattle.rows.proofs.Prelude.{_≡_, refl, sym, ap, _∙_, true, false, not, List, [], _∷_, _++_, append-assoc, append-nil, ℕ, suc, arith, length, not-false}
 use Rattle.rows.proofs.Prelude.{bool-cases, and-left, and-right, or-left, or-right}
 use Rattle.rows.specs.Rows.{Row, some, every, numberedAs, distinctNumbers}
@@ -41,7 +41,7 @@ unfolding verdict
 fault-verdict before w n (unstored u) = rw u
 fault-verdict before w n (excess u g) = rw (u, g)
 
--- the test goes on behind them
+-- the test goes on after them
 rows-past : (earlier ws after : List Row) → Clean (earlier ++ ws) → rowsTested earlier (ws ++ after) ≡ rowsTested (earlier ++ ws) after
 unfolding rowsTested
 rows-past earlier [] after c = rw append-nil
@@ -97,7 +97,7 @@ module _ (b : List ℕ) where
   told-fault e x (clean c) z = absurd (z refl)
   told-fault e x (bad s f) z = row e s f
 
-  -- a list that is not accepted has what is said of it
+  -- a list that is not accepted has what is reported of it
   pub any-fault : (listTested b .answer ≡ 0 → ⊥) → Fault b (listTested b .answer) (listTested b .row)
   any-fault z = bool-cases (badSize b) (λ e. rw (size-refused b e) (size e)) (λ e. told-fault e (listTested b) (list-told b e) z)
 

@@ -1,4 +1,4 @@
--- Theorems over examples: a list for each thing that is said, a list that is loaded, and what each premise of loading is for.
+-- Theorems over examples: a list for each thing that is reported, a list that is loaded, and what each premise of loading is for.
 use Rattle.rows.proofs.Prelude.{_≡_, refl, true, List, [], _∷_, _++_, map, ℕ, _<_, arith, replicate}
 use Rattle.rows.specs.Rows.{Row, joined}
 use Rattle.rules.specs.declared.Tables.{Tables}

@@ -156,7 +156,7 @@ built-loaded d x b is cs built a ready e =
       ap (λ (t : Tables). withRows Aces t []) (same .tables-same) ∙ l .others,
     )
 
--- records judged at once, beside memory that is sound where the tables are: all are judged
+-- records judged directly, with memory that is sound where the tables are: all are judged
 pub direct-loaded : (d : Defaults) (x : Terminal) (b : List ℕ) (qs : List Request) (cs : List Call)
     → listTested b .answer ≡ 0 → Ready (x .tables) → Whole x → Stores (x .tables) qs (listed b) → Built d x (map direct qs) cs
     → (map (λ (p : Response). p .answer) (map responseOf cs) ≡ map (λ (q : Request). 0) qs)

@@ -1,4 +1,4 @@
--- A list without a fault, and the first fault of a list: its size, or that of a row behind rows that have none (U10).
+-- A list without a fault, and the first fault of a list: its size, or that of a row after rows that have none (U10).
 use Prim.Native.Nat.{suc, ℕ}
 use lib.ListN.{length}
 use mathlib.Core.Bool.{false, true}
@@ -15,12 +15,12 @@ pub record Clean (ws : List Row) : Type 0 where
   pub distinct : distinctNumbers ws ≡ true
   pub modest : some excessive ws ≡ false
 
--- the fault n of a row behind these
+-- the fault n of a row after these
 pub data RowFault (before : List Row) (w : Row) : ℕ → Type 0 where
   unstored : unfit before w ≡ true → RowFault before w 20
   excess : unfit before w ≡ false → excessive w ≡ true → RowFault before w 21
 
--- w stands in the list right behind these rows, which have no fault
+-- w is in the list right after these rows, which have no fault
 pub record Behind (before : List Row) (w : Row) (ws : List Row) : Type 0 where
   pub after : List Row
   pub stands : ws ≡ before ++ (w ∷ after)

@@ -49,7 +49,7 @@ abbrev pub namedOr : Check → Number → Tested → Tested
 namedOr Pass row rest = rest
 namedOr (Refuse n) row rest = tested n row
 
--- of rows that stand behind the earlier ones; rows are counted from 1
+-- of rows that are after the earlier ones; rows are counted from 1
 unfoldable pub rowsTested : List Row → List Row → Tested
 rowsTested earlier [] = accepted
 rowsTested earlier (ace ∷ aces) = namedOr (verdict (rowChecks earlier ace)) (suc (length earlier)) (rowsTested (earlier ++ (ace ∷ [])) aces)

@@ -48,7 +48,7 @@ module _ (r s : List ℕ) where
   at-part : (t : List ℕ) (start count j : ℕ) → j < count → getD (take count (drop start t)) j 0 ≡ getD t (start + j) 0
   at-part t start count j l = getD-take count (drop start t) j 0 l ∙ getD-drop start t j 0
 
-  -- so many whole bytes
+  -- that many whole bytes
   pub agree-part : (start count : ℕ) → Agree (8 * start) → take count (drop start r) ≡ take count (drop start s) → Agree (8 * (start + count))
   unfolding bit
   agree-part start count f e i h =

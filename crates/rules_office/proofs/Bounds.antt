@@ -44,7 +44,7 @@ permission-length w = digits-length (acePermission w) (acePermission w) 1 (omega
 
 -- ---- a UUID
 
--- the dashes before so many bytes from byte i on
+-- the dashes before that many bytes from byte i on
 dashes : ℕ → ℕ → ℕ
 dashes i zero = 0
 dashes i (suc n) = length (dash i) + dashes (suc i) n
@@ -122,7 +122,7 @@ list-length : (ws : List Row) → length ws ≤ 32 → length (listText ws) ≤ 
 unfolding listText rowsText joined ascii
 list-length ws h = simp length-append (omega (arith, all-rows ws h))
 
--- of so many rows in these bytes, whatever they are
+-- of that many rows in these bytes, whatever they are
 pub rows-text-short : (n : ℕ) (b : List ℕ) → length (listText (rowsWritten (rowsIn Aces n b))) ≤ 13069
 unfolding rowsIn
 rows-text-short n b =

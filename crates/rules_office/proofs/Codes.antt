@@ -1,4 +1,4 @@
--- Texts that can be told apart from what follows them, all of one shape: x before s and y before t are one text only if x is y and s is t.
+-- Texts that can be distinguished from what follows them, all of one shape: x before s and y before t are one text only if x is y and s is t.
 use Rattle.rows.proofs.Prelude.{_≡_, refl, sym, ap, ap₂, _∙_, Bool, true, false, not, _&&_, _||_, List, [], _∷_, _++_, map, append-assoc, append-cancel-left}
 use Rattle.rows.proofs.Prelude.{tail-eq-of-cons-eq, ℕ, arith, length, getD, not-true, and-left, and-right, and-both, or-left, or-right, or-neither}
 use Rattle.rows.proofs.Prelude.{contradiction, cond-cases}
@@ -29,7 +29,7 @@ module _ (p : ℕ → Bool) where
       let r = span a b (and-right (p u) (all p a) ha) (and-right (p v) (all p b) hb) hx hy (tail-eq-of-cons-eq e) in
       (ap₂ (λ x l. x ∷ l) (head-eq-of-cons-eq e) (r .0), r .1)
 
--- ---- the elements of an array, before its "]": each begins with "{" and can be told apart from what follows it
+-- ---- the elements of an array, before its "]": each begins with "{" and can be distinguished from what follows it
 
 regroup : (a b c d : List ℕ) → ((a ++ b) ++ c) ++ d ≡ a ++ (b ++ (c ++ d))
 regroup a b c d = append-assoc (a ++ b) c d ∙ append-assoc a b (c ++ d)

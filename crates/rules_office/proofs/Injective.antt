@@ -160,7 +160,7 @@ rows-stored (suc n) b h k =
     (and-both (aceStorable (take aceRowSize b)) _ (and-left _ _ k) (all-take isByte aceRowSize b h)) (not-false _ e))
     more)
 
--- sound tables with the same office text have the same access rows, but for those that are left out
+-- sound tables with the same office text have the same access rows, except for those that are left out
 pub tables-injective : (t u : Tables) → sound t ≡ true → sound u ≡ true → all isByte (t .aces) ≡ true → all isByte (u .aces) ≡ true
     → officeText t ≡ officeText u → rowsWritten (rows Aces t) ≡ rowsWritten (rows Aces u)
 unfolding rowsIn

@@ -1,4 +1,4 @@
--- The office text of an access list (U6): OCF's JSON, of the rows that hold for every second (U8), as they stand in the table.
+-- The office text of an access list (U6): OCF's JSON, of the rows that hold for every second (U8), as they are in the table.
 -- And the answer to a call for it, with the buffer afterwards.
 use Prim.Native.Nat.{ℕ, suc, _+_, _/_, _%_}
 use Prim.Native.String.{String}
@@ -135,7 +135,7 @@ rowsWritten aces = without seasonal aces
 abbrev pub officeText : Tables → Text
 officeText t = listText (rowsWritten (rows Aces t))
 
--- ---- the answer, the length and the lent buffer afterwards
+-- ---- the answer, the length and the caller's buffer afterwards
 
 -- 17 covers the queue too, as check 1 does (U13)
 abbrev pub officeChecks : Terminal → Size → Checklist

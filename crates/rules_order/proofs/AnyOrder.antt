@@ -1,5 +1,5 @@
--- Theorem, U14: terminals whose tables differ only in the order of their access rows answer every run the same, but for that order.
--- A run is of hand-ins, takes and records that are judged at once, mixed in any way,
+-- Theorem, U14: terminals whose tables differ only in the order of their access rows answer every run the same, except for that order.
+-- A run is of hand-ins, takes and records that are judged directly, mixed in any way,
 -- each with its clock and its buffer's length. One claim over the whole list.
 use Rattle.rows.proofs.Prelude.{_≡_, refl, sym, ap₂, _∙_, Bool, true, List, [], _∷_, ℕ, length}
 use Rattle.rows.specs.Rows.{Row, packed, every}
@@ -24,7 +24,7 @@ use Rattle.rules_order.proofs.OneRecord.{order-is}
 use Rattle.rules_order.proofs.OneInput.{owners-next, input-step}
 use Rattle.rules.specs.Sizes.{aceRowSize}
 
--- ---- two runs over the same inputs, with a relation between their states, and one between what is said
+-- ---- two runs over the same inputs, with a relation between their states, and one between what is reported
 
 module _ {State Input Output : Type 0} (reply : State → Input → Output) (next : State → Input → State)
     (R : State → State → Type 0) (S : Input → Output → Output → Type 0) where
@@ -48,7 +48,7 @@ together-step d x y i s =
     let both = input-step d x y i (s .step) (s .owners) in
     (both .0, record { step = both .1; owners = owners-next d x i (s .owners) })
 
--- at each input the same record handed out, the same answer, permission, payload, links and, but for the order, reply; places that differ for acl2 only;
+-- at each input the same record given out, the same answer, permission, payload, links and, except for the order, reply; places that differ for acl2 only;
 -- at the end sound terminals in which the same waits and whose tables differ at most in the order
 pub any-order :
     (d : Defaults) (x y : Terminal) (is : List Input)
@@ -83,7 +83,7 @@ reordered-rows t ws h o =
       distinct = sym (order-distinct o) ∙ p .distinct;
     }
 
--- what waits is sound beside any tables with the same seats
+-- the queue is sound with any tables with the same seats
 beside : (t u : Tables) (m : List ℕ) → seats u ≡ seats t → every (slotSound (rows Creds t)) (waiting m) ≡ true → queueSound (rows Creds t) m ≡ true → queueSound (rows Creds u) m ≡ true
 unfolding queueSound
 beside t u m e keeps h = rw (every-same t u (waiting m) e keeps) (rw keeps at h)

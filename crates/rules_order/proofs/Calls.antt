@@ -1,5 +1,5 @@
 -- U14 of any calls that meet the contracts of `hand_in`, `take` and `judge`, and of
--- `payload` beside the last two, each on the tables and the memory handed back last.
+-- `payload` beside the last two, each on the tables and the memory returned last.
 use Rattle.rows.proofs.Prelude.{_≡_, List, length}
 use Rattle.rules.specs.Defaults.{Defaults}
 use Rattle.rules_terminal.specs.Terminal.{Terminal}
@@ -9,7 +9,7 @@ use Rattle.rules_terminal.proofs.Shown.{built-shown}
 use Rattle.rules_order.specs.Order.{InStep, SameAnswer, InPairs}
 use Rattle.rules_order.proofs.AnyOrder.{any-order}
 
--- what two lists of calls show at each input, and the terminals handed back last
+-- what two lists of calls show at each input, and the terminals returned last
 pub built-any-order :
     (d : Defaults) (x y : Terminal) (is : List Input) (cs es : List Call)
     → Built d x is cs → Built d y is es

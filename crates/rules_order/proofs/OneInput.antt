@@ -1,5 +1,5 @@
--- One input to two terminals in step: a hand-in, a take or a record that is judged at once gets the same answer but for the order, and leaves them in step.
--- What waits is found by the credential rows alone, so the queue of one is that of the other.
+-- One input to two terminals in step: a hand-in, a take or a record that is judged directly gets the same answer except for the order, and leaves them in step.
+-- The queue is found by only the credential rows, so the queue of one is that of the other.
 use Rattle.rows.proofs.Prelude.{_≡_, refl, sym, ap, ap₂, subst, true, List, ℕ, length}
 use Rattle.rows.specs.Rows.{Row, same}
 use Rattle.rules.specs.declared.Tables.{Tables}

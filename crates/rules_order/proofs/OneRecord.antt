@@ -1,5 +1,5 @@
 -- One record, judged on two sound tables that differ only in the order of their access rows (U14):
--- the same is said of it but for that order, and afterwards the tables differ at most so.
+-- the same is reported of it except for that order, and afterwards the tables differ at most so.
 -- The second tables are the first with other bytes of access rows, so that whatever does not look at these is the same by itself.
 use Rattle.rows.proofs.Prelude.{_≡_, refl, sym, ap, ap₂, subst, _∙_, Bool, true, false, List, [], _∷_, _++_, ℕ, arith, length, length-append, take-at, eqb}
 use Rattle.rows.proofs.Prelude.{bitOr, eqb-true, contradiction, and-left, and-right, and-false-right, cond, cond-cases}
@@ -277,7 +277,7 @@ module _ (d : Defaults) (t : Tables) (x : List ℕ) (o : Reordered (rows Aces t)
       )
   by-verdict l (Refuse n) e = (same-responses (q .bytes) _, record { others = refl; counted = refl; order = o })
 
-  -- the same is said of it but for the order, and the tables differ at most so
+  -- the same is reported of it except for the order, and the tables differ at most so
   pub record-step : length (t .rowners) ≡ 64
       → SameBut (q .bytes) (responseTo d t q) (responseTo d (withBytes t x) q) × OrderOnly (tablesAfter d t q) (tablesAfter d (withBytes t x) q)
   unfolding outcome outcomeAt

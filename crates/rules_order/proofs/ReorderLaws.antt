@@ -125,7 +125,7 @@ module _ (before : Row → Row → Bool) where
   order-sorted [] = none
   order-sorted (row ∷ rows) = then (keep (order-sorted rows)) (order-inserted row (sorted before rows))
 
-  -- where of two rows one may stand before the other, sorted rows ascend
+  -- where of two rows one may be before the other, sorted rows ascend
   module _ (total : (v w : Row) → before v w ≡ false → before w v ≡ true) where
     leads-inserted : (row new : Row) (rows : List Row) → before row new ≡ true → leads before row rows ≡ true
         → leads before row (inserted before new rows) ≡ true

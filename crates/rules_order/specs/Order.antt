@@ -1,4 +1,4 @@
--- Tables that differ only in the order of their access rows, and answers that are the same but for it (U14).
+-- Tables that differ only in the order of their access rows, and answers that are the same except for it (U14).
 -- A reply that lists the access rows is that to a RETRIEVE of acl2.
 use mathlib.Core.Path.{_≡_}
 use mathlib.Core.Bool.{Bool, true, false, _&&_}
@@ -59,7 +59,7 @@ pub record SameBut (r : Bytes) (x y : Response) : Type 0 where
   pub contents : listsAccess r ≡ false → x .contents ≡ y .contents
   pub store : eqb (resource r) acl2 ≡ false → x .store ≡ y .store
 
--- ---- runs of hand-ins, takes and records that are judged at once
+-- ---- runs of hand-ins, takes and records that are judged directly
 
 -- the record that the answer to an input is about; a hand-in judges none
 abbrev pub judgedIn : Input → Transition → Bytes
@@ -67,7 +67,7 @@ judgedIn (handIn r) a = []
 judgedIn (takeAt clock capacity) a = a .bytes
 judgedIn (direct q) a = q .bytes
 
--- the same record is handed out, and the response is the same except for the order
+-- the same record is given out, and the response is the same except for the order
 pub record SameAnswer (i : Input) (a b : Transition) : Type 0 where
   pub bytes : a .bytes ≡ b .bytes
   pub response : SameBut (judgedIn i a) (a .response) (b .response)

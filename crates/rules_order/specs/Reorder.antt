@@ -11,10 +11,10 @@ pub data Reordered : List Row → List Row → Type 0 where
   swap : {v w : Row} {ws : List Row} → Reordered (v ∷ w ∷ ws) (w ∷ v ∷ ws)
   then : {us vs ws : List Row} → Reordered us vs → Reordered vs ws → Reordered us ws
 
--- ---- sorting, where `before v w` says that v may stand before w: by site, by number, by any other key
+-- ---- sorting, where `before v w` says that v may be before w: by site, by number, by any other key
 
 module _ (before : Row → Row → Bool) where
-  -- the row in front of the first that it may stand before
+  -- the row in front of the first that it may be before
   unfoldable pub inserted : Row → List Row → List Row
   inserted new [] = new ∷ []
   inserted new (row ∷ rows) = cond (before new row) (new ∷ row ∷ rows) (row ∷ inserted new rows)
@@ -23,7 +23,7 @@ module _ (before : Row → Row → Bool) where
   sorted [] = []
   sorted (row ∷ rows) = inserted row (sorted rows)
 
-  -- each row may stand before the next
+  -- each row may be before the next
   unfoldable pub leads : Row → List Row → Bool
   leads row [] = true
   leads row (next ∷ rows) = before row next

@@ -1,5 +1,5 @@
 -- Theorems: a day of a terminal whose power is cut again and again, by the rules and by any calls that meet the contracts.
--- With tables and what waits as one image it is a run without power cuts; with the tables alone nothing waits after each restart.
+-- With tables and the queue as one image it is a run without power cuts; with only the tables nothing waits after each restart.
 use Rattle.rows.proofs.Prelude.{_≡_, refl, ap, subst, Bool, true, List, [], _∷_, map, ℕ, _+_, _≤_, arith, length, and-left, and-right, contradiction}
 use Rattle.rows.specs.Rows.{same, some}
 use Rattle.rules.specs.Defaults.{Defaults}
@@ -24,7 +24,7 @@ use Rattle.rules_power.proofs.Terminals as terminals
 use Rattle.rules_power.proofs.Terminals.{answers-next, calls-next}
 
 module _ (d : Defaults) where
-  -- ---- tables and what waits as one image
+  -- ---- tables and the queue as one image
 
   pub whole-run : (s end : List ℕ) (es : List (Event Act Transition)) (z : Terminal) → length s ≡ sizeFor terminalSize
       → Day (byRules d) (found (byRules d) s) s es z end → AsRun (byRules d) (found (byRules d) s) es z × (found (byRules d) end ≡ z)
@@ -48,7 +48,7 @@ module _ (d : Defaults) where
       → Day (inRounds (byCalls d)) (found (byCalls d) s) s es z end → AsRun (inRounds (byCalls d)) (found (byCalls d) s) es z × (found (byCalls d) end ≡ z)
   whole-rounds s end es z f = terminals.any-whole-rounds (Calls d) d (calls-next d) s end f es z
 
-  -- ---- the tables alone
+  -- ---- only the tables
 
   pub tables-run : (s end : List ℕ) (es : List (Event Act Transition)) (z : Terminal) → length s ≡ sizeFor tablesSize
       → Day (tablesByRules d) (found (tablesByRules d) s) s es z end
@@ -122,7 +122,7 @@ module _ (d : Defaults) where
   all-inputs acts rs es (day.left-out {es = later} act seen) h = all-inputs acts rs later seen (and-right (isInput act) (noClear later) h)
   all-inputs acts rs es (day.unseen {es = later} seen) h = all-inputs acts rs later seen h
 
-  -- whatever is stored: so of a day with what waits stored, and with the tables alone of each stretch without a cut
+  -- whatever is stored: so of a day with the queue stored, and with only the tables of each stretch without a cut
   pub as-calls : (m : Machine Terminal Act Call) → ((x y : Terminal) (act : Act) (c : Call) → m .Gives x act c y → Calls d x act c y)
       → (x z : Terminal) (es : List (Event Act Call)) → AsRun m x es z → noClear es ≡ true → AsCalls d x es z
   as-calls m gives x z es r h =
@@ -130,7 +130,7 @@ module _ (d : Defaults) where
       let b = run-built m gives x z (inputsOf (r .inputs)) (r .replies) (rw e (r .run)) in
       record { inputs = inputsOf (r .inputs); calls = r .replies; built = b .0; ends = b .1; seen = rw e (r .seen) }
 
-  -- a day with what waits stored, from any store of the right length
+  -- a day with the queue stored, from any store of the right length
   pub whole-as-calls : (s end : List ℕ) (es : List (Event Act Call)) (z : Terminal) → length s ≡ sizeFor terminalSize
       → Day (byCalls d) (found (byCalls d) s) s es z end → noClear es ≡ true → AsCalls d (found (byCalls d) s) es z
   whole-as-calls s end es z f days h = as-calls (byCalls d) (λ x y act c g. g) (found (byCalls d) s) z es (whole-calls s end es z f days .0) h
@@ -140,7 +140,7 @@ module _ (d : Defaults) where
       → BookPremise d chosen x (c .inputs) (allShown (c .inputs) (c .calls)) → Isolated d chosen x (c .inputs) (allShown (c .inputs) (c .calls)) z
   day-isolation chosen x z es c p = rw (c .ends) (handed-isolation d x (c .inputs) (c .calls) (c .built) chosen p)
 
-  -- ---- a record that waits is handed out within 25 takes that are answered, however often the power is cut
+  -- ---- a record that waits is given out within 25 takes that are answered, however often the power is cut
 
   abbrev takesIn : List Act → ℕ
   takesIn [] = 0

@@ -1,6 +1,6 @@
--- Theorems: a day on which the tables alone are stored, as stretches of calls with a restart between each two of them.
+-- Theorems: a day on which only the tables are stored, as stretches of calls with a restart between each two of them.
 -- All records judged are judged as the rules judge them one after the other, so demand 3 holds across restarts; and a waiting record is
--- handed out within 25 takes, unless a restart comes first.
+-- given out within 25 takes, unless a restart comes first.
 use Rattle.rows.proofs.Prelude.{_≡_, refl, sym, ap, ap₂, subst, _∙_, Bool, true, List, [], _∷_, _++_, map, ℕ, arith, and-left, and-right, contradiction}
 use mathlib.Core.List.{map-append}
 use Rattle.rules.specs.declared.Tables.{Tables}
@@ -33,7 +33,7 @@ use Rattle.rules_power.proofs.PowerCuts.{run-built}
 none-waits : (x : Terminal) → recordsIn (nothingWaits x) ≡ []
 none-waits x = rw (← fresh-is, waiting-back anew [] tt (omega arith) tt)
 
--- records behind others
+-- records after others
 replies-append : (d : Defaults) (t : Tables) (qs rs : List Request)
     → replies (responseTo d) (tablesAfter d) t (qs ++ rs)
     ≡ replies (responseTo d) (tablesAfter d) t qs ++ replies (responseTo d) (tablesAfter d) (final (tablesAfter d) t qs) rs

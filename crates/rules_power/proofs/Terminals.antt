@@ -96,7 +96,7 @@ module _ {Answer : Type 0} (Gives : Terminal → Act → Answer → Terminal →
   unfolding clearedTerminal
   cleared-sound x y a g = rw (gives-next x y clear a g) (fresh-terminal d)
 
-  -- ---- one image of tables and what waits: a run without power cuts, whose end is in the store
+  -- ---- one image of tables and the queue: a run without power cuts, whose end is in the store
 
   module _ (s end : List ℕ) (f : length s ≡ sizeFor terminalSize) where
     abbrev start : Terminal
@@ -132,7 +132,7 @@ module _ {Answer : Type 0} (Gives : Terminal → Act → Answer → Terminal →
         let r = day-restarts m SizedTerminal keeps start z s end es (power-on m SizedTerminal keeps s f) days in
         (restarts-run m (λ x. refl) start z es (r .0), r .1 .finds)
 
-  -- ---- the tables alone: a run in which nothing waits after a restart, and the tables of its end are in the store
+  -- ---- only the tables: a run in which nothing waits after a restart, and the tables of its end are in the store
 
   module _ (s end : List ℕ) (f : length s ≡ sizeFor tablesSize) where
     abbrev started : Terminal

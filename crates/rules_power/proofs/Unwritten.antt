@@ -1,4 +1,4 @@
--- Where the tables alone are stored, an input that leaves them as they were writes nothing: so does every hand-in.
+-- Where only the tables are stored, an input that leaves them as they were writes nothing: so does every hand-in.
 use Rattle.rows.proofs.Prelude.{_≡_, refl, sym, ap, _∙_, List, [], _∷_, _++_, ℕ, _+_, _≤_, arith, length, take, drop, getD}
 use Rattle.rows.proofs.Prelude.{append-nil, drop-drop, take-append-drop, drop-of-length-le}
 use Rattle.rules.specs.declared.Tables.{Tables}

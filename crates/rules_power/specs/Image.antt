@@ -20,7 +20,7 @@ tablesImage t = t .state ∷ t .owned ∷ t .ncreds ∷ t .naces ∷ (t .devowne
 unfoldable pub terminalImage : Terminal → Image
 terminalImage x = tablesImage (x .tables) ++ x .queue
 
--- where the rows of each table begin: behind four bytes, the device owner and four row owners
+-- where the rows of each table begin: after four bytes, the device owner and four row owners
 abbrev pub credsAt : Offset
 credsAt = 4 + 16 + 64
 

@@ -52,7 +52,7 @@ noClear (replied act a ∷ es) = isInput act && noClear es
 noClear (cut act ∷ es) = isInput act && noClear es
 noClear (idle ∷ es) = noClear es
 
--- what a restart leaves, where the tables alone are stored
+-- what a restart leaves, where only the tables are stored
 abbrev pub nothingWaits : Terminal → Terminal
 nothingWaits x = terminal (x .tables) emptyQueue
 
@@ -84,7 +84,7 @@ module _ (d : Defaults) where
   abbrev pub tablesByCalls : Machine Terminal Act Call
   tablesByCalls = tablesAlone (Calls d)
 
-  -- a day on which the clear button is not pressed, as calls that the other theorems take: each on what was handed back last
+  -- a day on which the clear button is not pressed, as calls that the other theorems take: each on what was returned last
   pub record AsCalls (x : Terminal) (es : List (Event Act Call)) (z : Terminal) : Type 0 where
     pub inputs : List Input
     pub calls : List Call

@@ -1,5 +1,5 @@
--- A day on which the tables alone are stored: stretches of calls, and a restart between each two of them, which drops what waits.
--- What such a day shows: the records judged, what their senders are told, and when a waiting record is handed out.
+-- A day on which only the tables are stored: stretches of calls, and a restart between each two of them, which drops the queue.
+-- What such a day shows: the records judged, what their senders are told, and when a waiting record is given out.
 use Prim.Native.Nat.{ℕ, _≤_}
 use mathlib.Core.Path.{_≡_}
 use mathlib.Core.Bool.{Bool, true, _&&_}
@@ -72,7 +72,7 @@ module _ (d : Defaults) (chosen : Sender → Bool) (x : Terminal) (iss : List (L
 
 -- ---- within 25 takes
 
--- a record that waits in the terminal x is handed out if these inputs have 25 takes, and no credential row comes or goes and the tables are
+-- a record that waits in the terminal x is given out if these inputs have 25 takes, and no credential row comes or goes and the tables are
 -- not cleared while it waits
 abbrev pub Serves : Terminal → List Input → List Transition → Type 0
 Serves x is answers =

@@ -1,5 +1,5 @@
 -- The theorems of any calls that meet the contracts of `hand_in`, `take` and `judge`, and of `payload` beside the last two, each on the tables
--- and the memory handed back last. The calls show what the definitions answer, so that each theorem is the one over the definitions.
+-- and the memory returned last. The calls show what the definitions answer, so that each theorem is the one over the definitions.
 use Rattle.rows.proofs.Prelude.{_≡_, sym, ap, _∙_, Bool, true, List, [], _∷_, _++_, map, ℕ, _+_, _≤_}
 use Rattle.rows.specs.Rows.{same, some}
 use Rattle.rules.specs.declared.Sender.{Sender}
@@ -37,7 +37,7 @@ module _ (d : Defaults) (x : Terminal) (is : List Input) (cs : List Call) (b : B
   pub built-rules : AsRules d (x .tables) (requestsOf x is (allShown is cs)) (allResponses is (allShown is cs)) (handedBack x cs .tables)
   built-rules = of-calls (λ answers end. AsRules d (x .tables) (requestsOf x is answers) (allResponses is answers) (end .tables)) (rules-handed d x is)
 
-  -- a record handed out waited at the start or was kept
+  -- a record given out waited at the start or was kept
   pub built-came : (r : List ℕ) → some (same r) (gathered recordTaken is (allShown is cs)) ≡ true
       → some (same r) (recordsIn x ++ gathered recordKept is (allShown is cs)) ≡ true
   built-came r =
@@ -45,12 +45,12 @@ module _ (d : Defaults) (x : Terminal) (is : List Input) (cs : List Call) (b : B
       (λ answers end. some (same r) (gathered recordTaken is answers) ≡ true → some (same r) (recordsIn x ++ gathered recordKept is answers) ≡ true)
       (came-seen d x is r)
 
-  -- a record that enters RESET, at a take or at once, leaves fresh tables, nothing that waits and the round anew
+  -- a record that enters RESET, at a take or at once, leaves fresh tables, nothing that waits and the round again
   pub built-resets : FreshAfterReset d is (allShown is cs)
   built-resets = of-calls (λ answers end. FreshAfterReset d is answers) (fresh-after-reset d x is)
 
   module _ (h : soundTerminal x ≡ true) where
-    -- a waiting record is handed out within 25 takes, while it waits and no credential row comes or goes and the tables are not cleared
+    -- a waiting record is given out within 25 takes, while it waits and no credential row comes or goes and the tables are not cleared
     pub built-served : (r : List ℕ) → some (same r) (recordsIn x) ≡ true → QuietFor r x is (allShown is cs) → 25 ≤ takes is
         → some (same r) (gathered recordTaken is (allShown is cs)) ≡ true
     built-served r =
@@ -58,7 +58,7 @@ module _ (d : Defaults) (x : Terminal) (is : List Input) (cs : List Call) (b : B
         (λ answers end. some (same r) (recordsIn x) ≡ true → QuietFor r x is answers → 25 ≤ takes is → some (same r) (gathered recordTaken is answers) ≡ true)
         (λ w q l. waiting-served d x is r h w q l)
 
-    -- none is lost: of the records that pass any test, as many are handed out or wait at the end as waited at the start or were kept
+    -- none is lost: of the records that pass any test, as many are given out or wait at the end as waited at the start or were kept
     pub built-none-lost : (p : List ℕ → Bool) → Quiet x is (allShown is cs)
         → countOf p (gathered recordTaken is (allShown is cs)) + countOf p (recordsIn (handedBack x cs))
         ≡ countOf p (recordsIn x) + countOf p (gathered recordKept is (allShown is cs))
@@ -72,15 +72,15 @@ module _ (d : Defaults) (x : Terminal) (is : List Input) (cs : List Call) (b : B
     pub built-waits : recordsIn (handedBack x cs) ≡ waitsAtEnd (recordsIn x) is (allShown is cs)
     built-waits = of-calls (λ answers end. recordsIn end ≡ waitsAtEnd (recordsIn x) is answers) (waits-at-end d x is h)
 
-    -- where the round stands at the end
+    -- where the round is at the end
     pub built-round : roundIn (handedBack x cs) ≡ roundAtEnd (roundIn x) is (allShown is cs)
     built-round = of-calls (λ answers end. roundIn end ≡ roundAtEnd (roundIn x) is answers) (round-at-end d x is h)
 
-    -- each take hands out the record of the first seat in turn for which one waits
+    -- each take gives out the record of the first seat in turn for which one waits
     pub built-turns : TakenInTurn (x .tables) (roundIn x) (recordsIn x) is (allShown is cs)
     built-turns = of-calls (λ answers end. TakenInTurn (x .tables) (roundIn x) (recordsIn x) is answers) (taken-in-turn d x is h)
 
--- a record that was answered with 0 at hand-in is handed out within 25 takes after it
+-- a record that was answered with 0 at hand-in is given out within 25 takes after it
 pub built-kept-served :
     (d : Defaults) (x : Terminal) (r : List ℕ) (c : Call) (is : List Input) (cs : List Call)
     → Built d x (handIn r ∷ is) (c ∷ cs)

@@ -1,4 +1,4 @@
--- Theorem over the definitions, from a sound terminal: a take hands out the record of the first seat in turn for which one waits.
+-- Theorem over the definitions, from a sound terminal: a take gives out the record of the first seat in turn for which one waits.
 -- Round and records are those that the answers before it leave, so the order of the takes is told by the hand-ins and the credential rows.
 use Rattle.rows.proofs.Prelude.{_≡_, refl, ap, ap₂, _∙_, Bool, true, false, List, [], _∷_, map, ℕ, length, take, length-map, eqb, bool-cases, and-left}
 use Rattle.rows.proofs.Prelude.{and-right}
@@ -33,7 +33,7 @@ first-agree p q (w ∷ ws) each =
     let rest = first-agree p q ws (λ v m. each v (or-true-right (same v w) _ m)) in
     rw (each w (rw (same-refl w))) (bool-cases (q w) (λ e. rw e) (λ e. rw e rest))
 
--- a round that is not held is anew
+-- a round that is not held is again
 turn-held : (k : Round) (ps : List Seat) → inTurn k ps ≡ inTurn (validRound ps k) ps
 unfolding inTurn start
 turn-held anew ps = refl

@@ -1,5 +1,5 @@
--- Theorems over the definitions: a waiting record is handed out within 25 takes, and none is lost, while no credential row is added or
--- removed and the tables are not cleared; and none is altered. Within 25 takes, nothing is asked once the record is handed out.
+-- Theorems over the definitions: a waiting record is given out within 25 takes, and none is lost, while no credential row is added or
+-- removed and the tables are not cleared; and none is altered. Within 25 takes, nothing is asked once the record is given out.
 use Rattle.rows.proofs.Prelude.{_≡_, refl, sym, _∙_, Bool, true, false, List, [], _∷_, map, _++_, ℕ, _+_, _≤_, eq-eqb, not-false, contradiction}
 use Rattle.rows.proofs.Prelude.{bool-cases, or-left, or-right, or-true-right}
 use mathlib.Core.List.{map-append}
@@ -22,7 +22,7 @@ use Rattle.rules_runs.specs.Waits.{recordKept, recordTaken, Quiet, Quiet
 use Rattle.rules_runs.specs.Isolation.{answersTo}
 use Rattle.rules_runs.proofs.Seen.{not-zero, kept-seen, taken-seen, resets-seen, gathered-is}
 
--- where the record is not handed out, it is quiet throughout
+-- where the record is not given out, it is quiet throughout
 always-quiet : (r : List ℕ) (x : Terminal) (is : List Input) (answers : List Transition) → some (same r) (gathered recordTaken is answers) ≡ false
     → QuietFor r x is answers → Quiet x is answers
 always-quiet r x [] answers n q = tt
@@ -72,14 +72,14 @@ module _ (d : Defaults) where
       waiting-served (handedIn x r .terminal) is r (sound-next d x (handIn r) (kept-sound x r a))
       (rw (kept-waits x r a) (some-last r (recordsIn x)))
 
-  -- of the records that pass any test, as many are handed out or wait at the end as waited at the start or were kept
+  -- of the records that pass any test, as many are given out or wait at the end as waited at the start or were kept
   pub none-lost-seen : (p : List ℕ → Bool) (x : Terminal) (is : List Input) → soundTerminal x ≡ true → Quiet x is (answersTo d x is)
       → countOf p (gathered recordTaken is (answersTo d x is)) + countOf p (recordsIn (final (next d) x is))
       ≡ countOf p (recordsIn x) + countOf p (gathered recordKept is (answersTo d x is))
   none-lost-seen p x is h q =
       rw (all-taken x is, gathered-is d recordKept (keptAt d) (kept-seen d) x is) (none-lost p d x is h (undisturbed x is q))
 
-  -- a record handed out waited at the start or was kept
+  -- a record given out waited at the start or was kept
   pub came-seen : (x : Terminal) (is : List Input) (r : List ℕ) → some (same r) (gathered recordTaken is (answersTo d x is)) ≡ true
       → some (same r) (recordsIn x ++ gathered recordKept is (answersTo d x is)) ≡ true
   came-seen x is r = rw (all-taken x is, gathered-is d recordKept (keptAt d) (kept-seen d) x is) (taken-came d x is r)

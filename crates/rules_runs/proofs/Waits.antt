@@ -1,5 +1,5 @@
--- Theorems over the definitions, from a sound terminal: which records wait after a run, byte for byte and in order, and where the round stands.
--- Both are read from the answers alone, whether a record was judged at a take or at once.
+-- Theorems over the definitions, from a sound terminal: which records wait after a run, byte for byte and in order, and where the round is.
+-- Both are read from only the answers, whether a record was judged at a take or at once.
 use Rattle.rows.proofs.Prelude.{_≡_, refl, sym, ap, ap₂, _∙_, Bool, true, not, _||_, cond, List, [], _∷_, _++_, map, ℕ, _/_, _%_, arith, take, eqb, eq-eqb}
 use Rattle.rows.proofs.Prelude.{bool-cases, contradiction, and-left, and-right, append-nil, or-false}
 use Rattle.rows.specs.Rows.{Row, same, hasKey, some, every, without, distinctNumbers}
@@ -127,7 +127,7 @@ module _ (d : Defaults) where
   pub waits-seen : (x : Terminal) (i : Input) → soundTerminal x ≡ true → recordsIn (next d x i) ≡ waitsAfter (recordsIn x) i (transition d x i)
   waits-seen x i h = rw (resets-seen d x i, taken-seen d x i, kept-seen d x i) (waits-next x i h)
 
-  -- what waits at the end
+  -- the queue at the end
   pub waits-at-end : (x : Terminal) (is : List Input) → soundTerminal x ≡ true
       → recordsIn (final (next d) x is) ≡ waitsAtEnd (recordsIn x) is (answersTo d x is)
   waits-at-end x [] h = refl
@@ -178,7 +178,7 @@ module _ (d : Defaults) where
   pub round-seen : (x : Terminal) (i : Input) → soundTerminal x ≡ true → roundIn (next d x i) ≡ roundAfter (roundIn x) i (transition d x i)
   round-seen x i h = rw (resets-seen d x i, taken-seen d x i) (round-next x i h)
 
-  -- where the round stands at the end
+  -- where the round is at the end
   pub round-at-end : (x : Terminal) (is : List Input) → soundTerminal x ≡ true
       → roundIn (final (next d) x is) ≡ roundAtEnd (roundIn x) is (answersTo d x is)
   round-at-end x [] h = refl

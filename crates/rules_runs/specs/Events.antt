@@ -20,7 +20,7 @@ pub data Event : Type 0 where
   -- a take that was not answered with 1 or 27: the credential number of the sender whose turn it was (0: unauthenticated
   -- senders), the clock, and the length of the reply buffer
   dequeued : Number → Clock → Size → Event
-  -- this record was judged at once, and not answered with 1
+  -- this record was judged directly, and not answered with 1
   immediate : Request → Event
 
 -- the record carries this credential number
@@ -58,7 +58,7 @@ judges (direct q) a = not (eqb (a .response .answer) 1)
 abbrev pub listIf : {A : Type 0} → Bool → A → List A
 listIf applies value = cond applies (value ∷ []) []
 
--- of a record that a take handed out only its credential number
+-- of a record that a take gave out only its credential number
 abbrev pub eventOf : Input → Transition → List Event
 eventOf (handIn r) a = listIf (eqb (a .response .answer) 0) (enqueued r)
 eventOf (takeAt clock capacity) a = listIf (judges (takeAt clock capacity) a) (dequeued (credential (a .bytes)) clock capacity)

@@ -21,7 +21,7 @@ requestsOf x is answers = requests (recordsIn x) (gathered eventOf is answers)
 abbrev pub allResponses : List Input → List Transition → List Response
 allResponses is answers = gathered responsesOf is answers
 
--- these records, judged one after the other from the tables t by the rules alone, get these responses and leave the tables t′
+-- these records, judged one after the other from the tables t by only the rules, get these responses and leave the tables t′
 pub record AsRules (d : Defaults) (t : Tables) (qs : List Request) (told : List Response) (t′ : Tables) : Type 0 where
   pub responses-same : told ≡ replies (responseTo d) (tablesAfter d) t qs
   pub tables-same : t′ ≡ final (tablesAfter d) t qs

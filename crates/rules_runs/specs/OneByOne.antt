@@ -1,4 +1,4 @@
--- Records that are handed in and taken one by one: each take hands out the record that was handed in just before it.
+-- Records that are handed in and taken one by one: each take gives out the record that was handed in just before it.
 -- So are the rows of a list loaded through hand-ins and takes (U10, U13).
 use mathlib.Core.Path.{_≡_}
 use mathlib.Core.List.{List, [], _∷_}

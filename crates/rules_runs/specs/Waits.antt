@@ -1,4 +1,4 @@
--- The queue as answers show it: which records come, go and wait, and where the round stands (U13).
+-- The queue as answers show it: which records come, go and wait, and where the round is (U13).
 -- Of a terminal x at the start, inputs and their answers.
 use mathlib.Core.Path.{_≡_}
 use mathlib.Core.Bool.{Bool, true, false, not, _&&_, _||_, cond}
@@ -25,7 +25,7 @@ recordKept (handIn r) a = listIf (eqb (a .response .answer) 0) r
 recordKept (takeAt clock capacity) a = []
 recordKept (direct q) a = []
 
--- the record that a take handed out
+-- the record that a take gave out
 abbrev pub recordTaken : Input → Transition → List Bytes
 recordTaken (handIn r) a = []
 recordTaken (takeAt clock capacity) a = listIf (judges (takeAt clock capacity) a) (a .bytes)
@@ -76,7 +76,7 @@ waitsAtEnd rs (i ∷ is) (a ∷ answers) = waitsAtEnd (waitsAfter rs i a) is ans
 
 -- ---- the round
 
--- the round as it counts: anew where the tables do not hold the seat taken last
+-- the round as it counts: again where the tables do not hold the seat taken last
 abbrev pub roundIn : Terminal → Round
 roundIn x = validRound (seats (x .tables)) (roundOf (x .queue))
 
@@ -85,7 +85,7 @@ abbrev pub moved : Round → List Bytes → Round
 moved round [] = round
 moved round (r ∷ rs) = afterSeat (seatOf r)
 
--- the round after an answer, from the round before it: anew after RESET, and once the row of the seat taken last is gone
+-- the round after an answer, from the round before it: again after RESET, and once the row of the seat taken last is gone
 abbrev pub roundAfter : Round → Input → Transition → Round
 roundAfter round i a = cond (resets i a) anew (validRound (seats (a .terminal .tables)) (moved round (recordTaken i a)))
 
@@ -104,13 +104,13 @@ inSeat seat r = same (seatOf r) seat
 unfoldable pub firstSeat : Round → List Seat → List Bytes → Seat
 firstSeat round seats rs = firstRow (λ seat. some (inSeat seat) rs) (inTurn round seats)
 
--- the record that an input hands out: a take that of this seat, if any record waits
+-- the record that an input gives out: a take that of this seat, if any record waits
 abbrev pub takenNext : Round → List Seat → List Bytes → Input → List Bytes
 takenNext round seats rs (handIn r) = []
 takenNext round seats rs (takeAt clock capacity) = listIf (not (eqb (length rs) 0)) (firstRow (inSeat (firstSeat round seats rs)) rs)
 takenNext round seats rs (direct q) = []
 
--- each answer hands out this record, where the tables were t and the queue so before the first
+-- each answer gives out this record, where the tables were t and the queue so before the first
 abbrev pub TakenInTurn : Tables → Round → List Bytes → List Input → List Transition → Type 0
 TakenInTurn t round rs [] answers = Unit {0}
 TakenInTurn t round rs (i ∷ is) [] = Unit {0}

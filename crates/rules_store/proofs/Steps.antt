@@ -65,7 +65,7 @@ resting : (store new : List ℕ) → Justified store new Done → current (lengt
 unfolding raise
 resting store new (rests e) = e
 
--- Done is answered for the current image alone
+-- Done is answered for only the current image
 pub done-current : (store new : List ℕ) (from : ℕ) → next store new from ≡ Done → current (length new) store ≡ new
 done-current store new from e = resting store new (rw e at (justified store new from (done-fit store new from e)))
 

@@ -1,7 +1,7 @@
 -- Theorem, demand 3 whole: the built code on one side, the book of the rules on the other.
 -- The built code is any calls that meet the contracts of `hand_in`, `take` and `judge` (HandsIn,
 -- Takes and Judges, which these contracts cite), and of `payload` beside the last two,
--- each on the tables and the memory handed back last.
+-- each on the tables and the memory returned last.
 use Rattle.rows.proofs.Prelude.{_≡_, refl, sym, ap, ap₂, _∙_, Bool, true, false, _||_, List, [], _∷_, map, ℕ, _-_, length, take, drop, replicate}
 use Rattle.rows.proofs.Prelude.{take-at, eqb, eqb-true, not-false, or-false, bool-cases, contradiction, or-left, or-not-left}
 use Rattle.rules.specs.declared.Check.the-variants.{Refuse}
@@ -62,7 +62,7 @@ module _ (d : Defaults) (x : Terminal) where
       let n = responseTo d (x .tables) q .answer in
       bool-cases (eqb n 1 || eqb n 27) (λ e. absurd (no-such d (x .tables) q n (terminal-parts x h .tables) e refl)) (λ e. e)
 
-  -- a take shows the record that it hands out, and what is told of it
+  -- a take shows the record that it gives out, and what is reported of it
   pub take-told : (clock capacity : ℕ) (c : Call) → Meets d x (takeAt clock capacity) c
       → (recordGiven c ≡ taken d x clock capacity .bytes) × (responseOf c ≡ taken d x clock capacity .response)
   unfolding taken
@@ -102,7 +102,7 @@ module _ (d : Defaults) (x : Terminal) where
 
 -- ---- the run
 
--- the calls show the records judged, and hand back the terminal
+-- the calls show the records judged, and return the terminal
 pub built-same : (d : Defaults) (x : Terminal) (is : List Input) (cs : List Call) → Built d x is cs
     → (callTurns is cs ≡ allJudged d x is) × (handedBack x cs ≡ final (next d) x is)
 built-same d x [] [] b = (refl, refl)
@@ -113,7 +113,7 @@ built-same d x (i ∷ is) (c ∷ cs) b =
     let more = built-same d (left c) is cs (b .1) in
     (rw (call-turn d x i c (b .0), more .0, l), rw (more .1, l))
 
--- demand 3: what the others' records are told that the calls show as judged, and the tables handed back last
+-- demand 3: what the others' records are told that the calls show as judged, and the tables returned last
 pub built-isolation :
     (d : Defaults) (chosen : Sender → Bool) (x : Terminal) (is : List Input) (cs : List Call)
     → Built d x is cs
@@ -123,7 +123,7 @@ built-isolation d chosen x is cs built =
     let same = built-same d x is cs built in
     rw (same .0, same .1) (isolated d chosen x is)
 
--- ---- lists of records judged at once alone: each of the others' is told what the book answers, 1 included
+-- ---- lists of records judged directly alone: each of the others' is told what the book answers, 1 included
 
 directs-built : (d : Defaults) (x : Terminal) (qs : List Request) (cs : List Call) → Built d x (map direct qs) cs
     → (map responseOf cs ≡ directReplies d x qs) × (handedBack x cs ≡ directEnd d x qs)
@@ -135,7 +135,7 @@ directs-built d x (q ∷ qs) (c ∷ cs) b =
     let more = directs-built d (left c) qs cs (b .1) in
     (rw (direct-told d x q c (b .0), more .0, l), rw (more .1, l))
 
--- so are the tables handed back, beside memory that is sound where the tables are
+-- so are the tables returned, with memory that is sound where the tables are
 pub directs-told : (d : Defaults) (x : Terminal) (qs : List Request) (cs : List Call) → Built d x (map direct qs) cs → Whole x
     → (map responseOf cs ≡ replies (responseTo d) (tablesAfter d) (x .tables) qs) × (handedBack x cs .tables ≡ final (tablesAfter d) (x .tables) qs)
 directs-told d x qs cs built whole =

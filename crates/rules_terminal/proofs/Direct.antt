@@ -1,4 +1,4 @@
--- Lists of records that are judged at once, beside memory that is sound wherever the tables are.
+-- Lists of records that are judged directly, with memory that is sound wherever the tables are.
 -- Such a record gets the outcome of the rules over the tables, 1 included; so fresh memory changes nothing for a run without hand-ins.
 use Rattle.rows.proofs.Prelude.{_≡_, refl, false, List, [], _∷_, bool-cases, contradiction}
 use Rattle.rules.specs.declared.Tables.{Tables}
@@ -16,7 +16,7 @@ use Rattle.rules_terminal.specs.Direct.{AsOutcome, Whole}
 use Rattle.rules_terminal.proofs.Sound.{terminal-whole, fresh-queue, sound-next}
 use Rattle.rules_terminal.proofs.Stays.{judged-is}
 
--- fresh memory is, beside any tables
+-- fresh memory is, with any tables
 pub fresh-whole : (t : Tables) → Whole (terminal t emptyQueue)
 fresh-whole t h = terminal-whole (terminal t emptyQueue) h (fresh-queue t h)
 

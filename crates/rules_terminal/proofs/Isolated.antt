@@ -1,4 +1,4 @@
--- Theorem, demand 3 with waiting records: over a whole list of hand-ins, takes and records judged at once, refused ones included,
+-- Theorem, demand 3 with waiting records: over a whole list of hand-ins, takes and records judged directly, refused ones included,
 -- the others' records that are judged get what the book of 01 gives them, fed byte for byte in the
 -- order of their takes, each at its take's clock and with its reply buffer's length.
 -- The book holds tables only, so seats and round are left out of what is compared.
@@ -24,7 +24,7 @@ use Rattle.rules_terminal.proofs.Lockstep.{along-first, collected-throu
 module _ (d : Defaults) (chosen : Sender → Bool) where
   -- ---- one record on the tables s of the terminal and b of the book
 
-  -- what the book answers to these turns, and where both sides stand then
+  -- what the book answers to these turns, and where both sides are then
   abbrev Step : Tables → Tables → List Turn → Type 0
   Step s b us = (map turnResponse us ≡ replies (responseTo d) (tablesAfter d) b (map requestOf us)) × Related d chosen s (final (tablesAfter d) b (map requestOf us))
 
@@ -70,7 +70,7 @@ module _ (d : Defaults) (chosen : Sender → Bool) where
       one x (x .tables) is (rw a premise) (record { same = refl; sound = refl }) in
       (rw (← a, ← b) (both .0), rw (← a) (both .1 .same))
 
-  -- demand 3; a terminal that is not sound, be it only in what waits, needs no premise
+  -- demand 3; a terminal that is not sound, be it only in the queue, needs no premise
   pub isolated : (x : Terminal) (is : List Input) → Premises d chosen x (others d chosen x is)
       → AsTheBook d chosen x (others d chosen x is) (final (next d) x is .tables)
   isolated x is premise =

@@ -35,7 +35,7 @@ use Rattle.rules_terminal.proofs.Refused.{among, refused-among, unsound
 use Rattle.rules_terminal.proofs.Served.{hand-queue, one-slot}
 use Rattle.rules.specs.declared.Table.the-variants.{Creds}
 
--- ---- what waits after a record
+-- ---- the queue after a record
 
 -- no slot's row is gone from tables beside which it is sound
 pub none-gone : (t : Tables) (ws : List Row) → every (slotSound (rows Creds t)) ws ≡ true → some (orphaned (seats t)) ws ≡ false
@@ -62,7 +62,7 @@ after-waiting d t q k ws s two h a c =
     made-waits t′ k ws s′ two all a ∙ sym (none-goes (orphaned (seats t′)) ws (none-gone t′ ws all)))
     (λ _. made-waits t′ _ _ s′ (held-two t′ (validRound (seats t) k) (held-two t k two)) (every-staying t t′ ws h) (distinct-without _ ws a)))
 
--- a record that is kept waits behind the others
+-- a record that is kept waits after the others
 pub handed-records : (x : Terminal) (r : List ℕ) → soundTerminal x ≡ true
     → recordsIn (handedIn x r .terminal) ≡ recordsIn x ++ recordIf r (verdict (handInChecks x r))
 unfolding handedIn
@@ -163,7 +163,7 @@ module _ (p : List ℕ → Bool) where
 
 -- ---- what follows
 
--- there is room for every record: one that is answered 0 at hand-in waits behind the others, byte for byte
+-- there is room for every record: one that is answered 0 at hand-in waits after the others, byte for byte
 pub kept-waits : (x : Terminal) (r : List ℕ) → handedIn x r .response .answer ≡ 0 → recordsIn (handedIn x r .terminal) ≡ recordsIn x ++ r ∷ []
 unfolding handedIn
 kept-waits x r a =

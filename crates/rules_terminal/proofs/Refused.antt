@@ -61,7 +61,7 @@ no-such d t q n s m a =
     (λ g. contradiction (ap (λ (j : ℕ). among j es) (sym (is ∙ eqb-true n 1 g)) ∙ f) refl)
     (λ g. contradiction (ap (λ (j : ℕ). among j es) (sym (is ∙ eqb-true n 27 (or-not-left (eqb n 1) _ m g))) ∙ f) refl))
 
--- a take that answers 1 or 27 hands out no record and changes nothing
+-- a take that answers 1 or 27 gives out no record and changes nothing
 pub take-nothing : (d : Defaults) (x : Terminal) (clock capacity n : ℕ) → (eqb n 1 || eqb n 27) ≡ true → taken d x clock capacity .response .answer ≡ n
     → taken d x clock capacity ≡ numberTransition n x
 unfolding taken
@@ -87,7 +87,7 @@ pub take-ready : (x : Terminal) → soundTerminal x ≡ true → eqb (length (wa
 unfolding verdict
 take-ready x h n = rw (h, n)
 
--- it hands out the whole record with the refusal's number; the tables stay, the seat is emptied, and the round stands after it
+-- it gives out the whole record with the refusal's number; the tables stay, the seat is emptied, and the round is after it
 pub refused-take : (d : Defaults) (x : Terminal) (clock capacity n : ℕ) → soundTerminal x ≡ true → eqb (length (waiting (x .queue))) 0 ≡ false
     → taken d x clock capacity .response .answer ≡ suc n
     → taken d x clock capacity
@@ -105,7 +105,7 @@ refused-take d x clock capacity n h w a =
     (refusal-is d (x .tables) q n b)
     (refused-after d (x .tables) q (afterSeat (turn x)) (without (hasKey 0 (turn x)) (waiting (x .queue))) n b))
 
--- ---- a record that is judged at once
+-- ---- a record that is judged directly
 
 -- a refused one changes nothing
 pub refused-direct : (d : Defaults) (x : Terminal) (q : Request) (n : ℕ) → judged d x q .response .answer ≡ suc n → judged d x q ≡ numberTransition (suc n) x

@@ -23,7 +23,7 @@ module _ (q : Seat → Bool) where
   first-in (x ∷ xs) h =
       bool-cases (q x) (λ e. rw (e, same-refl x)) (λ e. rw e (or-true-right (same (firstRow q xs) x) _ (first-in xs (rw e at h))))
 
-  -- a seat that passes is the first, or behind it
+  -- a seat that passes is the first, or after it
   pub first-least : (n : Seat) (xs : List Seat) → some (same n) xs ≡ true → q n ≡ true
       → (some q xs ≡ true) × (same n (firstRow q xs) ≡ false → rowsBefore (same (firstRow q xs)) xs < rowsBefore (same n) xs)
   unfolding some firstRow rowsBefore
@@ -109,7 +109,7 @@ index-rotated : (n : Seat) (s : ℕ) (xs : List Seat) → distinctSeats xs ≡ t
     → Turned (length xs) s (rowsBefore (same n) xs) (rowsBefore (same n) (drop s xs ++ take s xs))
 index-rotated n s xs d h l = (rw (take-append-drop s xs, length-take-le s xs l) at (index-turned n (take s xs) (drop s xs))) d h
 
--- going round: behind p, what was behind p comes nearer
+-- going round: after p, what was after p comes nearer
 nearer : (N s i j ip jp j′ : ℕ) → s ≤ N → i < N → ip < N → Turned N s i j → Turned N s ip jp → Turned N (suc ip) i j′ → jp < j → j′ < j
 nearer N s i j ip jp j′ a b c (true, f, d) (true, g, _) (true, h, e) l = omega arith
 nearer N s i j ip jp j′ a b c (true, f, d) (true, g, _) (false, h, e) l = omega arith
@@ -137,7 +137,7 @@ pub turn-bound : (n : Seat) (l : Round) (ps : List Seat) → distinctSeats ps �
 unfolding inTurn
 turn-bound n l ps d h = index-rotated n (start l ps) ps d h (start-bound l ps) .2
 
--- once p was taken, a seat behind it is nearer
+-- once p was taken, a seat after it is nearer
 pub turn-nearer : (n p : Seat) (l : Round) (ps : List Seat) → distinctSeats ps ≡ true → some (same n) ps ≡ true → some (same p) ps ≡ true
     → rowsBefore (same p) (inTurn l ps) < rowsBefore (same n) (inTurn l ps)
     → rowsBefore (same n) (inTurn (afterSeat p) ps) < rowsBefore (same n) (inTurn l ps)

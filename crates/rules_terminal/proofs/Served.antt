@@ -46,7 +46,7 @@ key-is n w l h = ap (λ (k : ℕ). take k w) (sym l) ∙ same-true _ _ h
 
 -- ---- the queue afterwards
 
--- a record that is kept stands behind the others, and the round stays
+-- a record that is kept is after the others, and the round stays
 pub hand-queue : (x : Terminal) (r : List ℕ) → soundTerminal x ≡ true → verdict (handInChecks x r) ≡ Pass
     → (waiting (withRecord r (x .queue)) ≡ waiting (x .queue) ++ slotOf r ∷ []) × (roundOf (withRecord r (x .queue)) ≡ roundOf (x .queue))
 unfolding withRecord
@@ -95,14 +95,14 @@ module _ (d : Defaults) (n : Seat) where
       (λ e. let m = hand-queue x r h e in rw (e, m .0, m .1) (first-added (hasKey 0 n) (slotOf r) (waiting (x .queue)) o, refl))
       (λ k e. rw e ((o, refl), refl))
 
-  -- a record that is judged at once leaves the memory
+  -- a record that is judged directly leaves the memory
   direct-waits : (x : Terminal) (q : Request) → soundTerminal x ≡ true → some (hasKey 0 n) (waiting (x .queue)) ≡ true
       → clears d (x .tables) q ≡ false → seats (tablesAfter d (x .tables) q) ≡ seats (x .tables)
       → Waits x (directOf d x q Pass .terminal) × (distance (directOf d x q Pass .terminal) ≡ distance x)
   direct-waits x q h o c e = rw (queue-stays d x q h c e, e) ((o, refl), refl)
 
   module _ (l : length n ≡ 2) where
-    -- the seat whose turn it is stands before seat n: once it was taken, seat n is nearer
+    -- the seat whose turn it is is before seat n: once it was taken, seat n is nearer
     turn-waits : (x : Terminal) (q : Request) → soundTerminal x ≡ true → isSeat (seats (x .tables)) n ≡ true
         → some (hasKey 0 n) (waiting (x .queue)) ≡ true → same n (turn x) ≡ false
         → clears d (x .tables) q ≡ false → seats (tablesAfter d (x .tables) q) ≡ seats (x .tables)

@@ -1,5 +1,5 @@
 -- What the calls of a run show, one answer for each input, is what the definitions answer.
--- Calls are those of Built: any that meet the contracts, each on the tables and the memory handed back last.
+-- Calls are those of Built: any that meet the contracts, each on the tables and the memory returned last.
 use Rattle.rows.proofs.Prelude.{_≡_, refl, List, [], _∷_}
 use Rattle.rules.specs.Defaults.{Defaults}
 use Rattle.rules.specs.Checks.{verdict}
@@ -20,7 +20,7 @@ shown-is d x (direct q) c m =
     rw (direct-told d x q c m, call-left d x (direct q) c m)
     (check-cases (verdict (directChecks x)) (λ e. rw (e, transition, next)) (λ n e. rw (e, transition, next)))
 
--- so do the calls of a run, and the terminal handed back last is that of the definitions
+-- so do the calls of a run, and the terminal returned last is that of the definitions
 pub built-shown : (d : Defaults) (x : Terminal) (is : List Input) (cs : List Call) → Built d x is cs
     → (allShown is cs ≡ replies (transition d) (next d) x is) × (handedBack x cs ≡ final (next d) x is)
 built-shown d x [] [] b = (refl, refl)

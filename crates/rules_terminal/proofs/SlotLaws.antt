@@ -1,4 +1,4 @@
--- Laws of slots and of the lent memory: what is put in is read back.
+-- Laws of slots and of the caller's memory: what is put in is read back.
 use Rattle.rows.proofs.Prelude.{_≡_, refl, sym, ap, _∙_, true, List, [], _∷_, _++_, ℕ, _-_, _*_, _≤_, min, min-eq-left, arith, length, take, drop, getD}
 use Rattle.rows.proofs.Prelude.{replicate, length-append, length-drop, length-replicate, drop-at, length-take-le, take-at, eqb, leb, ltb, eq-eqb, eqb-true}
 use Rattle.rows.proofs.Prelude.{le-leb, leb-true, ltb-false, cond-cases, take-append-drop, contradiction, and-left, and-right, and-both, or-right}

@@ -1,4 +1,4 @@
--- Theorems: hand-ins, takes and records that are judged at once leave a sound terminal sound; so 1 is met only where a run began with it.
+-- Theorems: hand-ins, takes and records that are judged directly leave a sound terminal sound; so 1 is met only where a run began with it.
 use Rattle.rows.proofs.Prelude.{_≡_, refl, sym, ap, _∙_, Bool, true, false, not, List, [], _∷_, ℕ, _+_, _≤_, _<_, arith, length, take, eqb, not-false}
 use Rattle.rows.proofs.Prelude.{cond-cases, contradiction, and-left, and-right, and-both}
 use Rattle.rows.specs.Rows.{Row, same, hasKey, numberedAs, some, every, without, stored, packed, joined, distinctNumbers}
@@ -97,7 +97,7 @@ hand-fits x r e =
     length-stored (slotOf r) (waiting (x .queue)) ∙ rw (hand-free x r e) in
     omega (arith, hand-keeps x r (not-false _ (passed (handInChecks x r) e 1)) e .1)
 
--- ---- the memory beside the tables that a record leaves
+-- ---- the memory with the tables that a record leaves
 
 pub every-staying : (t t′ : Tables) (ws : List Row) → every (slotSound (rows Creds t)) ws ≡ true → every (slotSound (rows Creds t′)) (without (orphaned (seats t′)) ws) ≡ true
 unfolding every without orphaned

@@ -1,4 +1,4 @@
--- Theorems: what a record that is judged at once leaves of the memory. It stays byte for
+-- Theorems: what a record that is judged directly leaves of the memory. It stays byte for
 -- byte unless a credential row is added or removed or the tables are cleared;
 -- cleared tables hold no waiting record, whatever rows they hold. A round whose row is not held is not revived by a row that comes with its number.
 use Rattle.rows.proofs.Prelude.{_≡_, ap, _∙_, true, false, List, ℕ, suc, arith, ne-eqb}
@@ -61,7 +61,7 @@ module _ (d : Defaults) (x : Terminal) (q : Request) (h : soundTerminal x ≡ tr
 
 -- ---- the round
 
--- what a record leaves where the round stood at a seat that the tables do not hold: anew once a row comes or goes
+-- what a record leaves where the round stood at a seat that the tables do not hold: again once a row comes or goes
 pub not-revived : (d : Defaults) (x : Terminal) (q : Request) → soundTerminal x ≡ true → validRound (seats (x .tables)) (roundOf (x .queue)) ≡ anew
     → sameSeats (seats (x .tables)) (seats (tablesAfter d (x .tables) q)) ≡ false → clears d (x .tables) q ≡ false
     → roundOf (judged d x q .terminal .queue) ≡ anew

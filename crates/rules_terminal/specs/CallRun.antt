@@ -1,5 +1,5 @@
 -- A run of calls: what each call gave, and which calls a run is made of. The theorems over any calls suppose `Built` and nothing else:
--- each call meets the contract of `hand_in`, `take` or `judge`, and of `payload` beside the last two, on what was handed back last.
+-- each call meets the contract of `hand_in`, `take` or `judge`, and of `payload` beside the last two, on what was returned last.
 use Prim.Native.Nat.{ℕ}
 use lib.Dec.{eqb}
 use lib.ListN.{length, take}
@@ -16,7 +16,7 @@ use Rattle.rules_terminal.specs.Terminal.{Terminal, terminal, Transition
 
 -- ---- what the calls of a run gave
 
--- a call's judgement and the memory that it left; of a take and of a record judged at once also the buffer as it was lent and as it was left,
+-- a call's judgement and the memory that it left; of a take and of a record judged directly also the buffer as it was passed in and as it was left,
 -- and the payload; of a take also the record
 pub record Call : Type 0 where
   pub judgement : Result
@@ -38,11 +38,11 @@ responseOf c = record {
   links = c .judgement .links;
 }
 
--- the record that a take handed out
+-- the record that a take gave out
 abbrev pub recordGiven : Call → List ℕ
 recordGiven c = take (c .size) (c .bytes)
 
--- a buffer of the length that was lent, and the payload as the part of the record r that the call's judgement names
+-- a buffer of the length that was passed in, and the payload as the part of the record r that the call's judgement names
 pub record Lends (capacity : ℕ) (r : List ℕ) (c : Call) : Type 0 where
   pub sized : length (c .lent) ≡ capacity
   pub passes : c .payload ≡ payloadPart (c .judgement .payload) r
@@ -55,23 +55,23 @@ Meets d x (takeAt clock capacity) c =
     × Lends capacity (recordGiven c) c
 Meets d x (direct q) c = Judges d x q (c .judgement) (c .lent) (c .queue) (c .buffer) × Lends (q .capacity) (q .bytes) c
 
--- the terminal that a call hands back
+-- the terminal that a call returns
 abbrev pub left : Call → Terminal
 left c = terminal (c .judgement .tables) (c .queue)
 
--- the first call on the terminal x, and each later one on what was handed back last
+-- the first call on the terminal x, and each later one on what was returned last
 abbrev pub Built : Defaults → Terminal → List Input → List Call → Type 0
 Built d x [] [] = Unit {0}
 Built d x [] (c ∷ cs) = ⊥
 Built d x (i ∷ is) [] = ⊥
 Built d x (i ∷ is) (c ∷ cs) = Meets d x i c × Built d (left c) is cs
 
--- what was handed back last
+-- what was returned last
 abbrev pub handedBack : Terminal → List Call → Terminal
 handedBack x [] = x
 handedBack x (c ∷ cs) = handedBack (left c) cs
 
--- ---- the records judged, as the calls show them: a take answered with 1 or 27 has none, nor has a record judged at once that gets 1
+-- ---- the records judged, as the calls show them: a take answered with 1 or 27 has none, nor has a record judged directly that gets 1
 
 abbrev pub turnOf : Input → Call → List Turn
 turnOf (handIn r) c = []

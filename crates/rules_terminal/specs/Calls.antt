@@ -24,7 +24,7 @@ pub record Takes (d : Defaults) (x : Terminal) (clock : Clock) (capacity : Size)
   pub hands : h ≡ handedOut (taken d x clock capacity)
   pub leaves : Leaves (taken d x clock capacity) lent queue buffer
 
--- a record is judged at once
+-- a record is judged directly
 pub record Judges (d : Defaults) (x : Terminal) (q : Request) (s : Result) (lent queue buffer : Bytes) : Type 0 where
   pub says : s ≡ transitionResult (judged d x q)
   pub leaves : Leaves (judged d x q) lent queue buffer

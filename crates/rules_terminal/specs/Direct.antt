@@ -1,4 +1,4 @@
--- Records that are judged at once, beside memory that is sound where the tables are.
+-- Records that are judged directly, with memory that is sound where the tables are.
 use mathlib.Core.Bool.{true}
 use mathlib.Core.Path.{_≡_}
 use Rattle.rules.specs.Defaults.{Defaults}

@@ -1,4 +1,4 @@
--- A run of hand-ins and takes, with records that are judged at once among them: what is judged, in order, and what the book of 01 is fed.
+-- A run of hand-ins and takes, with records that are judged directly among them: what is judged, in order, and what the book of 01 is fed.
 use Prim.Native.Nat.{ℕ, suc, _+_}
 use mathlib.Core.Path.{_≡_}
 use mathlib.Core.Bool.{Bool, true, false, not, _&&_, cond}
@@ -18,7 +18,7 @@ use Rattle.rules_terminal.specs.Round.{seats, orphaned}
 use Rattle.rules_terminal.specs.Terminal.{Terminal, Transition, handInChecks, handedIn, clears, takeChecks, turn, due, taken, directChecks, judged}
 use Rattle.rules.specs.Types.{Bytes, Clock, Size}
 
--- a record is handed in; a take at a clock, with a reply buffer of a length; a record is judged at once
+-- a record is handed in; a take at a clock, with a reply buffer of a length; a record is judged directly
 pub data Input : Type 0 where
   handIn : Bytes → Input
   takeAt : Clock → Size → Input
@@ -64,7 +64,7 @@ judgedAt d x (handIn r) = []
 judgedAt d x (takeAt clock capacity) = turnIf d x (received clock (due x) capacity) (verdict (takeChecks x))
 judgedAt d x (direct q) = turnIf d x q (verdict (directChecks x))
 
--- and with them those judged at once: of hand-ins and takes alone, the records taken
+-- and with them those judged directly: of hand-ins and takes alone, the records taken
 abbrev pub allJudged : Defaults → Terminal → List Input → List Turn
 allJudged d = collected (next d) (judgedAt d)
 
@@ -81,7 +81,7 @@ bytesOf turn = turn .request .bytes
 abbrev pub othersTurn : (Sender → Bool) → Turn → Bool
 othersTurn chosen turn = not (chosen (sender (bytesOf turn)))
 
--- no record is judged at once
+-- no record is judged directly
 abbrev pub noneDirect : List Input → Bool
 noneDirect [] = true
 noneDirect (handIn r ∷ is) = noneDirect is

@@ -22,7 +22,7 @@ module _ (d : Defaults) (chosen : Sender → Bool) where
   Premises x us = soundTerminal x ≡ true → Along (tablesAfter d) (Premise chosen) (x .tables) (map requestOf us)
 
   -- these turns were told what the book answers: numbers, permissions, payloads, replies, places and
-  -- links; and the tables at the end are the book's but for the chosen partners' asserted roles
+  -- links; and the tables at the end are the book's except for the chosen partners' asserted roles
   abbrev pub AsTheBook : Terminal → List Turn → Tables → Type 0
   AsTheBook x us end =
       (map turnResponse us ≡ replies (responseTo d) (tablesAfter d) (x .tables) (map requestOf us))

@@ -57,7 +57,7 @@ sameSeats (seat ∷ seats) (other ∷ others) = same seat other && sameSeats sea
 unfoldable pub orphaned : List Seat → Row → Bool
 orphaned seats slot = not (isSeat seats (take 2 slot))
 
--- the round, or anew if its seat is none of these
+-- the round, or again if its seat is none of these
 abbrev pub validRound : List Seat → Round → Round
 validRound seats anew = anew
 validRound seats (afterSeat seat) = cond (isSeat seats seat) (afterSeat seat) anew

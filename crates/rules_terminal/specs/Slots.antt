@@ -1,6 +1,6 @@
 -- The queue of waiting records, in the caller's memory next to the tables: how many wait, the round, and a slot for each record.
 -- Bytes: the count (8), the round (24), and 25 slots. A slot: the sender's credential number (16, 0 for
--- unauthenticated senders), the record's length (16), 256 bytes of record with zeros behind it.
+-- unauthenticated senders), the record's length (16), 256 bytes of record with zeros after it.
 -- A seat is what the paper calls the place of a waiting record: the two bytes of that number.
 use Prim.Native.Nat.{_+_, _-_, _*_, min}
 use mathlib.Core.Bool.{cond}
@@ -38,7 +38,7 @@ queueSize = 4 + slotsSize
 unfoldable pub seatOf : Bytes → Seat
 seatOf r = be16 (credential r)
 
--- the record and zeros behind it, 256 bytes in all
+-- the record and zeros after it, 256 bytes in all
 unfoldable pub padded : Bytes → Bytes
 padded r = r ++ replicate (256 - length r) 0
 
@@ -52,7 +52,7 @@ recordOf slot = take (bits (drop 2 slot) 0 16) (drop 4 slot)
 
 -- ---- the queue
 
--- where the round stands: it begins anew, or a seat was taken last
+-- where the round is: it starts over, or a seat was taken last
 pub data Round : Type 0 where
   anew : Round
   afterSeat : Seat → Round
@@ -72,6 +72,6 @@ waiting queue = rowsOf slotSize (min (getD queue 0 0) queueCapacity) (drop 4 que
 unfoldable pub queueOf : Round → List Row → Queue
 queueOf round slots = length slots ∷ (roundBytes round ++ packed slotsSize slots)
 
--- no record waits, and the round begins anew
+-- no record waits, and the round starts over
 abbrev pub emptyQueue : Queue
 emptyQueue = replicate queueSize 0

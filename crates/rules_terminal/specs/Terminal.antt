@@ -1,4 +1,4 @@
--- The terminal: the tables and the queue. One soundness of both, for hand-ins, takes and records that are judged at once.
+-- The terminal: the tables and the queue. One soundness of both, for hand-ins, takes and records that are judged directly.
 use Prim.Native.Nat.{_*_, ℕ}
 use mathlib.Core.Path.{_≡_}
 use mathlib.Core.Bool.{Bool, false, not, _&&_, cond}
@@ -62,7 +62,7 @@ clearedTerminal d x = freshTerminal d
 -- ---- the response, and the terminal afterwards
 
 pub record Transition : Type 0 where
-  -- the record that a take hands out; none otherwise
+  -- the record that a take gives out; none otherwise
   pub bytes : Bytes
   pub response : Response
   pub terminal : Terminal
@@ -136,13 +136,13 @@ takeOf d x q (Refuse n) = numberTransition n x
 unfoldable pub taken : Defaults → Terminal → Clock → Size → Transition
 taken d x clock capacity = takeOf d x (received clock (due x) capacity) (verdict (takeChecks x))
 
--- a take that judges hands out the record due; its sender is told its outcome, and the tables are its outcome's
+-- a take that judges gives out the record due; its sender is told its outcome, and the tables are its outcome's
 pub record OutcomeOfDue (d : Defaults) (x : Terminal) (clock capacity : ℕ) : Type 0 where
   pub handed : taken d x clock capacity .bytes ≡ due x
   pub response : taken d x clock capacity .response ≡ responseTo d (x .tables) (received clock (due x) capacity)
   pub tables : taken d x clock capacity .terminal .tables ≡ tablesAfter d (x .tables) (received clock (due x) capacity)
 
--- ---- a record that is judged at once
+-- ---- a record that is judged directly
 
 -- 1; the others are those of the outcome
 abbrev pub directChecks : Terminal → Checklist
@@ -155,12 +155,12 @@ directOf d x q (Refuse n) = numberTransition n x
 unfoldable pub judged : Defaults → Terminal → Request → Transition
 judged d x q = directOf d x q (verdict (directChecks x))
 
--- ---- for contracts: what code hands back. The reply's bytes stand in the lent buffer, and the payload is a part of the record
+-- ---- for contracts: what code returns. The reply's bytes are in the caller's buffer, and the payload is a part of the record
 
 abbrev pub transitionResult : Transition → Result
 transitionResult a = resultOf (record { response = a .response; tables = a .terminal .tables })
 
--- of a take: with it the record, and zeros behind it
+-- of a take: with it the record, and zeros after it
 pub record HandedOut : Type 0 where
   pub judgement : Result
   pub size : Size

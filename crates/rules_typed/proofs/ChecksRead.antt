@@ -1,4 +1,4 @@
--- Theorem: beside sound tables a record that passes 2 to 6 gets the typed checks' verdict on what is read.
+-- Theorem: with sound tables a record that passes 2 to 6 gets the typed checks' verdict on what is read.
 use Rattle.rows.proofs.Prelude.{_≡_, refl, sym, ap, _∙_, Bool, true, not, _&&_, _||_, cond, List, [], _∷_, map, ℕ, _≤_, arith, length, eqb, ltb, bool-cases}
 use Rattle.rows.proofs.Prelude.{length-map, length-drop, or-false, _++_, ap₂}
 use Rattle.rows.specs.Rows.{Row, some, numberedAs}

@@ -38,7 +38,7 @@ use Rattle.rules_typed.specs.Directory.{numberOf, rowOf, links}
 abbrev pub form : List ℕ → List (ℕ × Bool)
 form r = headerChecks (length r) (headerOf r)
 
--- beside sound tables: 2 to 6, and the others
+-- with sound tables: 2 to 6, and the others
 pub two-parts : (t : ByteTables) → Given t → (p : ℕ) (q : ByteRequest) → verdict (checksBytes t p q) ≡ verdict (form (q .bytes) ++ fromSeven t p q)
 unfolding verdict actionBytes
 two-parts t g p q = rw (g .isSound)

@@ -54,7 +54,7 @@ module _ {A : Type 0} where
   without passes [] = []
   without passes (x ∷ xs) = cond (passes x) (without passes xs) (x ∷ without passes xs)
 
-  -- a new element in the place of the first that passes, else at the end
+  -- a new element instead of the first that passes, else at the end
   unfoldable pub put : (A → Bool) → A → List A → List A
   put passes new [] = new ∷ []
   put passes new (x ∷ xs) = cond (passes x) (new ∷ xs) (x ∷ put passes new xs)

@@ -153,7 +153,7 @@ unfoldable pub readAll : {A : Type 0} → (Bytes → Maybe A) → List Bytes →
 readAll read [] = just []
 readAll read (w ∷ ws) = followed (read w) (readAll read ws)
 
--- whole rows of so many bytes
+-- whole rows of that many bytes
 unfoldable pub readRows : {A : Type 0} → ℕ → (Bytes → Maybe A) → Bytes → Maybe (List A)
 readRows size read b = cond (eqb (length b % size) 0) (readAll read (rowsOf size (length b / size) b)) none
 

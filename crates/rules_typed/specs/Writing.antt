@@ -88,7 +88,7 @@ subjectBytes (IsConnection c) = replicate 15 0 ++ (connectionNumber c ∷ [])
 unfoldable pub inSet : (Resource → Bool) → ℕ → Bool
 inSet set n = holds (resourceOf n) set
 
--- a bit for each of so many numbers, the first on top
+-- a bit for each of that many numbers, the first on top
 unfoldable pub bitsFrom : (Resource → Bool) → ℕ → ℕ → ℕ
 bitsFrom set start zero = 0
 bitsFrom set start (suc n) = bitsFrom set start n * 2 + flag (inSet set (start + n))

@@ -68,7 +68,7 @@ fn sum(bytes: &[u8]) -> u8
 }
 
 // Whether a store of this length is one for images of n bytes.
-// Rules out: a store that is too long; one whose length is right but for an overflow.
+// Rules out: a store that is too long; one whose length is right except for an overflow.
 pub fn fits(length: usize, n: usize) -> bool
     ensures { λ r. ⌜ r ≡ eqb length (sizeFor n) ⌝ }
 {

@@ -1,4 +1,4 @@
--- Laws of a take, as the code does it: nothing taken, or the record that is due, handed out and judged, and its seat left.
+-- Laws of a take, as the code does it: nothing taken, or the record that is due, given out and judged, and its seat left.
 use Rattle.rows.proofs.Prelude.{_≡_, sym, ap, _∙_, true, false, List, ℕ, _≤_, length, take, replicate, eqb}
 use Rattle.rows.specs.Rows.{Row, hasKey, every, without, distinctNumbers}
 use Rattle.rows.proofs.Kept.{every-without, distinct-without}

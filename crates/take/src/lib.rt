@@ -1,5 +1,5 @@
-// The take: the record whose turn it is, handed out by value and judged.
-// It asks nothing of its caller. The head of the tables comes and goes by value, the rows are changed in the bytes that are lent.
+// The take: the record whose turn it is, given out by value and judged.
+// It asks nothing of its caller. The head of the tables comes and goes by value, the rows are changed in the bytes that are passed in.
 use check_waiting::check_terminal;
 use decision::decide;
 use execute::execute_queued;

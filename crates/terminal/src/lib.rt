@@ -71,7 +71,7 @@ pub extern "C" fn tillerclover_clear_at(
 }
 
 // Whether the terminal is sound: 1, or else 0.
-// Rules out: the tables alone looked at; 1 of a terminal that answers each record with 1.
+// Rules out: only the tables looked at; 1 of a terminal that answers each record with 1.
 #[no_mangle]
 pub extern "C" fn tillerclover_is_sound_at<'a>(
     counts: &[u8; 4],
@@ -92,8 +92,8 @@ pub extern "C" fn tillerclover_is_sound_at<'a>(
 }
 
 // Judges a record at once.
-// Rules out: the payload of a refused record; a byte of the tables or of what waits changed on a refusal; a byte of the
-// buffer changed behind the reply; a record that outlives its credential row.
+// Rules out: the payload of a refused record; a byte of the tables or of the queue changed on a refusal; a byte of the
+// buffer changed after the reply; a record that outlives its credential row.
 #[no_mangle]
 pub extern "C" fn tillerclover_judge_at(
     counts: &mut [u8; 4],
@@ -131,7 +131,7 @@ pub extern "C" fn tillerclover_judge_at(
 }
 
 // Hands a record in. The tables are read alone.
-// Rules out: a payload, or a permission, of a record that is only kept; a byte of what waits changed on a refusal.
+// Rules out: a payload, or a permission, of a record that is only kept; a byte of the queue changed on a refusal.
 #[no_mangle]
 pub extern "C" fn tillerclover_hand_in_at<'a>(
     counts: &[u8; 4],

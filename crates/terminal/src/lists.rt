@@ -40,7 +40,7 @@ pub extern "C" fn tillerclover_test_list_at(rows: &[u8], words: &mut [u64; 2])
 }
 
 // An access list of an older terminal as access rows.
-// Rules out: a byte written on 23, 24 or 25; a byte changed behind the rows; a length that is not that of the rows.
+// Rules out: a byte written on 23, 24 or 25; a byte changed after the rows; a length that is not that of the rows.
 #[no_mangle]
 pub extern "C" fn tillerclover_convert_list_at(file: &[u8], rows: &mut [u8], words: &mut [u64; 2])
     ensures { λ _. ⌜ ConvertsAt (was file) (became words) (was rows) (became rows) ⌝ }

@@ -40,7 +40,7 @@ written-then (b ∷ o) zero (x ∷ s) t (suc k) e = ap (λ (l : List ℕ). x ∷
 written-then (b ∷ o) (suc at) s t zero e = absurd (omega arith)
 written-then (b ∷ o) (suc at) s t (suc k) e = ap (λ (l : List ℕ). b ∷ l) (written-then o at s t k (omega arith))
 
--- a text that fits stands at the start, and after it what stood there
+-- a text that fits is at the start, and after it what stood there
 pub written-start : (o s : List ℕ) → length s ≤ length o → written o 0 s ≡ s ++ drop (length s) o
 unfolding written
 written-start [] [] h = refl
@@ -91,7 +91,7 @@ puts-over {o} {o₁} {at} {p} {r} n t b h f q e =
 pub counts : (r : ℕ) (o : List ℕ) → r ≤ length o → Counts r o
 counts r o h = (h, sym (length-take-le r o h))
 
--- ---- on the way: of the whole text that is to stand from `at` on, `rest` is still to be put, at p
+-- ---- on the way: of the whole text that is to be from `at` on, `rest` is still to be put, at p
 pub record Writing (o : List ℕ) (at : ℕ) (whole rest out : List ℕ) (p : ℕ) : Type 0 where
   pub bound : length o ≤ largest
   pub done : List ℕ

@@ -1,5 +1,5 @@
 -- Texts as lists of bytes: a text as it is printed, and a number in decimal.
--- Definitions that contracts cite use these, so that the paper's words stand in them as they are.
+-- Definitions that contracts cite use these, so that the paper's words are in them as they are.
 use mathlib.Core.Bool.{cond}
 use mathlib.Core.List.{List, [], _∷_, _++_}
 use Prim.Native.Nat.{ℕ, zero, suc, _+_, _/_, _%_}
@@ -20,7 +20,7 @@ ascii (c ∷ˢ s) = code c ∷ ascii s
 abbrev pub lastDigit : ℕ → ℕ
 lastDigit n = 48 + n % 10
 
--- below ten its one digit; from ten on the digits of its tenth and then its last; in at most so many steps
+-- below ten its one digit; from ten on the digits of its tenth and then its last; in at most that many steps
 unfoldable pub decimalIn : ℕ → ℕ → Text
 decimalIn zero n = lastDigit n ∷ []
 decimalIn (suc steps) n = cond (ltb n 10) (lastDigit n ∷ []) (decimalIn steps (n / 10) ++ lastDigit n ∷ [])

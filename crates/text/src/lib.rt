@@ -1,4 +1,4 @@
-// Writing bytes, fixed texts and decimal numbers into a lent buffer at a position.
+// Writing bytes, fixed texts and decimal numbers into a caller's buffer at a position.
 // No function has a `requires`: a byte past the buffer's end is not written, and the position goes on, so an empty buffer measures.
 pub mod direct;
 
@@ -37,7 +37,7 @@ fn copy(out: &mut [u8], at: usize, text: &[u8]) -> usize
     p
 }
 
-// The position so many bytes further. The largest position stays where it is.
+// The position that many bytes further. The largest position stays where it is.
 fn advance(at: usize, count: usize) -> usize
     ensures { λ r. ⌜ r ≡ min (at + count) largest ⌝ }
 {
@@ -49,7 +49,7 @@ fn advance(at: usize, count: usize) -> usize
 }
 
 // A text. Past the buffer's end nothing is written; of a text over the end the part that fits is put, and the position goes on.
-// It calls itself, one deep, so it stands in the code once: crate `reply`, which must be fast, has `direct::put`.
+// It calls itself, one deep, so it is in the code once: crate `reply`, which must be fast, has `direct::put`.
 // Rules out: a text cut one byte early; bytes before the position touched.
 pub fn put(out: &mut [u8], at: usize, text: &[u8]) -> usize
     ensures { λ r. ⌜ Puts (was out) at (was text) (became out) r ⌝ }
@@ -79,7 +79,7 @@ pub fn put_decimal(out: &mut [u8], at: usize, n: usize) -> usize
     put_byte(out, p, digit)
 }
 
-// How many bytes stand in the buffer of a text that was put from its start and ends at a position.
+// How many bytes are in the buffer of a text that was put from its start and ends at a position.
 // Rules out: a count that goes past the buffer; 0 where the text is cut.
 pub fn within(out: &[u8], at: usize) -> usize
     ensures { λ r. ⌜ r ≡ min at (length (was out)) ⌝ }

@@ -1,6 +1,6 @@
 // Judges the records of vectors.bin, which the second model wrote, and compares what comes of each.
-// The file's form stands in model/src/vectors.rs: tables to take, records with their outcome, tables that
-// must be reached, default lists, lists to load, older lists, what waits, hand-ins and takes.
+// The file's form is in model/src/vectors.rs: tables to take, records with their outcome, tables that
+// must be reached, default lists, lists to load, older lists, the queue, hand-ins and takes.
 use fields::be16;
 use fields::be32;
 use fields::skip;
@@ -46,13 +46,13 @@ impl Tag {
     const TAKE: u8 = 9;
 }
 
-// What is said of a record, in words, and the tables afterwards.
+// What is reported of a record, in words, and the tables afterwards.
 struct Told {
     words: [u64; 9],
     tables: Tables,
 }
 
-// With it the record that a take hands out.
+// With it the record that a take gives out.
 struct Turn {
     told: Told,
     size: u64,
@@ -63,7 +63,7 @@ struct Turn {
 struct Progress {
     tables: Tables,
     queue: [u8; QUEUE],
-    // where the entry stands, and the last one with default lists
+    // where the entry is, and the last one with default lists
     at: usize,
     lists: usize,
     entry: u64,
@@ -202,7 +202,7 @@ fn older_size(s: &[u8]) -> usize {
     8 + length + made
 }
 
-// Tag, length and bytes of what waits.
+// Tag, length and bytes of the queue.
 fn memory_size(s: &[u8]) -> usize {
     3 + be16(skip(s, 1)) as usize
 }
@@ -243,7 +243,7 @@ fn listed(p: Progress) -> Progress {
     next
 }
 
-// Goes on behind an entry of this size.
+// Goes on after an entry of this size.
 fn moved(p: Progress, size: usize) -> Progress {
     let mut next = p;
     next.at = if p.at <= usize::MAX - size {
@@ -288,7 +288,7 @@ fn reached(p: Progress, bytes: &[u8]) -> Progress {
     }
 }
 
-// Tests the list behind its length, and compares what is said of it with what follows.
+// Tests the list after its length, and compares what is reported of it with what follows.
 fn tested(p: Progress, s: &[u8]) -> Progress {
     let length = be16(s) as usize;
     let expected = skip(skip(s, 2), length);
@@ -302,7 +302,7 @@ fn tested(p: Progress, s: &[u8]) -> Progress {
     }
 }
 
-// Converts the older list behind its length with a buffer of the room behind it, and compares the result with the one that follows.
+// Converts the older list after its length with a buffer of the room after it, and compares the result with the one that follows.
 fn converted(p: Progress, s: &[u8]) -> Progress {
     let length = be16(s) as usize;
     let behind = skip(skip(s, 2), length);
@@ -325,7 +325,7 @@ fn convert_within(file: &[u8], buffer: &mut [u8], capacity: usize) -> Converted 
     list_convert::convert(file, &mut buffer[..n])
 }
 
-// Goes on with the memory that begins with the bytes behind their length.
+// Goes on with the memory that begins with the bytes after their length.
 fn lent(p: Progress, s: &[u8]) -> Progress {
     let queue = memory_of(s);
     let mut next = p;
@@ -333,7 +333,7 @@ fn lent(p: Progress, s: &[u8]) -> Progress {
     next
 }
 
-// Compares what waits with the bytes behind their length.
+// Compares the queue with the bytes after their length.
 fn kept(p: Progress, s: &[u8]) -> Progress {
     let queue = p.queue;
     let expected = memory_of(s);
@@ -344,14 +344,14 @@ fn kept(p: Progress, s: &[u8]) -> Progress {
     }
 }
 
-// Zeros stand behind the bytes.
+// Zeros are after the bytes.
 fn memory_of(s: &[u8]) -> [u8; QUEUE] {
     let mut queue = [0u8; QUEUE];
     text::put(&mut queue, 0, part(s, 2, be16(s) as usize));
     queue
 }
 
-// Hands the record behind its length in, and compares the answer; nothing else is said of it, and the tables stay.
+// Hands the record after its length in, and compares the answer; nothing else is reported of it, and the tables stay.
 fn handed_in(p: Progress, s: &[u8]) -> Progress {
     let length = be16(s) as usize;
     let mut queue = p.queue;
@@ -375,7 +375,7 @@ fn handed_in(p: Progress, s: &[u8]) -> Progress {
     }
 }
 
-// Takes at the clock with a buffer of the room behind it, and compares the outcome and the record with those that follow.
+// Takes at the clock with a buffer of the room after it, and compares the outcome and the record with those that follow.
 fn taken_turn(p: Progress, s: &[u8], lists: &[u8]) -> Progress {
     let expected = skip(s, 6);
     let mut buffer = [165u8; 1300];
@@ -468,7 +468,7 @@ fn take(
     }
 }
 
-// Whether the record taken is the one behind its length, with zeros behind it.
+// Whether the record taken is the one after its length, with zeros after it.
 fn same_record(u: Turn, expected: &[u8]) -> bool {
     let record = part(expected, 2, be16(expected) as usize);
     let mut filled = [0u8; 256];
@@ -476,7 +476,7 @@ fn same_record(u: Turn, expected: &[u8]) -> bool {
     (u.size == record.len() as u64) & rows::same_bytes(&u.bytes, &filled)
 }
 
-// Judges the record behind its clock and its length with a buffer of the room behind it, and compares the outcome with the one that follows.
+// Judges the record after its clock and its length with a buffer of the room after it, and compares the outcome with the one that follows.
 fn judged(p: Progress, s: &[u8], lists: &[u8]) -> Progress {
     let length = be16(skip(s, 4)) as usize;
     let record = part(s, 6, length);
@@ -563,7 +563,7 @@ fn judge(
     }
 }
 
-// Hands a record in beside these tables: what is said, in words.
+// Hands a record in with these tables: what is reported, in words.
 fn hand_in(t: Tables, queue: &mut [u8; QUEUE], record: &[u8]) -> [u64; 9] {
     let counts = counts_of(t);
     let devowner = t.devowner;
@@ -605,12 +605,12 @@ fn tables_with(
     }
 }
 
-// Whether the reply is the one behind its length, the places and the links, and the buffer is as before behind it.
+// Whether the reply is the one after its length, the places and the links, and the buffer is as before after it.
 fn same_reply(length: u64, buffer: &[u8], expected: &[u8]) -> bool {
     same_filled(length, buffer, part(expected, 13, be16(expected) as usize))
 }
 
-// Whether so many bytes are those of the result, and the buffer is as before behind them.
+// Whether that many bytes are those of the result, and the buffer is as before after them.
 fn same_filled(length: u64, buffer: &[u8], result: &[u8]) -> bool {
     let mut filled = [165u8; 1300];
     text::put(&mut filled, 0, result);
@@ -631,7 +631,7 @@ fn same_links(words: &[u64; 9], expected: &[u8]) -> bool {
         & (words[8] == byte_at(expected, 8) as u64)
 }
 
-// Whether what is said is what these bytes say: answer, permission, the payload's offset and its length.
+// Whether what is reported is what these bytes say: answer, permission, the payload's offset and its length.
 fn same_outcome(words: &[u64; 9], expected: &[u8]) -> bool {
     (words[0] == byte_at(expected, 0) as u64)
         & (words[1] == byte_at(expected, 1) as u64)

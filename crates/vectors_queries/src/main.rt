@@ -1,5 +1,5 @@
 // Puts the queries of queries.bin, which the second model wrote, to the library, and compares the answers.
-// The file's form stands in model/src/queries.rs: tables and lists of senders; stores and images, steps, whole runs and current images.
+// The file's form is in model/src/queries.rs: tables and lists of senders; stores and images, steps, whole runs and current images.
 use fields::be16;
 use fields::be32;
 use fields::skip;
@@ -154,7 +154,7 @@ fn answered(p: Progress, tag: u8, s: &[u8], tables: &[u8], store: &[u8], image: 
     }
 }
 
-// Asks whether the senders behind reason, entry and row are isolated.
+// Asks whether the senders after reason, entry and row are isolated.
 fn asked(p: Progress, s: &[u8], tables: &[u8]) -> Progress {
     let t = tables_of(tables);
     let creds = t.creds;
@@ -213,7 +213,7 @@ fn same_step(w: Write, expected: &[u8]) -> bool {
         & (w.byte == byte_at(expected, 3))
 }
 
-// Asks where the current image of so many bytes starts.
+// Asks where the current image of that many bytes starts.
 fn located(p: Progress, s: &[u8], store: &[u8]) -> Progress {
     let n = be64(s);
     let mut next = p;

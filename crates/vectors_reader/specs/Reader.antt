@@ -1,5 +1,5 @@
 -- Tables as a file of test vectors has them: the fields of the head one after the other, then the rows of either kind.
--- Rows stand after their length (16 bits), without the zeros after them. Any bytes are tables.
+-- Rows are after their length (16 bits), without the zeros after them. Any bytes are tables.
 use lib.ListN.{take, drop, getD, replicate}
 use Rattle.text.specs.Buffer.{written}
 use Rattle.rules.specs.declared.Tables.{Tables}
@@ -12,7 +12,7 @@ use Rattle.rules.specs.Types.{Bytes, Size}
 abbrev pub padded : Size → Bytes → Bytes
 padded size bytes = written (replicate size 0) 0 bytes
 
--- the length before the bytes, and so many of them
+-- the length before the bytes, and that many of them
 abbrev pub counted : Bytes → Bytes
 counted bytes = take (bits bytes 0 16) (drop 2 bytes)
 

@@ -50,7 +50,7 @@ fn a_difference_shrinks_to_little() {
 
 #[test]
 fn a_pair_of_rows_shrinks_to_both() {
-    // A program that looks for the number in the row before alone.
+    // A program that looks for the number in only the row before.
     let wrong = |list: &[u8]| {
         let rows: Vec<&[u8]> = list.chunks(ROW).collect();
         match test(list) {

@@ -78,7 +78,7 @@ fn bytes_past_the_longest_run() {
     // Crosses the end by one.
     let crossing = filler(RUN_MAX - 5);
     assert_eq!(text(&crossing), "n answer perm state\ncut\n");
-    // So many bytes of the second clock and length are inside.
+    // That many bytes of the second clock and length are inside.
     for inside in 1..6 {
         let mut cut = filler(RUN_MAX - 6 - inside);
         cut.extend(filler(9));

@@ -23,7 +23,7 @@ pub enum Mutant {
     Rows(&'static str, fn(&mut Vec<Access>)),
     /// It writes roles otherwise.
     Roles(&'static str, fn(Role) -> String),
-    /// It writes one piece in the place of another: first the right one.
+    /// It writes one piece instead of another: first the right one.
     Replace(&'static str, &'static str, &'static str),
 }
 
@@ -62,7 +62,7 @@ fn untouched(answer: u8, case: &Case) -> Listed {
     Listed { answer, length: 0, buffer: Case::pattern(case.capacity + GUARD) }
 }
 
-/// Another text in the place of the right one, or the refusal when it does not fit.
+/// Another text instead of the right one, or the refusal when it does not fit.
 fn other_text(case: &Case, right: Listed, other: impl Fn(Vec<Access>) -> String) -> Listed {
     let Ok(tables) = Tables::read(&case.tables) else {
         return right;

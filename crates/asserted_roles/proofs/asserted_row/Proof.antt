@@ -1,4 +1,4 @@
--- `asserted_row`: the body, the roles, and zeros behind them.
+-- `asserted_row`: the body, the roles, and zeros after them.
 use Rattle.asserted_roles.proofs.SlotBytes.{row-is}
 use borrow.Author.Needs.{needs}
 use Rattle.asserted_roles.proofs.asserted_row.Tie as tie

@@ -1,4 +1,4 @@
--- `execute`: the record passed every check, so what is said and the tables are the outcome's.
+-- `execute`: the record passed every check, so what is reported and the tables are the outcome's.
 use Rattle.rows.proofs.Prelude.{refl, ap, _∙_, List, ℕ, length, now, needs}
 use Rattle.text.proofs.Buffers.{puts-length}
 use Rattle.rules.specs.declared.Tables.{Tables}

@@ -15,7 +15,7 @@ Inv-loop aces count cred connection i₀ i =
 abbrev μ-loop : tie.MeasureT-loop
 μ-loop aces count cred connection i₀ i = count - i
 
--- what is said of row i
+-- what is reported of row i
 told : (c : tie.After-lets-alter Inv-loop μ-loop) → let l = c .before .before .before in let a = l .before .before .before .args in
     c .lets-alter .result ≡ letsAlter (now (a .cred)) (a .connection) (take aceRowSize (drop (l .loop .i * aceRowSize) (now (a .aces))))
 told c =

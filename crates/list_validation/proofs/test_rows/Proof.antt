@@ -1,4 +1,4 @@
--- `test_rows`. The loop's invariant: the first `i` rows have no fault, so that what is said of the list is said of the rest behind them.
+-- `test_rows`. The loop's invariant: the first `i` rows have no fault, so that what is reported of the list is reported of the rest after them.
 use Rattle.rows.proofs.Prelude.{_≡_, sym, ap, _∙_, _-_, _*_, arith, take, drop, eqb, needs}
 use Rattle.rows.specs.Rows.{Row}
 use Rattle.rules.specs.Checks.{verdict}

@@ -5,7 +5,7 @@ use Rattle.rules_terminal.specs.Terminal.{Terminal, terminal}
 use Rattle.office_list.proofs.Ends.{not-sound, too-short, all-written}
 use Rattle.office_list.proofs.access_list.Tie as tie
 
--- the terminal that is lent
+-- the terminal that is passed in
 abbrev lent : tie.Start → Terminal
 lent s = terminal (tablesOf (s .args .h) (now (s .args .creds)) (now (s .args .aces))) (now (s .args .queue))
 

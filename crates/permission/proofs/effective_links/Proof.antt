@@ -1,4 +1,4 @@
--- `effective_links`: the access rows alone count, and of them those that there is room for.
+-- `effective_links`: only the access rows count, and of them those that there is room for.
 use borrow.Author.Needs.{needs}
 use Rattle.rules.specs.Tables.{rowsIn}
 use Rattle.permission.proofs.Application.{links-alone}

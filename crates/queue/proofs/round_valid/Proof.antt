@@ -1,4 +1,4 @@
--- `round_held`: it begins anew, or its seat is looked for.
+-- `round_held`: it starts over, or its seat is looked for.
 use Rattle.rows.proofs.Prelude.{ap, _∙_, length, getD, now, needs, eq-eqb, ne-eqb}
 use Rattle.rules_terminal.specs.Slots.{roundOf}
 use Rattle.rules_terminal.specs.Round.{isSeat}

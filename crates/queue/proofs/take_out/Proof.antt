@@ -1,4 +1,4 @@
--- `take_out`: in the part that is used; the zeros behind it stay.
+-- `take_out`: in the part that is used; the zeros after it stay.
 use Rattle.rows.proofs.Prelude.{sym, now, needs}
 use Rattle.queue.proofs.Laws.{used-long, used-rows, used-table, used-packed}
 use Rattle.queue.proofs.take_out.Tie as tie

@@ -1,4 +1,4 @@
--- `record_bytes`: all bytes behind the slot's head.
+-- `record_bytes`: all bytes after the slot's head.
 use Rattle.rows.proofs.Prelude.{refl, _∙_, _-_, length, take, drop, needs}
 use Rattle.rows.proofs.Laws.{take-rest}
 use Rattle.rules.proofs.TableLaws.{put-whole}

@@ -1,4 +1,4 @@
--- `rows_before`: where the last seat stands.
+-- `rows_before`: where the last seat is.
 use Rattle.rows.proofs.Prelude.{_≡_, sym, ap, _∙_, map, arith, take, needs}
 use Rattle.rows.specs.Rows.{rowsOf}
 use Rattle.rules.specs.declared.Table.the-variants.{Creds}

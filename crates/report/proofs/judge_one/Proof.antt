@@ -16,7 +16,7 @@ use Rattle.report.specs.Run.{lent}
 use Rattle.report.specs.Judged.{judgedAs}
 use Rattle.report.proofs.judge_one.Tie as tie
 
--- what a line needs of what is said
+-- what a line needs of what is reported
 abbrev told : Result → Judged
 told s = record { answer = s .answer; permission = s .permission; tables = s .tables }
 

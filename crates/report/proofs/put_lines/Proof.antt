@@ -15,7 +15,7 @@ Inv-loop out₀ at input p₀ t₀ rest₀ number₀ out p t rest number = Runni
 abbrev μ-loop : tie.MeasureT-loop
 μ-loop out₀ at input p₀ t₀ rest₀ number₀ out p t rest number = length rest
 
--- the length that the rest has behind its clock
+-- the length that the rest has after its clock
 long : (c : tie.After-be16 Inv-loop μ-loop) → c .be16 .result ≡ lengthOf (c .before .before .before .loop .rest .now)
 long c = rw (c .before .skip .ensures) at (c .be16 .ensures)
 

@@ -1,4 +1,4 @@
--- `put_row` meets its contract: the part from row i on is lent, and back with the row over its first bytes.
+-- `put_row` meets its contract: the part from row i on is passed in, and back with the row over its first bytes.
 -- Assumes nothing.
 use Rattle.rows.proofs.Prelude.{needs}
 use Rattle.rows.specs.Rows.{withRow}

@@ -1,4 +1,4 @@
--- `remove_row` meets its contract: the part from row i on is lent, and back with its first row taken out.
+-- `remove_row` meets its contract: the part from row i on is passed in, and back with its first row taken out.
 -- Assumes nothing.
 use Rattle.rows.proofs.Prelude.{needs}
 use Rattle.rows.specs.Contracts.{withoutRow}

@@ -1,4 +1,4 @@
--- `distinct`: none of the rows repeats a number where all stand before the first that does.
+-- `distinct`: none of the rows repeats a number where all are before the first that does.
 -- Assumes nothing.
 use borrow.Author.Needs.{needs}
 use Rattle.rows.proofs.Laws.{length-rowsOf}

@@ -1,4 +1,4 @@
--- `take`: nothing taken, or the record that is due, its seat left, turned away or carried out.
+-- `take`: nothing taken, or the record that is due, its seat left, refused or carried out.
 use Rattle.rows.proofs.Prelude.{_≡_, refl, sym, ap, ap₂, _∙_, true, false, List, ℕ, length, eqb, now, needs}
 use Rattle.rows.specs.Rows.{Row, hasKey, without}
 use Rattle.rules.specs.Record.{Request}

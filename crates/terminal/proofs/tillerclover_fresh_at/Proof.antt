@@ -1,4 +1,4 @@
--- `tillerclover_fresh_at`: rows, head and what waits, one after the other.
+-- `tillerclover_fresh_at`: rows, head and the queue, one after the other.
 use Rattle.rows.proofs.Prelude.{needs}
 use Rattle.rules_interface.proofs.Lent.{fresh-at}
 use Rattle.terminal.proofs.tillerclover_fresh_at.Tie as tie

@@ -1,4 +1,4 @@
--- `tillerclover_hand_in_at`: what is said of a hand-in, in words.
+-- `tillerclover_hand_in_at`: what is reported of a hand-in, in words.
 use Rattle.rows.proofs.Prelude.{needs}
 use Rattle.rules_interface.proofs.Lent.{hands-in-at}
 use Rattle.terminal.proofs.tillerclover_hand_in_at.Tie as tie

@@ -1,4 +1,4 @@
--- `tillerclover_judge_at`: what is judged, in the lent bytes.
+-- `tillerclover_judge_at`: what is judged, in the caller's bytes.
 use Rattle.rows.proofs.Prelude.{needs}
 use Rattle.rules_interface.proofs.Lent.{judges-at}
 use Rattle.terminal.proofs.tillerclover_judge_at.Tie as tie

@@ -1,4 +1,4 @@
--- `tillerclover_take_at`: what is taken, in the lent bytes.
+-- `tillerclover_take_at`: what is taken, in the caller's bytes.
 use Rattle.rows.proofs.Prelude.{refl, needs}
 use Rattle.rules_interface.proofs.Lent.{takes-at}
 use Rattle.terminal.proofs.tillerclover_take_at.Tie as tie

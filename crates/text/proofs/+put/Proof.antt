@@ -1,5 +1,5 @@
 -- `put` meets its contract, by the length of the text: a part that goes over the end is longer than what fits of it.
--- Past the end the position alone goes on; what fits is copied; the part that fits and the rest are the text.
+-- Past the end only the position goes on; what fits is copied; the part that fits and the rest are the text.
 use mathlib.Core.Path.{sym}
 use native.Mathlib.Omega.{arith}
 use borrow.Author.Needs.{needs}

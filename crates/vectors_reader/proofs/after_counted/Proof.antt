@@ -1,4 +1,4 @@
--- `after_counted`: what comes after so many bytes as the length says.
+-- `after_counted`: what comes after that many bytes as the length says.
 use Rattle.rows.proofs.Prelude.{needs}
 use Rattle.vectors_reader.proofs.after_counted.Tie as tie
 

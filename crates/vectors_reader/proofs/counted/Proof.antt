@@ -1,4 +1,4 @@
--- `counted`: the part, of the length that stands before it.
+-- `counted`: the part, of the length that is before it.
 use Rattle.rows.proofs.Prelude.{needs}
 use Rattle.vectors_reader.proofs.counted.Tie as tie
 

@@ -40,7 +40,7 @@ impl Rows {
     const FEW: Rows = Rows { name: "few", credentials: 1, accesses: 1 };
     const FULL: Rows = Rows::eighths(8);
 
-    /// So many eighths of either capacity.
+    /// That many eighths of either capacity.
     const fn eighths(part: usize) -> Rows {
         Rows {
             name: EIGHTHS[part],

@@ -57,7 +57,7 @@ fn nanoseconds(mut call: impl FnMut()) -> f64 {
 
 const LEVELS: u64 = 16;
 
-/// Calls so many frames further down: the system lets each run's stack begin elsewhere, and some places are slower.
+/// Calls that many frames further down: the system lets each run's stack begin elsewhere, and some places are slower.
 #[inline(never)]
 fn at_level(level: u64, call: &mut dyn FnMut()) {
     let frame = [0u8; 200];
@@ -71,7 +71,7 @@ fn at_level(level: u64, call: &mut dyn FnMut()) {
 
 const MIXED: usize = 1000;
 
-/// Records of random sessions, so that no branch always goes the same way. Each is judged at once, with nothing
+/// Records of random sessions, so that no branch always goes the same way. Each is judged directly, with nothing
 /// waiting.
 fn records() -> Vec<(Put, Given)> {
     let mut random = Random::new(1);

@@ -84,7 +84,7 @@ fn stored_rows_of_a_reply_are_the_same_rows() {
         for body in retrieve(&tables, ACL2, 0, 2000).response.reply[16..].chunks(36) {
             copy = after(&copy, &compose(Verb::Update, ACL2, 0, body));
         }
-        // But for the roles that partners have shown.
+        // Except for the roles that partners have shown.
         let bare = tables.credentials.iter().map(|row| Credential { asserted: Vec::new(), ..row.clone() });
         assert!(bare.eq(copy.credentials));
         assert_eq!(copy.accesses, tables.accesses);

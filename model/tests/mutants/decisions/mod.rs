@@ -169,7 +169,7 @@ fn row_of_mut<'a, R: Row>(rows: &'a mut [u8], body: &[u8]) -> Option<&'a mut [u8
     rows.chunks_exact_mut(R::ROW_SIZE).find(|row| row[NUMBER] == body[NUMBER])
 }
 
-/// What is right, but for tables that a mutant takes for sound once it has mended
+/// What is right, except for tables that a mutant takes for sound once it has mended
 /// some of their rows.
 fn mended<R: Row>(case: &Case, right: Seen, rows: RowsOf, mend: impl Fn(&mut [u8])) -> Seen {
     if right.answer != NOT_SOUND {

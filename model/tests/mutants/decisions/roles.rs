@@ -20,7 +20,7 @@ const UPDATE: u8 = Verb::Update as u8;
 const DELETE: u8 = Verb::Delete as u8;
 const OBSERVE: u8 = Verb::Observe as u8;
 
-/// Puts a role in the place of an equal one, or at the end.
+/// Puts a role instead of an equal one, or at the end.
 fn put(roles: &mut Vec<Asserted>, asserted: Asserted) {
     match roles.iter().position(|earlier| earlier.role == asserted.role) {
         Some(at) => roles[at] = asserted,

@@ -11,7 +11,7 @@ use Rattle.effect_fresh.proofs.defaults.put_defaults.Tie as tie
 abbrev start : tie.After-put-listed → tie.Start
 start c = c .before .before .before .before
 
--- the rows stand over zeros
+-- the rows are over zeros
 over : (c : tie.After-put-listed)
     → let s = start c in c .put-listed .last .1 .0
     ≡ written (replicate (capacity (s .args .table) * stride (s .args .table)) 0) 0 (joined (listed (s .args .table) (now (s .args .list))))

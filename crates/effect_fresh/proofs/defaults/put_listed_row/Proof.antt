@@ -1,4 +1,4 @@
--- `defaults::put_listed_row`: the body, and the zeros behind it.
+-- `defaults::put_listed_row`: the body, and the zeros after it.
 use Rattle.rows.proofs.Prelude.{ap₂, _∙_, ℕ, _-_, _≤_, arith, length, take, replicate, now, needs}
 use Rattle.text.specs.Buffer.{largest}
 use Rattle.text.proofs.Buffers.{puts-then}

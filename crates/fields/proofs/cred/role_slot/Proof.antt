@@ -1,4 +1,4 @@
--- `cred::role_place`: the row of that number in the table behind the body.
+-- `cred::role_place`: the row of that number in the table after the body.
 use Rattle.rows.proofs.Prelude.{_∙_, _*_, drop, drop-drop, needs}
 use Rattle.rows.proofs.Laws.{row-is}
 use Rattle.rules.specs.Sizes.{credBodySize, roleSlotSize, roleSlots}

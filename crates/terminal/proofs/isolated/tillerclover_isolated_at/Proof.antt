@@ -1,4 +1,4 @@
--- `isolated::tillerclover_isolated_at`: what is reported of the answer, word by word, of the head that is lent.
+-- `isolated::tillerclover_isolated_at`: what is reported of the answer, word by word, of the head that is passed in.
 use Rattle.rows.proofs.Prelude.{needs}
 use Rattle.terminal.proofs.isolated.tillerclover_isolated_at.Tie as tie
 

@@ -1,4 +1,4 @@
--- `lists::tillerclover_convert_list_at`: what is said, in words.
+-- `lists::tillerclover_convert_list_at`: what is reported, in words.
 use Rattle.rows.proofs.Prelude.{ap₂, [], _∷_, ℕ, needs}
 use Rattle.terminal.proofs.lists.tillerclover_convert_list_at.Tie as tie
 

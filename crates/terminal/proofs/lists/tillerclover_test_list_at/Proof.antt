@@ -1,4 +1,4 @@
--- `lists::tillerclover_test_list_at`: what is said, in words.
+-- `lists::tillerclover_test_list_at`: what is reported, in words.
 use Rattle.rows.proofs.Prelude.{ap, [], _∷_, needs}
 use Rattle.rules_lists.specs.declared.Tested.{Tested}
 use Rattle.terminal.proofs.lists.tillerclover_test_list_at.Tie as tie

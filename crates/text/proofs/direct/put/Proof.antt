@@ -1,4 +1,4 @@
--- `direct::put`: past the end the position alone goes on; what fits is copied; the rest is `put`'s.
+-- `direct::put`: past the end only the position goes on; what fits is copied; the rest is `put`'s.
 use native.Mathlib.Omega.{arith}
 use borrow.Author.Needs.{needs}
 use Rattle.text.proofs.Buffers.{puts-beyond}
