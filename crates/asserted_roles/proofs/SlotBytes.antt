@@ -7,7 +7,7 @@ use Rattle.text.proofs.Buffers.{written-start, puts-then}
 use Rattle.rows.specs.Rows.{Row, rowsOf, joined, packed, without}
 use Rattle.rows.proofs.Laws.{drop-replicate}
 use Rattle.rules.specs.Roles.{noRole, free, sameRole, bodyOf, rolesInForce, credSound, withRole, bothTaken, asserted}
-use Rattle.rules.specs.Asserted.{slot}
+use Rattle.rules.specs.Asserted.{roleSlot}
 use Rattle.rules.proofs.RoleLaws.{held-parts, body-long, asserted-short}
 use Rattle.rules.specs.Sizes.{credBodySize, credRowSize}
 
@@ -39,7 +39,7 @@ module _ (clock : ℕ) (p : Row) where
 
 -- ---- both places of a row, p and q
 
-module _ (clock : ℕ) (w p q : Row) (first : p ≡ slot w 0) (second : q ≡ slot w 1) where
+module _ (clock : ℕ) (w p q : Row) (first : p ≡ roleSlot w 0) (second : q ≡ roleSlot w 1) where
   both : rolesInForce clock w ≡ without (free clock) (p ∷ q ∷ [])
   unfolding rolesInForce rowsOf
   both = rw (first, second)

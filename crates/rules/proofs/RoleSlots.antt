@@ -8,29 +8,29 @@ use Rattle.rows.proofs.Laws.{zeros-replicate}
 use Rattle.rows.proofs.Kept.{same-true, same-refl}
 use Rattle.rules.specs.Roles.{noRole, free, sameRole, distinctRoles, rolesInForce, rolesSound, bothTaken}
 use Rattle.rules.specs.Sizes.{credBodySize, roleSlotSize, rolesSize, credRowSize}
-use Rattle.rules.specs.Asserted.{place}
+use Rattle.rules.specs.Asserted.{roleSlot}
 use Rattle.rules.proofs.RoleLaws.{no-role-zeros}
 
 module _ (clock : ℕ) (w : Row) where
   -- a test of the roles in force
   pub some-in-force : (f : Row → Bool)
-      → some f (rolesInForce clock w) ≡ ((not (free clock (place w 0)) && f (place w 0)) || (not (free clock (place w 1)) && f (place w 1)))
+      → some f (rolesInForce clock w) ≡ ((not (free clock (roleSlot w 0)) && f (roleSlot w 0)) || (not (free clock (roleSlot w 1)) && f (roleSlot w 1)))
   unfolding rolesInForce rowsOf without some
   some-in-force f =
-      bool-cases (free clock (place w 0))
-      (λ e. bool-cases (free clock (place w 1)) (λ g. rw (e, g)) (λ g. rw (e, g) (or-false (f (place w 1)))))
-      (λ e. bool-cases (free clock (place w 1)) (λ g. rw (e, g)) (λ g. rw (e, g, or-false (f (place w 1)))))
+      bool-cases (free clock (roleSlot w 0))
+      (λ e. bool-cases (free clock (roleSlot w 1)) (λ g. rw (e, g)) (λ g. rw (e, g) (or-false (f (roleSlot w 1)))))
+      (λ e. bool-cases (free clock (roleSlot w 1)) (λ g. rw (e, g)) (λ g. rw (e, g, or-false (f (roleSlot w 1)))))
 
   -- both places hold other roles than this one
   pub both-taken : (new : Row)
       → bothTaken new (rolesInForce clock w)
-      ≡ ((not (free clock (place w 0)) && not (sameRole new (place w 0))) && (not (free clock (place w 1)) && not (sameRole new (place w 1))))
+      ≡ ((not (free clock (roleSlot w 0)) && not (sameRole new (roleSlot w 0))) && (not (free clock (roleSlot w 1)) && not (sameRole new (roleSlot w 1))))
   unfolding rolesInForce rowsOf without bothTaken some
   both-taken new =
-      bool-cases (free clock (place w 0))
-      (λ e. bool-cases (free clock (place w 1)) (λ g. rw (e, g)) (λ g. rw (e, g)))
-      (λ e. bool-cases (free clock (place w 1)) (λ g. rw (e, g, and-false))
-      (λ g. bool-cases (sameRole new (place w 0)) (λ x. rw (e, g, x)) (λ x. rw (e, g, x, or-false))))
+      bool-cases (free clock (roleSlot w 0))
+      (λ e. bool-cases (free clock (roleSlot w 1)) (λ g. rw (e, g)) (λ g. rw (e, g)))
+      (λ e. bool-cases (free clock (roleSlot w 1)) (λ g. rw (e, g, and-false))
+      (λ g. bool-cases (sameRole new (roleSlot w 0)) (λ x. rw (e, g, x)) (λ x. rw (e, g, x, or-false))))
 
 -- ---- which places are sound
 
@@ -98,8 +98,8 @@ module _ (p q : Row) (l : length p ≡ roleSlotSize) (m : length q ≡ roleSlotS
 
 -- one place after the other: after the roles that are there all bytes are zero, and the second is not the first again
 pub slots-sound : (w : Row) → length w ≡ credRowSize
-    → rolesSound w ≡ cond (noRole (place w 0)) (allZero (drop credBodySize w))
-    (cond (noRole (place w 1)) (allZero (drop (credBodySize + roleSlotSize) w)) (not (sameRole (place w 0) (place w 1))))
+    → rolesSound w ≡ cond (noRole (roleSlot w 0)) (allZero (drop credBodySize w))
+    (cond (noRole (roleSlot w 1)) (allZero (drop (credBodySize + roleSlotSize) w)) (not (sameRole (roleSlot w 0) (roleSlot w 1))))
 unfolding rolesSound rowsOf
 slots-sound w h =
     let x = drop credBodySize w in

@@ -32,8 +32,8 @@ Few (p ∷ q ∷ []) = Role p × Role q × (sameRole p q ≡ false)
 Few (p ∷ q ∷ r ∷ ps) = ⊥
 
 -- the place with this number
-abbrev pub place : Row → ℕ → Row
-place w i = getD (rolesOf w) i []
+abbrev pub roleSlot : Row → ℕ → Row
+roleSlot w i = getD (rolesOf w) i []
 
 -- the row v, or new where v has the number of own
 unfoldable pub insteadOf : Row → Row → Row → Row
