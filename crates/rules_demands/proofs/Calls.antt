@@ -1,30 +1,32 @@
 -- Theorems of any calls, and of C calls: all records judged are judged as the typed rules judge them one after the other;
 -- and demand 3, with a book that keeps typed tables. The premise is read in these.
-use Rattle.rows.proofs.Prelude.{_≡_, refl, sym, ap, _∙_, Bool, true, List, [], _∷_, map}
+use Rattle.rows.proofs.Prelude.{_≡_, refl, sym, ap, _∙_, Bool, true, false, List, [], _∷_, map, bool-cases, contradiction}
 use Rattle.rules.specs.declared.Tables.{Tables as ByteTables}
 use Rattle.rules.specs.declared.Sender.{Sender}
 use Rattle.rules.specs.Record.{Request as ByteRequest}
 use Rattle.rules.specs.Defaults.{Defaults}
 use Rattle.rules.specs.Tables.{sound as soundBytes}
-use Rattle.rules.specs.Outcome.{tablesAfter}
+use Rattle.rules.specs.Outcome.{Outcome, tablesAfter}
 use Rattle.rules.specs.Run.{replies, final, Along, kept}
 use Rattle.rules.specs.Isolation.{isOthers as isOthersBytes, compared as comparedBytes}
 use Rattle.rules.proofs.SoundKept.{sound-same}
-use Rattle.rules_typed.specs.Lists.{Maybe}
+use Rattle.rules.proofs.Refusals.{unsound-refused}
+use Rattle.rules_typed.specs.Lists.{Maybe, none, isNone, when}
 use Rattle.rules_typed.specs.Types.{Record, Tables}
 use Rattle.rules_typed.specs.Tables.{isBytes}
-use Rattle.rules_typed.specs.Reading.{readTables, readRecord}
+use Rattle.rules_typed.specs.Reading.{tablesOf, readTables, readRecord}
 use Rattle.rules_typed.specs.Writing.{written}
 use Rattle.rules_typed.specs.Outcome.{respond, next}
 use Rattle.rules_typed.specs.Isolation.{Premise, compared}
 use Rattle.rules_typed.specs.Struct.{IsStruct, DefaultBytes, AllBytes}
+use Rattle.rules_typed.proofs.SoundExact.{read-is}
 use Rattle.rules_typed.proofs.Whole.{replies-written, final-read}
-use Rattle.rules_typed.proofs.IsolationRead.{others-read, premise-along, kept-bytes, run-struct}
+use Rattle.rules_typed.proofs.IsolationRead.{others-read, premise-along, along-read, kept-bytes, run-struct}
 use Rattle.rules_typed.proofs.ComparedRead.{compared-read}
 use Rattle.rules_terminal.specs.Terminal.{Terminal}
 use Rattle.rules_terminal.specs.Inputs.{Input}
 use Rattle.rules_terminal.specs.CallRun.{Call, Built, handedBack, allShown}
-use Rattle.rules_runs.specs.Isolation.{requestsOf, allResponses, AsRules, Isolated}
+use Rattle.rules_runs.specs.Isolation.{requestsOf, allResponses, AsRules, BookPremise, Isolated}
 use Rattle.rules_runs.proofs.Calls.{handed-isolation, built-rules}
 use Rattle.rules_interface.specs.Memory.{Memory, terminalAt}
 use Rattle.rules_interface.specs.Calls.{CCall, CBuilt}
@@ -38,6 +40,18 @@ final-sound : (d : Defaults) (t : ByteTables) (qs : List ByteRequest) → soundB
 final-sound d t [] = refl
 final-sound d t (q ∷ qs) = final-sound d (tablesAfter d t q) qs ∙ sound-same d t q
 
+unsound-final : (d : Defaults) (t : ByteTables) → soundBytes t ≡ false → (qs : List ByteRequest) → final (tablesAfter d) t qs ≡ t
+unsound-final d t u [] = refl
+unsound-final d t u (q ∷ qs) =
+    let s : tablesAfter d t q ≡ t = ap (λ (o : Outcome). o .tables) (unsound-refused d t q u) in
+    ap (λ (y : ByteTables). final (tablesAfter d) y qs) s ∙ unsound-final d t u qs
+
+unread-unsound : (t : ByteTables) → IsStruct t → readTables t ≡ none → soundBytes t ≡ false
+unfolding when
+unread-unsound t i n =
+    let m : isNone (when (soundBytes t) (tablesOf t)) ≡ true = ap isNone (sym (read-is t i) ∙ n) in
+    bool-cases (soundBytes t) (λ s. contradiction (rw s at m) refl) (λ s. s)
+
 module _ (d : Defaults) (e : DefaultBytes d) (x : Terminal) (i : IsStruct (x .tables)) (w : isBytes (x .queue) ≡ true)
     (is : List Input) (cs : List Call) (b : Built d x is cs) (h : InputBytes is) where
   abbrev qs : List ByteRequest
@@ -46,6 +60,9 @@ module _ (d : Defaults) (e : DefaultBytes d) (x : Terminal) (i : IsStruct (x .ta
   all : AllBytes qs
   all = fed-bytes x w is (allShown is cs) h
 
+  stays : readTables (x .tables) ≡ none → handedBack x cs .tables ≡ x .tables
+  stays n = built-rules d x is cs b .tables-same ∙ unsound-final d (x .tables) (unread-unsound (x .tables) i n) qs
+
   -- demands 1 and 2
   pub typed-rules : AsTyped d (x .tables) qs (allResponses is (allShown is cs)) (handedBack x cs .tables)
   typed-rules =
@@ -53,6 +70,7 @@ module _ (d : Defaults) (e : DefaultBytes d) (x : Terminal) (i : IsStruct (x .ta
       record {
         responses-same = r .responses-same ∙ replies-written d e (x .tables) i qs all;
         tables-same = ap readTables (r .tables-same) ∙ final-read d e (x .tables) i qs all;
+        unread = stays;
       }
 
   -- the tables left are arrays of bytes again
@@ -71,8 +89,7 @@ module _ (d : Defaults) (e : DefaultBytes d) (x : Terminal) (i : IsStruct (x .ta
     typed-isolation p =
         let same = others-read d e chosen qs in
         let t = x .tables in
-        let premise = premise-along d e chosen t i others others-bytes (rw same p) in
-        let o = handed-isolation d x is cs b chosen (λ _. premise) in
+        let o = handed-isolation d x is cs b chosen (λ s. premise-along d e chosen t i others others-bytes (rw same (p s))) in
         let end = built-rules d x is cs b .tables-same in
         let sound-end : soundBytes (handedBack x cs .tables) ≡ soundBytes (final (tablesAfter d) t others) =
         ap soundBytes end ∙ final-sound d t qs ∙ sym (final-sound d t others) in
@@ -85,7 +102,12 @@ module _ (d : Defaults) (e : DefaultBytes d) (x : Terminal) (i : IsStruct (x .ta
               sound-end (o .tables-same)
               ∙ ap (compared chosen) (final-read d e t i others others-bytes)
               ∙ ap (λ (rs : List Record). compared chosen (final (next (freshOf d)) (readTables t) rs)) same;
+          unread = stays;
         }
+
+    -- the premise over bytes gives the typed one
+    pub premise-typed : BookPremise d chosen x is (allShown is cs) → TypedPremise d chosen x is (allShown is cs)
+    premise-typed p s = rw (← others-read d e chosen qs) (along-read d e chosen (x .tables) i others others-bytes (p s))
 
 -- ---- of C calls
 

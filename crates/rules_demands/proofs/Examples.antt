@@ -1,12 +1,14 @@
 -- The paper's examples on the rules as one reads them: the fourteen rows of 'Why a record is refused', the worked run, the readings to guard against.
 -- Each is computed from the definitions.
-use Rattle.rows.proofs.Prelude.{_≡_, refl, true, false, List, [], _∷_, _++_, map, ℕ, zero, suc, replicate, ones, or-false}
+use Rattle.rows.proofs.Prelude.{_≡_, refl, true, false, List, [], _∷_, _++_, map, ℕ, zero, suc, replicate, ones, or-false, Bool, eqb, eqb-true, contradiction}
 use Rattle.rows.specs.Rows.{same, allZero}
-use Rattle.rules.specs.declared.Sender.the-variants.{Unauthenticated}
+use Rattle.rules.specs.declared.Sender.{Sender}
+use Rattle.rules.specs.declared.Sender.the-variants.{Unauthenticated, Partner}
 use Rattle.rules.specs.Bits.{bit, bits, be16}
 use Rattle.rules.specs.Record.{received}
+use Rattle.rules.specs.Run.{Along}
 use Rattle.rules_typed.specs.Lists.{Maybe, none, just, when, any, all, find, without, put, distinct, union}
-use Rattle.rules_typed.specs.Types.{Bytes, Uuid, Permission, Answer, Security, Application, Acl2, Weight, Connection, AnonClear, AuthCrypt, RFPRO, To}
+use Rattle.rules_typed.specs.Types.{Bytes, Uuid, Permission, Answer, Security, Application, Acl2, Weight, Connection, AnonClear, AuthCrypt, RFPRO, RFNOP, State, To}
 use Rattle.rules_typed.specs.Types.{Credential, IsConnection}
 use Rattle.rules_typed.specs.Types.{Access, Tables, Caller, Outcome}
 use Rattle.rules_typed.specs.Directory.{resourceOf}
@@ -19,14 +21,16 @@ use Rattle.rules_typed.specs.Reading.{verbOf, connectionAs, stateOf, targetOf, 
 use Rattle.rules_typed.specs.Reading.{readRecord}
 use Rattle.rules_typed.specs.Bodies.{read, newRowOwner, rowNumbered, senderOf}
 use Rattle.rules_typed.specs.Checks.{bothTaken, verdict}
-use Rattle.rules_typed.specs.Outcome.{gap, linksOf, outcome}
+use Rattle.rules_typed.specs.Outcome.{gap, linksOf, outcome, next}
+use Rattle.rules_typed.specs.Isolation.{namesOwner, mayFit, rowAlters, mayAlter, Harmless, Premise}
 
 -- `unfolding definitions` opens all that this line names
 unfoldable definitions : Unit {0}
 unfolding same allZero bit bits be16 when any all find without put distinct union resourceOf has sameRole expired rolesInForce hasRole subjectFits
     resourceFits inPeriod gives isOwner effective isState isBytes isUuid isNumber validRole validAsserted validCredential validAccess sound nil be32
     ownerBytes targetBytes credentialBytes assertedBytes verbOf connectionAs stateOf targetOf ownerOf roleOf readOwner readTarget readCredential readAccess
-    readAsserted read newRowOwner rowNumbered senderOf bothTaken verdict gap linksOf outcome ones
+    readAsserted read newRowOwner rowNumbered senderOf bothTaken verdict gap linksOf outcome ones namesOwner mayFit
+    rowAlters mayAlter
 definitions = tt
 
 -- ---- what the examples are made of
@@ -158,3 +162,53 @@ learns-eight = refl
 pub no-stay : mayMove RFPRO (just U) (To RFPRO) ≡ false
 unfolding definitions
 no-stay = refl
+
+-- ---- the others alone
+
+-- sixteen bytes 22
+abbrev W : Uuid
+W = replicate 16 34
+
+-- the owner has row 5, another partner row 7; over auth-crypt all may read
+abbrev shared : State → Tables
+shared s = record {
+  state = s;
+  owner = just U;
+  rowOwners = fresh .rowOwners;
+  credentials = credential 5 ∷ record { number = 7; subject = W; role = none; kind = 1; asserted = [] } ∷ [];
+  accesses = star AuthCrypt 2 ∷ [];
+}
+
+abbrev chosenAs : ℕ → Sender → Bool
+chosenAs m Unauthenticated = false
+chosenAs m (Partner n) = eqb n m
+
+seven-owns-nothing : (s : State) (x : Sender) → chosenAs 7 x ≡ true → namesOwner (shared s) x ≡ false
+unfolding definitions
+seven-owns-nothing s Unauthenticated c = contradiction c refl
+seven-owns-nothing s (Partner n) c = rw (eqb-true n 7 c)
+
+seven-alters-nothing : (s : State) (x : Sender) → chosenAs 7 x ≡ true → mayAlter (shared s) x ≡ false
+unfolding definitions
+seven-alters-nothing s Unauthenticated c = contradiction c refl
+seven-alters-nothing s (Partner n) c = refl
+
+-- partner 7 is harmless
+seven-harmless : (s : State) → Harmless (chosenAs 7) (shared s)
+unfolding definitions
+seven-harmless s = record {
+  hasOwner = λ x c. refl;
+  notOwner = seven-owns-nothing s;
+  notGranted = seven-alters-nothing s;
+}
+
+-- the premise holds along a run in which the owner moves the state
+pub premise-holds : Along (next fresh) (Premise (chosenAs 7)) (just (shared RFPRO)) (
+    readRecord (received 0 (0x50 ∷ 0x40 ∷ 0x00 ∷ 0x05 ∷ 0x60 ∷ []) 1168) ∷ [])
+unfolding definitions
+premise-holds = (seven-harmless RFPRO, seven-harmless RFNOP)
+
+-- the owner is not
+pub owner-is-not : namesOwner (shared RFPRO) (Partner 5) ≡ true
+unfolding definitions
+owner-is-not = refl

@@ -13,7 +13,7 @@ use Rattle.rules.specs.Outcome.{Response as ByteResponse}
 use Rattle.rules.specs.Contracts.Results.{Result, resultOf}
 use Rattle.rules.specs.Run.{replies, final, Along, kept, keptOf}
 use Rattle.rules.specs.Isolation.{isOthers as isOthersBytes}
-use Rattle.rules_typed.specs.Lists.{Maybe, when}
+use Rattle.rules_typed.specs.Lists.{Maybe, none, when}
 use Rattle.rules_typed.specs.Types.{Record, Tables, Response, Outcome}
 use Rattle.rules_typed.specs.Tables.{isBytes}
 use Rattle.rules_typed.specs.Writing.{replyBytes, written, writtenOutcome}
@@ -49,6 +49,8 @@ pub record Tells (o : Outcome) (t : ByteTables) (s : Result) (lent buffer : List
 pub record AsTyped (d : Defaults) (t : ByteTables) (qs : List ByteRequest) (told : List ByteResponse) (t′ : ByteTables) : Type 0 where
   pub responses-same : told ≡ map written (replies (respond (freshOf d)) (next (freshOf d)) (readTables t) (map readRecord qs))
   pub tables-same : readTables t′ ≡ final (next (freshOf d)) (readTables t) (map readRecord qs)
+  -- tables that are not sound stay, byte for byte
+  pub unread : readTables t ≡ none → t′ ≡ t
 
 -- ---- demand 3
 
@@ -57,15 +59,17 @@ module _ (d : Defaults) (chosen : Sender → Bool) (x : Terminal) (is : List Inp
   abbrev pub fed : List Record
   fed = kept (isOthers chosen) (map readRecord (requestsOf x is answers))
 
-  -- the premise, in the book's typed tables before its first record and after each
+  -- the premise, in the book's typed tables before its first record and after each; a terminal that is not sound needs none
   abbrev pub TypedPremise : Type 0
-  TypedPremise = Along (next (freshOf d)) (Premise chosen) (readTables (x .tables)) fed
+  TypedPremise = soundTerminal x ≡ true → Along (next (freshOf d)) (Premise chosen) (readTables (x .tables)) fed
 
   -- the others get the book's responses, and the tables at the end are the book's except for the chosen partners' asserted roles
   pub record TypedIsolated (end : Terminal) : Type 0 where
     pub responses-same : keptOf (isOthersBytes chosen) (requestsOf x is answers) (allResponses is answers)
         ≡ map written (replies (respond (freshOf d)) (next (freshOf d)) (readTables (x .tables)) fed)
     pub tables-same : compared chosen (readTables (end .tables)) ≡ compared chosen (final (next (freshOf d)) (readTables (x .tables)) fed)
+    -- tables that are not sound stay, byte for byte
+    pub unread : readTables (x .tables) ≡ none → end .tables ≡ x .tables
 
 -- ---- the records of the inputs are bytes
 

@@ -1,5 +1,5 @@
--- Theorem, demand 3 with the typed rules as the book: of a run, what the others get is what the book tells them, written,
--- and at the end the compared tables are the book's, written. The premise is read in the book's tables.
+-- Theorem, demand 3 with the typed rules as the book: of a run, what the others get is what the book tells them, written.
+-- The premise is read in the book's tables, and holds in these exactly where it holds in the bytes.
 use Rattle.rows.proofs.Prelude.{_≡_, refl, sym, ap, ap₂, _∙_, Bool, true, _&&_, List, [], _∷_, map, eqb, bool-cases, cond-cases, contradiction, false, _||_, ℕ}
 use Rattle.rows.proofs.Prelude.{or-true-right}
 use Rattle.rows.specs.Rows.{Row}
@@ -8,7 +8,7 @@ use Rattle.rules.specs.declared.Table.the-variants.{Aces}
 use Rattle.rules.specs.declared.Sender.{Sender}
 use Rattle.rules.specs.Record.{Request as ByteRequest, sender}
 use Rattle.rules.specs.Bodies.{aceKind, aceSubject, aceConnection, aceStorable, subjectStorable}
-use Rattle.rules.specs.Tables.{headOf, rows}
+use Rattle.rules.specs.Tables.{headOf, rows, sound as soundBytes}
 use Rattle.rules.specs.Defaults.{Defaults}
 use Rattle.rules.specs.Permission.{senderRow, subjectIs, connectionOf as connectionBit, resourceFits as resourceFitsBytes, isOwner as isOwnerBytes}
 use Rattle.rules.specs.Permission.{has as hasBytes}
@@ -96,6 +96,21 @@ premise-read : (chosen : Sender → Bool) (t : ByteTables) → IsStruct t → Pr
 unfolding when
 premise-read chosen t i p s = harmless-read t (record { isSound = s; struct = i }) chosen (rw (read-is t i, s) at p)
 
+-- and back
+
+harmless-typed : (t : ByteTables) → Given t → (chosen : Sender → Bool) → HarmlessBytes chosen t → Harmless chosen (tablesOf t)
+harmless-typed t g chosen p = record {
+  hasOwner = λ s c. owned-read t g s ∙ p .hasOwner s c;
+  notOwner = λ s c. names-owner-read t g s ∙ p .notOwner s c;
+  notGranted = λ s c. may-alter-read t g s ∙ p .notGranted s c;
+}
+
+pub premise-typed : (chosen : Sender → Bool) (t : ByteTables) → IsStruct t → PremiseBytes chosen t → Premise chosen (readTables t)
+unfolding when
+premise-typed chosen t i p =
+    bool-cases (soundBytes t) (λ s. rw (read-is t i, s) (harmless-typed t (record { isSound = s; struct = i }) chosen (p s)))
+    (λ s. rw (read-is t i, s) tt)
+
 -- ---- along the book's run
 
 module _ (d : Defaults) (e : DefaultBytes d) (chosen : Sender → Bool) where
@@ -119,6 +134,14 @@ module _ (d : Defaults) (e : DefaultBytes d) (chosen : Sender → Bool) where
     premise-read chosen t i (a .0),
     premise-along (tablesAfter d t q) (struct-kept d e t i q (h .0)) qs (h .1)
         (rw (next-read d e t i q (h .0)) (a .1)),
+  )
+
+  pub along-read : (t : ByteTables) → IsStruct t → (qs : List ByteRequest) → AllBytes qs
+      → Along (tablesAfter d) (PremiseBytes chosen) t qs → Along (next (readFresh d)) (Premise chosen) (readTables t) (map readRecord qs)
+  along-read t i [] h a = premise-typed chosen t i a
+  along-read t i (q ∷ qs) h a = (
+    premise-typed chosen t i (a .0),
+    rw (← next-read d e t i q (h .0)) (along-read (tablesAfter d t q) (struct-kept d e t i q (h .0)) qs (h .1) (a .1)),
   )
 
   pub kept-bytes : (qs : List ByteRequest) → AllBytes qs → AllBytes (others qs)

@@ -11,7 +11,7 @@ use Rattle.rules.specs.Asserted.{Held, Few}
 use Rattle.rules.proofs.RoleLaws.{held-parts, body-long, few-in-force, few-with-role, slotsIn, few-slots, no-role-zeros, asserted-body}
 use Rattle.rules.proofs.RoleLaws.{asserted-storable}
 use Rattle.rules_typed.specs.Lists.{put}
-use Rattle.rules_typed.specs.Checks.{sameAsserted}
+use Rattle.rules_typed.specs.Permission.{sameAsserted}
 use Rattle.rules_typed.specs.Effect.{withRole}
 use Rattle.rules_typed.specs.Reading.{assertedOf, credentialAs}
 use Rattle.rules_typed.specs.Tables.{isBytes}

@@ -2,7 +2,8 @@
 use Rattle.rows.proofs.Prelude.{_≡_, refl, sym, ap, _∙_, Bool, true, false, not, List, ℕ, _+_, _*_, _/_, _%_, _<_, _≤_, arith, length, lt-ltb, take, drop}
 use Rattle.rows.proofs.Prelude.{eqb-true, eqb, ltb-true, ltb, and-left, and-right, not-true, leb, map, leb-true, length-append, take-at, drop-at, or-left}
 use Rattle.rows.proofs.Prelude.{length-replicate, ap₂, [], _∷_, _-_, _++_, getD, append-assoc, drop-drop, getD-drop, _&&_, and-both, eq-eqb, ones}
-use Rattle.rules_typed.specs.Tables.{isBytes, isNumber, isUuid, validRole, validAsserted, otherRole, validCredential, roleOrNone}
+use Rattle.rules_typed.specs.Permission.{sameAsserted}
+use Rattle.rules_typed.specs.Tables.{isBytes, isNumber, isUuid, validRole, validAsserted, validCredential, roleOrNone}
 use Rattle.rules.specs.Bits.{be16, bits}
 use Rattle.rules_typed.specs.Writing.{be32, flag, assertedBytes, credentialRow, roleBytes, credentialBytes}
 use Rattle.rules_typed.proofs.RowsRead.{bytes-join, role-same, zero-bytes}
@@ -116,15 +117,15 @@ pub all-parts : {A : Type 0} (passes : A → Bool) (x : A) (xs : List A) → all
 unfolding all
 all-parts passes x xs h = (and-left _ _ h, and-right (passes x) _ h)
 
-other-role : (a b : Asserted) → validAsserted a ≡ true → validAsserted b ≡ true → otherRole a b ≡ sameRoleBytes (assertedBytes a) (assertedBytes b)
-other-role a b v w =
-    ap₂ otherRole (sym (asserted-again a v)) (sym (asserted-again b w))
+same-asserted : (a b : Asserted) → validAsserted a ≡ true → validAsserted b ≡ true → sameAsserted a b ≡ sameRoleBytes (assertedBytes a) (assertedBytes b)
+same-asserted a b v w =
+    ap₂ sameAsserted (sym (asserted-again a v)) (sym (asserted-again b w))
     ∙ role-same (assertedBytes a) (assertedBytes b) (asserted-bytes a v) (omega (arith, asserted-long a v)) (asserted-bytes b w)
     (omega (arith, asserted-long b w))
 
-two-distinct : (a b : Asserted) → distinct otherRole (a ∷ b ∷ []) ≡ true → otherRole a b ≡ false
+two-distinct : (a b : Asserted) → distinct sameAsserted (a ∷ b ∷ []) ≡ true → sameAsserted a b ≡ false
 unfolding distinct any
-two-distinct a b d = or-left (otherRole a b) false (not-true _ (and-left _ _ d))
+two-distinct a b d = or-left (sameAsserted a b) false (not-true _ (and-left _ _ d))
 
 packed-few : (ps : List Row) → Few ps → length (packed 16 ps) ≡ 16
 unfolding packed joined
@@ -140,13 +141,13 @@ distinct-few (p ∷ []) f = refl
 distinct-few (p ∷ q ∷ []) f = rw (f .2)
 distinct-few (p ∷ q ∷ r ∷ ps) f = absurd f
 
-few-written : (xs : List Asserted) → leb (length xs) 2 ≡ true → all validAsserted xs ≡ true → distinct otherRole xs ≡ true → Few (map assertedBytes xs)
+few-written : (xs : List Asserted) → leb (length xs) 2 ≡ true → all validAsserted xs ≡ true → distinct sameAsserted xs ≡ true → Few (map assertedBytes xs)
 few-written [] l v d = tt
 few-written (a ∷ []) l v d = let x = all-parts validAsserted a [] v .0 in (asserted-long a x, asserted-role a x)
 few-written (a ∷ b ∷ []) l v d =
     let x = all-parts validAsserted a (b ∷ []) v in
     let y = all-parts validAsserted b [] (x .1) .0 in
-    ((asserted-long a (x .0), asserted-role a (x .0)), (asserted-long b y, asserted-role b y), sym (other-role a b (x .0) y) ∙ two-distinct a b d)
+    ((asserted-long a (x .0), asserted-role a (x .0)), (asserted-long b y, asserted-role b y), sym (same-asserted a b (x .0) y) ∙ two-distinct a b d)
 few-written (a ∷ b ∷ c ∷ xs) l v d = let many = leb-true (length (a ∷ b ∷ c ∷ xs)) 2 l in absurd (omega arith)
 
 again-all : (xs : List Asserted) → all validAsserted xs ≡ true → map assertedOf (map assertedBytes xs) ≡ xs

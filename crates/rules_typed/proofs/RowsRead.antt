@@ -16,8 +16,8 @@ use Rattle.rules.proofs.RecordLaws.{key-is}
 use Rattle.rules.proofs.BodyLaws.{sized}
 use Rattle.rules_typed.specs.Lists.{Maybe, holds}
 use Rattle.rules_typed.specs.Types.{Credential}
-use Rattle.rules_typed.specs.Permission.{sameRole, rolesInForce}
-use Rattle.rules_typed.specs.Checks.{sameAsserted, bothTaken}
+use Rattle.rules_typed.specs.Permission.{sameRole, sameAsserted, rolesInForce}
+use Rattle.rules_typed.specs.Checks.{bothTaken}
 use Rattle.rules_typed.specs.Reading.{assertedOf}
 use Rattle.rules_typed.specs.Tables.{isBytes}
 use Rattle.rules_typed.proofs.ListLaws.{Each, any-read}

@@ -5,8 +5,9 @@ use Rattle.rows.proofs.Prelude.{leb-true, length-map, length-replicate, false, 
 use Rattle.rows.proofs.Prelude.{length-drop, le-leb, eqb, eqb-true, eq-eqb}
 use Rattle.rules_typed.specs.Types.{Credential, Access, Uuid, State, RFOTM, RFPRO, RFNOP, SRESET, RowOwners, Tables, Asserted}
 use Rattle.rules_typed.specs.Lists.{all, distinct, Maybe, none, just, isNone, any, when}
+use Rattle.rules_typed.specs.Permission.{sameAsserted}
 use Rattle.rules_typed.specs.Tables.{validCredential, validAccess, isBytes, sameCredential, sameAccess, uuidOrNone, isUuid, sound, validAsserted}
-use Rattle.rules_typed.specs.Tables.{otherRole, isNumber, roleOrNone}
+use Rattle.rules_typed.specs.Tables.{isNumber, roleOrNone}
 use Rattle.rules_typed.specs.Reading.{credentialAs, accessOf, ownerOf, stateOf, ownersAt, tablesOf, assertedOf, credentialIn, roleOf, ownerAt, sameTables}
 use Rattle.rules_typed.specs.Reading.{readTables}
 use Rattle.rules_typed.specs.Writing.{credentialRow, accessBytes, uuidBytes, nil, rowOwnerBytes, ownedNumber, writtenTables}
@@ -354,7 +355,7 @@ place-valid : (p : Row) → Place p → noRole p ≡ false → validAsserted (as
 place-valid p q r = and-left _ _ (sym (role-body p (q .1) (q .0)) ∙ not-of-false _ r)
 
 few-valid : (ps : List Row) → Few ps → Each Place ps
-    → (leb (length (map assertedOf ps)) 2 && all validAsserted (map assertedOf ps) && distinct otherRole (map assertedOf ps)) ≡ true
+    → (leb (length (map assertedOf ps)) 2 && all validAsserted (map assertedOf ps) && distinct sameAsserted (map assertedOf ps)) ≡ true
 unfolding all distinct any
 few-valid [] f q = refl
 few-valid (p ∷ []) f q = rw (place-valid p (q .0) (f .1))
@@ -378,7 +379,7 @@ body-same w =
     )
 
 with-roles : (w : Row) (rs : List Asserted) → validCredential (credentialIn w []) ≡ true
-    → (leb (length rs) 2 && all validAsserted rs && distinct otherRole rs) ≡ true → validCredential (credentialIn w rs) ≡ true
+    → (leb (length rs) 2 && all validAsserted rs && distinct sameAsserted rs) ≡ true → validCredential (credentialIn w rs) ≡ true
 unfolding validCredential
 with-roles w rs h p =
     let n : isNumber (bits w 0 16) ≡ true = search (and-left, and-right) in

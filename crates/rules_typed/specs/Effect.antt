@@ -5,8 +5,8 @@ use Rattle.rules_typed.specs.Lists.{Maybe, none, just, without, put}
 use Rattle.rules_typed.specs.Types.{Uuid, Clock, SecurityResource, Doxm, Pstat, Cred, Acl2, Roles, State, Reset, To, Asserted, Credential, Access}
 use Rattle.rules_typed.specs.Types.{RowOwners, Tables, Action, Serve, Read, SetRowOwner, SetOwner, Move, StoreCredential, StoreAccess, DeleteCredentials}
 use Rattle.rules_typed.specs.Types.{DeleteSubject, DeleteAccesses, AssertRole, Caller}
-use Rattle.rules_typed.specs.Permission.{rolesInForce}
-use Rattle.rules_typed.specs.Checks.{hasNumber, hasSubject, isNumbered, ofCredentials, ofAccesses, sameAsserted}
+use Rattle.rules_typed.specs.Permission.{sameAsserted, rolesInForce}
+use Rattle.rules_typed.specs.Checks.{hasNumber, hasSubject, isNumbered, ofCredentials, ofAccesses}
 
 -- ---- tables that differ in one thing
 

@@ -64,6 +64,10 @@ sameConnection AuthCrypt AuthCrypt = true
 unfoldable pub sameRole : Role → Role → Bool
 sameRole r s = eqb (r .role) (s .role) && eqb (r .authority) (s .authority)
 
+-- the same role, up to any second (U11)
+abbrev pub sameAsserted : Asserted → Asserted → Bool
+sameAsserted new a = sameRole (a .role) (new .role)
+
 -- the last second is before the clock
 unfoldable pub expired : Clock → Asserted → Bool
 expired clock a = ltb (a .last) clock

@@ -1,5 +1,5 @@
 -- 'The tables': when they are sound, and the fresh ones.
--- Sound tables are those that can be written: the bytes are none, and the answer 1, where they are not (Reading).
+-- Sound tables are those that can be written: the bytes are read as none, and the answer is 1, if they are not (Reading).
 use Prim.Native.Nat.{ℕ}
 use mathlib.Core.Bool.{Bool, true, not, _&&_, _||_, cond}
 use mathlib.Core.List.{List, [], _∷_}
@@ -9,7 +9,7 @@ use lib.ListN.{length}
 use Rattle.rows.specs.Rows.{allZero}
 use Rattle.rules_typed.specs.Lists.{Maybe, none, just, isNone, all, distinct}
 use Rattle.rules_typed.specs.Types.{Bytes, Uuid, RFOTM, Role, Asserted, Credential, Subject, IsUuid, HasRole, IsConnection, Access, Tables}
-use Rattle.rules_typed.specs.Permission.{sameRole}
+use Rattle.rules_typed.specs.Permission.{sameAsserted}
 use Rattle.rules_typed.specs.States.{isState}
 
 -- ---- each row is one that a body could store
@@ -40,9 +40,6 @@ roleOrNone (just r) = validRole r
 unfoldable pub validAsserted : Asserted → Bool
 validAsserted a = validRole (a .role) && ltb (a .last) 4294967296
 
-abbrev pub otherRole : Asserted → Asserted → Bool
-otherRole a b = sameRole (b .role) (a .role)
-
 -- a type of six bits, at most one of them set; at most two asserted roles, distinct (U11)
 unfoldable pub validCredential : Credential → Bool
 validCredential c =
@@ -50,7 +47,7 @@ validCredential c =
     && isUuid (c .subject)
     && roleOrNone (c .role)
     && (ltb (c .kind) 64 && leb (ones (c .kind)) 1)
-    && (leb (length (c .asserted)) 2 && all validAsserted (c .asserted) && distinct otherRole (c .asserted))
+    && (leb (length (c .asserted)) 2 && all validAsserted (c .asserted) && distinct sameAsserted (c .asserted))
 
 abbrev pub validSubject : Subject → Bool
 validSubject (IsUuid u) = isUuid u
