@@ -33,7 +33,21 @@ Made by `tests/documents.py --write` from the definitions in crates/{RULES}/spec
 
 How to read a definition: `f : A → B` says that f makes a B of an A, and the lines below it say which, a line for each case. `Maybe A` is a value or `none`; `cond b x y` is x if b holds, else y; `eqb`, `leb` and `ltb` compare numbers (equal, at most, less); `any`, `all`, `find`, `put` and `without` are in the last section. `same` compares bytes, and `x ∷ xs` is a list that begins with x.
 
-What is proved of them, for every record and tables of any content: the code's outcome is this outcome, written as bytes (`outcome-written`, {RULES}/proofs/Whole.antt); of C calls `c-typed-rules` and, for demand 3, `c-typed-isolation` (rules_demands/proofs/Calls.antt). Bytes are read as tables exactly where they are the written form of sound ones (`sound-exact`, {RULES}/proofs/SoundExact.antt), so that of 'Values as bytes' and 'Bytes as values' the first is enough.
+Words that are defined below these pages:
+
+- `bit b i` is bit i of the bytes b, and `bits b i n` the number in the n bits from bit i on; bit 0 is the top bit of the first byte.
+- `be16 n` is the two bytes of a number of 16 bits, the higher byte first.
+- `lookup n entries x` is what the first entry with the number n has beside it, or x if there is none.
+- `joined rows` is the bytes of the rows, one row after the other; `packed n rows` is the same, with zeros up to n bytes.
+- `rowsOf s n b` is the first n rows, of s bytes each, of the bytes b; `rows table t` is the rows in use of one of the tables t.
+- `allZero b` holds if each byte is 0.
+- `ones n` counts the bits of n that are 1; `bitOr m n` has the bits that m or n has.
+- `setOf p ns` is a number of 64 bits, with a bit for each n of ns for which p holds; the top bit is resource 0.
+- `rolesOf w` is the two role places of a credential row, in use or not; `noRole w` holds if a place is not in use.
+
+What is proved of them, for every record and tables of any content: the outcome over bytes is this outcome, written (`outcome-written`, {RULES}/proofs/Whole.antt). Of the code: what `judge` and `take` promise is this outcome, written (`judge-typed`, `take-typed`, rules_demands/proofs/OneCall.antt); of C calls `c-typed-rules` and, for demand 3, `c-typed-isolation` (rules_demands/proofs/Calls.antt). Bytes are read as tables exactly where they are the written form of sound ones (`sound-exact`, {RULES}/proofs/SoundExact.antt), so that of 'Values as bytes' and 'Bytes as values' the first is enough, except for a record's header and the build's default lists: these are in the second.
+
+Not on this page: the office's list (U6) is in crates/rules_office/specs, the test of a list of rows (U10) in rules_lists, the older terminals' lists (U12) in rules_legacy, the queue (U13) in rules_terminal, and access rows in any order (U14) in rules_order.
 """
 
 
