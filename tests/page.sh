@@ -45,7 +45,7 @@ part_build() { page/build.sh && packaging/kit.sh --page; }
 # The sources in another folder, with the same archive, give the same page.
 part_same() {
     local second=$work/second/of/it
-    mkdir -p "$second/target/staticlib" "$second/target/lib" && cp -R answers page include targets packaging crates.txt "$second/" &&
+    mkdir -p "$second/target/staticlib" "$second/target/lib" && cp -R answers page include targets packaging bench crates.txt "$second/" &&
         mkdir "$second/bindings" && cp -R bindings/rust "$second/bindings/" && rm -rf "$second/bindings/rust/target" &&
         cp target/staticlib/libterminal.a "$second/target/staticlib/" && cp target/lib/module.bc target/lib/archive.a "$second/target/lib/" || return 1
     ln -s "$root/crates" "$second/crates"
