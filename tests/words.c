@@ -209,21 +209,27 @@ static void permissions(void)
     }
 }
 
+/* The line of a text that may be a UUID. */
+static void uuid_of(const char *text)
+{
+    uint8_t back[TILLERCLOVER_UUID_LENGTH];
+    printf("uuid-of\t");
+    hexadecimal(text, strlen(text));
+    putchar('\t');
+    if (tillerclover_uuid_of(back, text))
+        hexadecimal(back, sizeof back);
+    else
+        printf("none");
+    putchar('\n');
+}
+
 /* Each letter instead of a digit. */
 static void digits(void)
 {
     for (int letter = 1; letter < 128; letter++) {
         char text[TILLERCLOVER_UUID_TEXT] = "00112233-4455-6677-8899-aabbccddeeff";
-        uint8_t back[TILLERCLOVER_UUID_LENGTH];
         text[letter % 2 == 0 ? 0 : 35] = (char)letter;
-        printf("uuid-of\t");
-        hexadecimal(text, strlen(text));
-        putchar('\t');
-        if (tillerclover_uuid_of(back, text))
-            hexadecimal(back, sizeof back);
-        else
-            printf("none");
-        putchar('\n');
+        uuid_of(text);
     }
 }
 
@@ -258,14 +264,7 @@ static void uuids(void)
             text[36] = 0;
         }
         text = realloc(text, strlen(text) + 1);
-        printf("uuid-of\t");
-        hexadecimal(text, strlen(text));
-        putchar('\t');
-        if (tillerclover_uuid_of(back, text))
-            hexadecimal(back, sizeof back);
-        else
-            printf("none");
-        putchar('\n');
+        uuid_of(text);
         free(text);
         free(uuid);
     }
