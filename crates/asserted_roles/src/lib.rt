@@ -1,10 +1,12 @@
 // The asserted roles of a credential row: which are in force, whether there is a slot for another, and the row with it.
 // A row of no bytes has none; every function but the last is total.
+#![tactic(auto)]
+
 ghost use Rattle.std.specs.Prelude.{◌≡◌, true, false, not, ◌&&◌, [], ◌∷◌, length};
 ghost use Rattle.rows.specs.Words.{was, became};
 ghost use Rattle.text.specs.Buffer.{Puts};
 ghost use Rattle.rows.specs.Rows.{joined, without};
-ghost use Rattle.rules.specs.Roles.{noRole, free, sameRole, rolesInForce, credSound, withRole, bothTaken, asserted};
+ghost use Rattle.rules.specs.Roles.{no_role, free, same_role, roles_in_force, cred_sound, with_role, both_taken, asserted};
 
 use fields::asserted::{last, no_role, same_role};
 use fields::cred;
@@ -21,7 +23,7 @@ pub fn in_force(clock: u32, slot: &[u8]) -> bool
 
 // True if the slot has another role, in force.
 fn holds_other(clock: u32, new: &[u8], slot: &[u8]) -> bool
-    ensures { result ≡ (not (free clock (was slot)) && not (sameRole (was new) (was slot))) }
+    ensures { result ≡ (not (free clock (was slot)) && not (same_role (was new) (was slot))) }
 {
     in_force(clock, slot) & !same_role(new, slot)
 }
@@ -29,7 +31,7 @@ fn holds_other(clock: u32, new: &[u8], slot: &[u8]) -> bool
 // True if both slots of the row have other roles in force.
 // Rules out: an expired role that counts; an equal role that counts.
 pub fn both_taken(clock: u32, new: &[u8], row: &[u8]) -> bool
-    ensures { result ≡ bothTaken (was new) (rolesInForce clock (was row)) }
+    ensures { result ≡ both_taken (was new) (roles_in_force clock (was row)) }
 {
     holds_other(clock, new, cred::role_slot(row, 0))
         & holds_other(clock, new, cred::role_slot(row, 1))
@@ -48,7 +50,7 @@ fn put_role(out: &mut [u8], at: usize, clock: u32, slot: &[u8]) -> usize
 // Writes the row's roles in force, in order of arrival.
 // Rules out: an expired role; the second slot first.
 pub fn put_roles(out: &mut [u8], at: usize, clock: u32, row: &[u8]) -> usize
-    ensures { Puts (was out) at (joined (rolesInForce clock (was row))) (became out) result }
+    ensures { Puts (was out) at (joined (roles_in_force clock (was row))) (became out) result }
 {
     let p = put_role(out, at, clock, cred::role_slot(row, 0));
     put_role(out, p, clock, cred::role_slot(row, 1))
@@ -56,7 +58,7 @@ pub fn put_roles(out: &mut [u8], at: usize, clock: u32, row: &[u8]) -> usize
 
 // Writes the role of the last slot, if it is in force and another one, and the new role.
 fn put_last(out: &mut [u8], at: usize, clock: u32, new: &[u8], slot: &[u8]) -> usize
-    ensures { Puts (was out) at (joined (withRole (was new) (without (free clock) (was slot ∷ [])))) (became out) result }
+    ensures { Puts (was out) at (joined (with_role (was new) (without (free clock) (was slot ∷ [])))) (became out) result }
 {
     if holds_other(clock, new, slot) {
         let p = put(out, at, slot);
@@ -67,7 +69,7 @@ fn put_last(out: &mut [u8], at: usize, clock: u32, new: &[u8], slot: &[u8]) -> u
 
 // Writes the row's roles in force with the new one: it replaces its equal, or comes last.
 fn put_with(out: &mut [u8], at: usize, clock: u32, new: &[u8], row: &[u8]) -> usize
-    ensures { Puts (was out) at (joined (withRole (was new) (rolesInForce clock (was row)))) (became out) result }
+    ensures { Puts (was out) at (joined (with_role (was new) (roles_in_force clock (was row)))) (became out) result }
 {
     let first = cred::role_slot(row, 0);
     let second = cred::role_slot(row, 1);
@@ -85,10 +87,10 @@ fn put_with(out: &mut [u8], at: usize, clock: u32, new: &[u8], row: &[u8]) -> us
 // The credential row after the role is asserted.
 // Rules out: expired roles kept; an equal role at the end; a byte of the body changed.
 pub fn asserted_row(clock: u32, new: &[u8], row: &[u8]) -> [u8; CRED_ROW]
-    requires { (credSound row.now ≡ true)
+    requires { (cred_sound row.now ≡ true)
         × (length new.now ≡ 8)
-        × (noRole new.now ≡ false)
-        × (bothTaken new.now (rolesInForce clock row.now) ≡ false) }
+        × (no_role new.now ≡ false)
+        × (both_taken new.now (roles_in_force clock row.now) ≡ false) }
     ensures { result ≡ asserted clock (was new) (was row) }
 {
     let mut next = [0u8; CRED_ROW];

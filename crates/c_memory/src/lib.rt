@@ -1,9 +1,11 @@
 // Reads and writes the caller's tables, and encodes a judgement as 64-bit words.
 // The bytes of the rows stay where they are.
+#![tactic(auto)]
+
 ghost use Rattle.std.specs.Prelude.{◌≡◌, []};
-ghost use Rattle.rules.specs.Contracts.Words.{was, became};
-ghost use Rattle.rules.specs.Contracts.Results.{resultWith};
-ghost use Rattle.rules_interface.specs.Memory.{headAt, countsOf};
+ghost use Rattle.rules.specs.Promises.Words.{was, became};
+ghost use Rattle.rules.specs.Promises.Results.{result_with};
+ghost use Rattle.rules_interface.specs.Memory.{head_at, counts_of};
 ghost use Rattle.rules_interface.specs.Interface.{offset_of, words_in};
 
 use rules::{Head, Judgement};
@@ -11,7 +13,7 @@ use rules::{Head, Judgement};
 // The head of the tables that is passed in.
 // Rules out: the counts exchanged; an owner left out.
 pub fn head_at(counts: &[u8; 4], devowner: &[u8; 16], rowners: &[u8; 64]) -> Head
-    ensures { result ≡ headAt (was counts) (was devowner) (was rowners) }
+    ensures { result ≡ head_at (was counts) (was devowner) (was rowners) }
 {
     let owner = *devowner;
     let owners = *rowners;
@@ -28,7 +30,7 @@ pub fn head_at(counts: &[u8; 4], devowner: &[u8; 16], rowners: &[u8; 64]) -> Hea
 // Puts a head back.
 // Rules out: a head that is not put back whole; the counts exchanged.
 pub fn put_head(h: Head, counts: &mut [u8; 4], devowner: &mut [u8; 16], rowners: &mut [u8; 64])
-    ensures counts_value { became counts ≡ countsOf h }
+    ensures counts_value { became counts ≡ counts_of h }
     ensures devowner_value { became devowner ≡ h.devowner }
     ensures rowners_value { became rowners ≡ h.rowners }
 {
@@ -49,7 +51,7 @@ fn offset_of(length: usize) -> usize
 // The words of a judgement, in the order of include/tillerclover.h.
 // Rules out: a permission left out; a payload at another offset.
 pub fn words_of(j: Judgement) -> [u64; 9]
-    ensures { result ≡ words_in (resultWith j [] []) }
+    ensures { result ≡ words_in (result_with j [] []) }
 {
     let range = j.store;
     let links = j.links;

@@ -1,13 +1,15 @@
 // Checks 13, 14 and 22: the rows that the action needs, and the room for a new one, or for a role.
 // Each check answers whether it refuses; the first refusal is returned immediately.
+#![tactic(auto)]
+
 ghost use Rattle.std.specs.Prelude.{◌≡◌};
-ghost use Rattle.rows.specs.Rows.{numberedAs};
-ghost use Rattle.rows.specs.Contracts.{index_of};
-ghost use Rattle.rules.specs.Roles.{rolesInForce};
+ghost use Rattle.rows.specs.Rows.{numbered_as};
+ghost use Rattle.rows.specs.Promises.{index_of};
+ghost use Rattle.rules.specs.Roles.{roles_in_force};
 ghost use Rattle.rules.specs.Tables.{row_of, rows};
-ghost use Rattle.rules.specs.Checks.{refuseIf, verdict, missing, full, rolesFull};
-ghost use Rattle.rules.specs.Contracts.Groups.{rowChecks};
-ghost use Rattle.rules.specs.Contracts.Words.{was, before};
+ghost use Rattle.rules.specs.Checks.{refuse_if, verdict, missing, full, roles_full};
+ghost use Rattle.rules.specs.Promises.Groups.{row_checks};
+ghost use Rattle.rules.specs.Promises.Words.{was, before};
 
 use asserted_roles::both_taken;
 use row_body::{ace_row, cred_row};
@@ -24,7 +26,7 @@ fn numbered_index<'a>(
     table: Table,
     b: &[u8],
 ) -> Found
-    ensures { result ≡ index_of (numberedAs (row_of table (was b))) (rows table (before h creds aces)) }
+    ensures { result ≡ index_of (numbered_as (row_of table (was b))) (rows table (before h creds aces)) }
 {
     match table {
         Table::Creds => {
@@ -46,7 +48,7 @@ fn check_missing<'a>(
     a: Action,
     b: &[u8],
 ) -> Check
-    ensures { result ≡ refuseIf 13 (missing (before h creds aces) (was b) a) }
+    ensures { result ≡ refuse_if 13 (missing (before h creds aces) (was b) a) }
 {
     let Action::Remove(table, key) = a else {
         return Check::Pass;
@@ -67,7 +69,7 @@ fn check_full<'a>(
     a: Action,
     b: &[u8],
 ) -> Check
-    ensures { result ≡ refuseIf 14 (full (before h creds aces) (was b) a) }
+    ensures { result ≡ refuse_if 14 (full (before h creds aces) (was b) a) }
 {
     let Action::Store(table) = a else {
         return Check::Pass;
@@ -83,7 +85,7 @@ fn check_full<'a>(
 
 // Check 22: both slots of the sender's own row have other roles in force.
 fn check_roles(clock: u32, cred: &[u8], a: Action, b: &[u8]) -> Check
-    ensures { result ≡ refuseIf 22 (rolesFull (rolesInForce clock (was cred)) (was b) a) }
+    ensures { result ≡ refuse_if 22 (roles_full (roles_in_force clock (was cred)) (was b) a) }
 {
     let Action::Assert(_) = a else {
         return Check::Pass;
@@ -102,7 +104,7 @@ pub fn check_rows<'a>(
     a: Action,
     b: &[u8],
 ) -> Check
-    ensures { result ≡ verdict (rowChecks clock (before h creds aces) (was cred) (was b) a) }
+    ensures { result ≡ verdict (row_checks clock (before h creds aces) (was cred) (was b) a) }
 {
     let c = check_missing(h, creds, aces, a, b);
     let Check::Pass = c else {

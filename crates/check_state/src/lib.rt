@@ -1,9 +1,11 @@
 // Device states, checks 11 and 12: the writes that each state allows, and the moves between them.
 // 0 RESET, 1 RFOTM, 2 RFPRO, 3 RFNOP, 4 SRESET.
+#![tactic(auto)]
+
 ghost use Rattle.std.specs.Prelude.{◌≡◌, not, ◌≤◌};
-ghost use Rattle.rules.specs.States.{writeAllowed, moveListed, stateAllows};
-ghost use Rattle.rules.specs.Checks.{refuseIf, verdict, badTarget};
-ghost use Rattle.rules.specs.Contracts.Groups.{stateChecks};
+ghost use Rattle.rules.specs.States.{write_allowed, move_listed, state_allows};
+ghost use Rattle.rules.specs.Checks.{refuse_if, verdict, bad_target};
+ghost use Rattle.rules.specs.Promises.Groups.{state_checks};
 
 use rules::{Action, Check, Head, State};
 
@@ -19,7 +21,7 @@ const WRITES: [[bool; 4]; 5] = [
 // No other number is a state, and none allows a write.
 fn write_allowed(state: u8, kind: usize) -> bool
     requires { kind ≤ 3 }
-    ensures { result ≡ writeAllowed state kind }
+    ensures { result ≡ write_allowed state kind }
 {
     let s = state as usize;
     if 4 < s {
@@ -30,7 +32,7 @@ fn write_allowed(state: u8, kind: usize) -> bool
 
 // The listed moves: a target by a state.
 fn move_listed(state: u8, owned: bool, target: u8) -> bool
-    ensures { result ≡ moveListed state owned target }
+    ensures { result ≡ move_listed state owned target }
 {
     match state {
         State::RFOTM => match target {
@@ -60,7 +62,7 @@ fn move_listed(state: u8, owned: bool, target: u8) -> bool
 }
 
 fn check_state(state: u8, a: Action) -> Check
-    ensures { result ≡ refuseIf 11 (not (stateAllows state a)) }
+    ensures { result ≡ refuse_if 11 (not (state_allows state a)) }
 {
     match a {
         Action::Serve => Check::refuse_if(11, !(state == State::RFNOP)),
@@ -82,7 +84,7 @@ fn check_state(state: u8, a: Action) -> Check
 }
 
 fn check_target(h: Head, a: Action) -> Check
-    ensures { result ≡ refuseIf 12 (badTarget h a) }
+    ensures { result ≡ refuse_if 12 (bad_target h a) }
 {
     let Action::SetState(target) = a else {
         return Check::Pass;
@@ -94,7 +96,7 @@ fn check_target(h: Head, a: Action) -> Check
 // The first of the checks 11 and 12 that applies to the action.
 // Rules out: a write that the state forbids; a move to the present state; a role asserted over connection 0.
 pub fn check_states(h: Head, a: Action) -> Check
-    ensures { result ≡ verdict (stateChecks h a) }
+    ensures { result ≡ verdict (state_checks h a) }
 {
     let c = check_state(h.state, a);
     let Check::Pass = c else {

@@ -1,10 +1,12 @@
 // Whether tables are sound.
 // The head, then each table: room for its rows, zeros after them, each row storable, distinct numbers.
+#![tactic(auto)]
+
 ghost use Rattle.std.specs.Prelude.{◌≡◌, [], ◌*◌, ◌≤◌, length};
 ghost use Rattle.rows.specs.Rows.{rows_of, every};
 ghost use Rattle.rules.specs.declared.Table.TheVariants.{Creds, Aces};
-ghost use Rattle.rules.specs.Tables.{stride, storable, capacity, rowsSound, headSound, sound, tables_of, tableSize};
-ghost use Rattle.rules.specs.Contracts.Words.{was, before};
+ghost use Rattle.rules.specs.Tables.{stride, storable, capacity, rows_sound, head_sound, sound, tables_of, table_size};
+ghost use Rattle.rules.specs.Promises.Words.{was, before};
 
 use row_format::{all_aces_storable, all_creds_sound, is_nil, stride_of};
 use rules::{ACE_ROW, ACE_ROWS, ACES, CRED_ROW, CRED_ROWS, CREDS, Head, Table};
@@ -33,8 +35,8 @@ pub fn rows_storable(table: Table, rows: &[u8], count: usize) -> bool
 }
 
 fn creds_sound(count: usize, bytes: &[u8]) -> bool
-    requires { length bytes.now ≡ tableSize Creds }
-    ensures { result ≡ rowsSound Creds count (was bytes) }
+    requires { length bytes.now ≡ table_size Creds }
+    ensures { result ≡ rows_sound Creds count (was bytes) }
 {
     let most = CREDS as usize;
     if most < count {
@@ -51,8 +53,8 @@ fn creds_sound(count: usize, bytes: &[u8]) -> bool
 }
 
 fn aces_sound(count: usize, bytes: &[u8]) -> bool
-    requires { length bytes.now ≡ tableSize Aces }
-    ensures { result ≡ rowsSound Aces count (was bytes) }
+    requires { length bytes.now ≡ table_size Aces }
+    ensures { result ≡ rows_sound Aces count (was bytes) }
 {
     let most = ACES as usize;
     if most < count {
@@ -69,7 +71,7 @@ fn aces_sound(count: usize, bytes: &[u8]) -> bool
 }
 
 fn head_sound(h: Head) -> bool
-    ensures { result ≡ headSound h }
+    ensures { result ≡ head_sound h }
 {
     let owned = !is_nil(&h.devowner) as u8;
     let state = (1 <= h.state) & (h.state <= 4);

@@ -5,38 +5,38 @@ use Rattle.rows.proofs.Prelude.{◌∷◌, ◌++◌, eqb-true, and_left, and_rig
 use Rattle.rows.proofs.Prelude.{take-append-drop, cond, eqb-false}
 use mathlib.Core.Bool.{and_assoc}
 use native.Mathlib.Numerals.{add-four}
-use Rattle.rows.specs.Rows.{Row, same, has_key, allZero, every, some, distinctNumbers, rows_of}
-use Rattle.rows.proofs.Zeros.{zeros-part}
-use Rattle.rows.proofs.Laws.{take_rest, some-append, from_row, is_at, some-index}
+use Rattle.rows.specs.Rows.{Row, same, has_key, all_zero, every, some, distinct_numbers, rows_of}
+use Rattle.rows.proofs.Zeros.{zeros_part}
+use Rattle.rows.proofs.Laws.{take_rest, some_append, from_row, is_at, some_index}
 use Rattle.rows.specs.declared.Found.{Found}
 use Rattle.rows.specs.declared.Found.TheVariants.{At, Nothing}
-use Rattle.rows.specs.Contracts.{indexFrom}
+use Rattle.rows.specs.Promises.{index_from}
 use Rattle.rules.specs.declared.Table.TheVariants.{Creds}
-use Rattle.rules.specs.Tables.{rowsIn}
+use Rattle.rules.specs.Tables.{rows_in}
 use Rattle.rules.specs.Bits.{bits, be16}
 use Rattle.rules.specs.declared.Check.{Check}
 use Rattle.rules.specs.declared.Check.TheVariants.{Pass, Refuse}
 use Rattle.rules.specs.declared.Resource.{Resource}
 use Rattle.rules.specs.declared.Sender.TheVariants.{Unauthenticated, Partner}
-use Rattle.rules.specs.Record.{headerOf, sender, credential}
-use Rattle.rules.specs.Directory.{known, resourceOf}
-use Rattle.rules.specs.Permission.{connectionOf}
-use Rattle.rules.specs.Checks.{verdict, no_row, noCredential}
-use Rattle.rules.specs.Contracts.Callers.{lacksRow}
-use Rattle.rules.specs.Contracts.Groups.{senderChecks}
-use Rattle.rules.proofs.RecordLaws.{key-is}
+use Rattle.rules.specs.Record.{header_of, sender, credential}
+use Rattle.rules.specs.Directory.{known, resource_of}
+use Rattle.rules.specs.Permission.{connection_of}
+use Rattle.rules.specs.Checks.{verdict, no_row, no_credential}
+use Rattle.rules.specs.Promises.Callers.{lacks_row}
+use Rattle.rules.specs.Promises.Groups.{sender_checks}
+use Rattle.rules.proofs.RecordLaws.{key_is}
 use Rattle.check_header.specs.Fields.{Has}
-use Rattle.rules.proofs.BitLaws.{bits-part, bits_small, bits-word, word-is}
-use Rattle.rules.proofs.Answers.{passed, long-enough}
-use Rattle.rules_terminal.specs.Slots.{seatOf, padded, slot_of, recordOf, roundBytes, roundOf, waiting, queueSize, slotSize}
-use Rattle.rules_terminal.specs.Terminal.{slotSound, queueSound}
-use Rattle.rules_terminal.proofs.SlotLaws.{short-record}
-use Rattle.rules.specs.Sizes.{credRowSize}
+use Rattle.rules.proofs.BitLaws.{bits_part, bits_small, bits_word, word_is}
+use Rattle.rules.proofs.Answers.{passed, long_enough}
+use Rattle.rules_terminal.specs.Slots.{seat_of, padded, slot_of, record_of, round_bytes, round_of, waiting, queue_size, slot_size}
+use Rattle.rules_terminal.specs.Terminal.{slot_sound, queue_sound}
+use Rattle.rules_terminal.proofs.SlotLaws.{short_record}
+use Rattle.rules.specs.Sizes.{cred_row_size}
 
 -- the round's bytes: zeros, or 1 and a seat
 pub round_is : (m : List ℕ) → 4 ≤ length m
-    → (eqb (get_or m 1 0) 1 || ((eqb (get_or m 1 0) 0 && eqb (get_or m 2 0) 0) && eqb (get_or m 3 0) 0)) ≡ same (take 3 (drop 1 m)) (roundBytes (roundOf m))
-unfolding same roundOf
+    → (eqb (get_or m 1 0) 1 || ((eqb (get_or m 1 0) 0 && eqb (get_or m 2 0) 0) && eqb (get_or m 3 0) 0)) ≡ same (take 3 (drop 1 m)) (round_bytes (round_of m))
+unfolding same round_of
 round_is m h =
     rw (drop-cons m 1 0 (omega arith), drop-cons m 2 0 (omega arith), drop-cons m 3 0 (omega arith))
     (bool_cases (eqb (get_or m 1 0) 0)
@@ -45,49 +45,49 @@ round_is m h =
 
 -- ---- a slot
 
-later : (i k : ℕ) (b : List ℕ) → i ≤ k → allZero (drop i b) ≡ true → allZero (drop k b) ≡ true
+later : (i k : ℕ) (b : List ℕ) → i ≤ k → all_zero (drop i b) ≡ true → all_zero (drop k b) ≡ true
 later i k b h e =
     let at : i + (k - i) ≡ k = omega arith in
-    ap (λ (j : ℕ). allZero (drop j b)) (sym at) ∙ and_right (allZero (take (k - i) (drop i b))) _ (sym (zeros-part (k - i) i b) ∙ e)
+    ap (λ (j : ℕ). all_zero (drop j b)) (sym at) ∙ and_right (all_zero (take (k - i) (drop i b))) _ (sym (zeros_part (k - i) i b) ∙ e)
 
 -- n bytes from i on, and those from k on, which begins within them or just after
-pub overlap : (n i k : ℕ) (b : List ℕ) → i ≤ k → k ≤ i + n → (allZero (take n (drop i b)) && allZero (drop k b)) ≡ allZero (drop i b)
+pub overlap : (n i k : ℕ) (b : List ℕ) → i ≤ k → k ≤ i + n → (all_zero (take n (drop i b)) && all_zero (drop k b)) ≡ all_zero (drop i b)
 overlap n i k b h l =
-    let parts = zeros-part n i b in
-    bool_cases (allZero (drop i b))
-    (λ e. rw (e, and_left (allZero (take n (drop i b))) (allZero (drop (i + n) b)) (sym parts ∙ e), later i k b h e))
-    (λ e. rw e (bool_cases (allZero (take n (drop i b)))
-    (λ t. rw t (bool_cases (allZero (drop k b)) (λ z. contradiction (parts ∙ rw (t, later k (i + n) b l z)) e) (λ z. z)))
+    let parts = zeros_part n i b in
+    bool_cases (all_zero (drop i b))
+    (λ e. rw (e, and_left (all_zero (take n (drop i b))) (all_zero (drop (i + n) b)) (sym parts ∙ e), later i k b h e))
+    (λ e. rw e (bool_cases (all_zero (take n (drop i b)))
+    (λ t. rw t (bool_cases (all_zero (drop k b)) (λ z. contradiction (parts ∙ rw (t, later k (i + n) b l z)) e) (λ z. z)))
     (λ t. rw t)))
 
 -- bytes are the first n of them with zeros after exactly where the rest is zeros
-zeros-behind : (n m : ℕ) (b : List ℕ) → m + n ≡ length b → same b (take n b ++ replicate m 0) ≡ allZero (drop n b)
-unfolding same allZero
-zeros-behind zero zero [] h = refl
-zeros-behind zero (suc m) [] h = absurd (omega arith)
-zeros-behind zero zero (x ∷ b) h = absurd (omega arith)
-zeros-behind zero (suc m) (x ∷ b) h = ap (λ (k : Bool). eqb x 0 && k) (zeros-behind zero m b (omega arith))
-zeros-behind (suc n) m [] h = absurd (omega arith)
-zeros-behind (suc n) m (x ∷ b) h = rw (eq-eqb x x refl) (zeros-behind n m b (omega arith))
+zeros_behind : (n m : ℕ) (b : List ℕ) → m + n ≡ length b → same b (take n b ++ replicate m 0) ≡ all_zero (drop n b)
+unfolding same all_zero
+zeros_behind zero zero [] h = refl
+zeros_behind zero (suc m) [] h = absurd (omega arith)
+zeros_behind zero zero (x ∷ b) h = absurd (omega arith)
+zeros_behind zero (suc m) (x ∷ b) h = ap (λ (k : Bool). eqb x 0 && k) (zeros_behind zero m b (omega arith))
+zeros_behind (suc n) m [] h = absurd (omega arith)
+zeros_behind (suc n) m (x ∷ b) h = rw (eq-eqb x x refl) (zeros_behind n m b (omega arith))
 
 -- the tests of a slot's bytes, joined as the code has them
-pub tested-slot : (w r : List ℕ) → length w ≡ slotSize → r ≡ take (length r) (drop 4 w) → length r ≤ 256 → get_or r 2 0 < 256 → get_or r 3 0 < 256
+pub tested_slot : (w r : List ℕ) → length w ≡ slot_size → r ≡ take (length r) (drop 4 w) → length r ≤ 256 → get_or r 2 0 < 256 → get_or r 3 0 < 256
     → (((eqb (get_or w 0 0) (get_or r 2 0) && eqb (get_or w 1 0) (get_or r 3 0)) && (eqb (get_or w 2 0) (length r / 256) && eqb (get_or w 3 0) (length r % 256)))
-    && allZero (drop (length r + 4) w))
+    && all_zero (drop (length r + 4) w))
     ≡ same w (slot_of r)
-unfolding slot_of seatOf padded be16 same
-tested-slot [] r l e h x y = absurd (omega arith)
-tested-slot (a ∷ []) r l e h x y = absurd (omega arith)
-tested-slot (a ∷ b ∷ []) r l e h x y = absurd (omega arith)
-tested-slot (a ∷ b ∷ c ∷ []) r l e h x y = absurd (omega arith)
-tested-slot (a ∷ b ∷ c ∷ d ∷ w) r l e h x y =
-    let number : be16 (credential r) ≡ get_or r 2 0 ∷ get_or r 3 0 ∷ [] = word-is r 2 x y in
+unfolding slot_of seat_of padded be16 same
+tested_slot [] r l e h x y = absurd (omega arith)
+tested_slot (a ∷ []) r l e h x y = absurd (omega arith)
+tested_slot (a ∷ b ∷ []) r l e h x y = absurd (omega arith)
+tested_slot (a ∷ b ∷ c ∷ []) r l e h x y = absurd (omega arith)
+tested_slot (a ∷ b ∷ c ∷ d ∷ w) r l e h x y =
+    let number : be16 (credential r) ≡ get_or r 2 0 ∷ get_or r 3 0 ∷ [] = word_is r 2 x y in
     let long : length w ≡ 256 = omega arith in
-    let rest : same w (r ++ replicate (256 - length r) 0) ≡ allZero (drop (length r) w) =
-    ap (λ (s : List ℕ). same w (s ++ replicate (256 - length r) 0)) e ∙ zeros-behind (length r) (256 - length r) w (omega arith) in
+    let rest : same w (r ++ replicate (256 - length r) 0) ≡ all_zero (drop (length r) w) =
+    ap (λ (s : List ℕ). same w (s ++ replicate (256 - length r) 0)) e ∙ zeros_behind (length r) (256 - length r) w (omega arith) in
     let end : drop (length r + 4) (a ∷ b ∷ c ∷ d ∷ w) ≡ drop (length r) w = ap (λ (n : ℕ). drop n (a ∷ b ∷ c ∷ d ∷ w)) (add-four (length r)) in
-    ap (λ (z : List ℕ). ((eqb a (get_or r 2 0) && eqb b (get_or r 3 0)) && (eqb c (length r / 256) && eqb d (length r % 256))) && allZero z) end
-    ∙ regroup (eqb a (get_or r 2 0)) (eqb b (get_or r 3 0)) (eqb c (length r / 256)) (eqb d (length r % 256)) (allZero (drop (length r) w))
+    ap (λ (z : List ℕ). ((eqb a (get_or r 2 0) && eqb b (get_or r 3 0)) && (eqb c (length r / 256) && eqb d (length r % 256))) && all_zero z) end
+    ∙ regroup (eqb a (get_or r 2 0)) (eqb b (get_or r 3 0)) (eqb c (length r / 256)) (eqb d (length r % 256)) (all_zero (drop (length r) w))
     ∙ ap (λ (k : Bool). eqb a (get_or r 2 0) && (eqb b (get_or r 3 0) && (eqb c (length r / 256) && (eqb d (length r % 256) && k)))) (sym rest)
     ∙ ap (λ (s : List ℕ). same (a ∷ b ∷ c ∷ d ∷ w) (s ++ (length r / 256 ∷ length r % 256 ∷ (r ++ replicate (256 - length r) 0)))) (sym number)
   where
@@ -106,50 +106,50 @@ module _ (r : List ℕ) where
   abbrev word : ℕ
   word = bits r 0 16
 
-  verb-is : bits r 0 3 ≡ word / 8192
-  verb-is = bits-part r 0 0 3 16 (omega arith) ∙ omega (arith, bits_small r 0 16)
+  verb_is : bits r 0 3 ≡ word / 8192
+  verb_is = bits_part r 0 0 3 16 (omega arith) ∙ omega (arith, bits_small r 0 16)
 
-  pub connection-is : bits r 3 1 ≡ word / 4096 % 2
-  connection-is = bits-part r 0 3 1 16 (omega arith)
+  pub connection_is : bits r 3 1 ≡ word / 4096 % 2
+  connection_is = bits_part r 0 3 1 16 (omega arith)
 
-  resource-is : bits r 4 6 ≡ word / 64 % 64
-  resource-is = bits-part r 0 4 6 16 (omega arith)
+  resource_is : bits r 4 6 ≡ word / 64 % 64
+  resource_is = bits_part r 0 4 6 16 (omega arith)
 
-  zeros-is : bits r 10 6 ≡ word % 64
-  zeros-is = bits-part r 0 10 6 16 (omega arith) ∙ omega arith
+  zeros_is : bits r 10 6 ≡ word % 64
+  zeros_is = bits_part r 0 10 6 16 (omega arith) ∙ omega arith
 
   -- so the header has the fields that are looked at, where v is the word
   module _ (v : ℕ) (is_IsWord : v ≡ word) (l : 4 ≤ length r) (x : get_or r 2 0 < 256) (y : get_or r 3 0 < 256) where
-    pub has-fields : (k : ℕ) → k ≡ bits (take 2 (drop 2 r)) 0 16 → (e : Resource) → e ≡ resourceOf (v / 64 % 64)
-        → Has (headerOf r) (v / 8192) (v / 4096 % 2) (v % 64) k e.known
-    has-fields k number e is =
+    pub has_fields : (k : ℕ) → k ≡ bits (take 2 (drop 2 r)) 0 16 → (e : Resource) → e ≡ resource_of (v / 64 % 64)
+        → Has (header_of r) (v / 8192) (v / 4096 % 2) (v % 64) k e.known
+    has_fields k number e is =
         record {
-          verb-is = verb-is ∙ ap (λ (n : ℕ). n / 8192) (sym is_IsWord);
-          connection-is = connection-is ∙ ap (λ (n : ℕ). n / 4096 % 2) (sym is_IsWord);
-          zeros-are = zeros-is ∙ ap (λ (n : ℕ). n % 64) (sym is_IsWord);
-          credential-is =
-              bits-word r 2 x y
-              ∙ sym (number ∙ rw (drop-cons r 2 0 (omega arith), drop-cons r 3 0 (omega arith)) (bits-word (get_or r 2 0 ∷ get_or r 3 0 ∷ []) 0 x y));
-          known_is = ap known (resource-is ∙ ap (λ (n : ℕ). n / 64 % 64) (sym is_IsWord)) ∙ sym (ap (λ (z : Resource). z.known) is);
+          verb_is = verb_is ∙ ap (λ (n : ℕ). n / 8192) (sym is_IsWord);
+          connection_is = connection_is ∙ ap (λ (n : ℕ). n / 4096 % 2) (sym is_IsWord);
+          zeros_are = zeros_is ∙ ap (λ (n : ℕ). n % 64) (sym is_IsWord);
+          credential_is =
+              bits_word r 2 x y
+              ∙ sym (number ∙ rw (drop-cons r 2 0 (omega arith), drop-cons r 3 0 (omega arith)) (bits_word (get_or r 2 0 ∷ get_or r 3 0 ∷ []) 0 x y));
+          known_is = ap known (resource_is ∙ ap (λ (n : ℕ). n / 64 % 64) (sym is_IsWord)) ∙ sym (ap (λ (z : Resource). z.known) is);
         }
 
     -- and the sender is the one of that connection
-    by-connection : sender r ≡ cond (eqb (v / 4096 % 2) 1) (Partner (bits r 16 16)) Unauthenticated
+    by_connection_lem : sender r ≡ cond (eqb (v / 4096 % 2) 1) (Partner (bits r 16 16)) Unauthenticated
     unfolding sender
-    by-connection = rw (le-leb 4 (length r) l, connection-is, is_IsWord)
+    by_connection_lem = rw (le-leb 4 (length r) l, connection_is, is_IsWord)
 
-    pub over : connectionOf (sender r) ≡ v / 4096 % 2
-    over = rw by-connection (bool_cases (eqb (v / 4096 % 2) 1)
+    pub over : connection_of (sender r) ≡ v / 4096 % 2
+    over = rw by_connection_lem (bool_cases (eqb (v / 4096 % 2) 1)
         (λ e. rw e (sym (eqb-true (v / 4096 % 2) 1 e)))
         (λ e. rw e (omega (arith, eqb-false (v / 4096 % 2) 1 e))))
 
     -- by a place that shows it of a partner
-    pub row-shown : (ws : List Row) (p : Found)
-        → (v / 4096 % 2 ≡ 1 → (n : ℕ) → take 2 (drop 2 r) ≡ be16 n → lacksRow (Partner n) p ≡ no_row ws (Partner n))
-        → lacksRow (sender r) p ≡ noCredential ws (headerOf r)
-    unfolding noCredential
-    row-shown ws p shows = rw by-connection (bool_cases (eqb (v / 4096 % 2) 1)
-        (λ e. rw e (shows (eqb-true (v / 4096 % 2) 1 e) (bits r 16 16) (sym (key-is r 2 l x y))))
+    pub row_shown : (ws : List Row) (p : Found)
+        → (v / 4096 % 2 ≡ 1 → (n : ℕ) → take 2 (drop 2 r) ≡ be16 n → lacks_row (Partner n) p ≡ no_row ws (Partner n))
+        → lacks_row (sender r) p ≡ no_credential ws (header_of r)
+    unfolding no_credential
+    row_shown ws p shows = rw by_connection_lem (bool_cases (eqb (v / 4096 % 2) 1)
+        (λ e. rw e (shows (eqb-true (v / 4096 % 2) 1 e) (bits r 16 16) (sym (key_is r 2 l x y))))
         (λ e. rw e))
 
 -- ---- the sender's row
@@ -159,64 +159,64 @@ some_at : (passes : Row → Bool) (s n i : ℕ) (b : List ℕ) → i < n → pas
 unfolding some
 some_at passes s n i b h e =
     ap (some passes) (sym (take-append-drop i (rows_of s n b)))
-    ∙ some-append passes (take i (rows_of s n b)) (drop i (rows_of s n b))
+    ∙ some_append passes (take i (rows_of s n b)) (drop i (rows_of s n b))
     ∙ or_true_right (some passes (take i (rows_of s n b))) (some passes (drop i (rows_of s n b))) (rw (from_row s n i b h, e))
 
 -- the key is looked for at a place, and then by a search
 module _ (n count : ℕ) (b key : List ℕ) (few : count ≡ min n 24) where
-  pub near : (i : ℕ) (h : Bool) → i < count → h ≡ has_key 0 key (take credRowSize (drop (i * credRowSize) b)) → h ≡ true → true ≡ some (has_key 0 key) (rowsIn Creds n b)
-  unfolding rowsIn
-  near i h l e t = sym (ap (λ (k : ℕ). some (has_key 0 key) (rows_of credRowSize k b)) (sym few) ∙ some_at (has_key 0 key) credRowSize count i b l (sym e ∙ t))
+  pub near : (i : ℕ) (h : Bool) → i < count → h ≡ has_key 0 key (take cred_row_size (drop (i * cred_row_size) b)) → h ≡ true → true ≡ some (has_key 0 key) (rows_in Creds n b)
+  unfolding rows_in
+  near i h l e t = sym (ap (λ (k : ℕ). some (has_key 0 key) (rows_of cred_row_size k b)) (sym few) ∙ some_at (has_key 0 key) cred_row_size count i b l (sym e ∙ t))
 
-  pub searched : (p : Found) → p ≡ indexFrom 0 (has_key 0 key) (rows_of credRowSize count b) → is_at p ≡ some (has_key 0 key) (rowsIn Creds n b)
-  unfolding rowsIn
+  pub searched : (p : Found) → p ≡ index_from 0 (has_key 0 key) (rows_of cred_row_size count b) → is_at p ≡ some (has_key 0 key) (rows_in Creds n b)
+  unfolding rows_in
   searched p e =
-      ap is_at e ∙ sym (some-index 0 (has_key 0 key) (rows_of credRowSize count b)) ∙ ap (λ (k : ℕ). some (has_key 0 key) (rows_of credRowSize k b)) few
+      ap is_at e ∙ sym (some_index 0 (has_key 0 key) (rows_of cred_row_size count b)) ∙ ap (λ (k : ℕ). some (has_key 0 key) (rows_of cred_row_size k b)) few
 
 -- what a place says of a partner's row
-pub lacks : (n : ℕ) (p : Found) → lacksRow (Partner n) p ≡ not (is_at p)
+pub lacks : (n : ℕ) (p : Found) → lacks_row (Partner n) p ≡ not (is_at p)
 lacks n (At i) = refl
 lacks n Nothing = refl
 
 -- what the checks of a slot's record say of it
-module _ (ws : List Row) (w r : List ℕ) (is : r ≡ recordOf w) (c : Check) (told : c ≡ verdict (senderChecks ws r)) where
+module _ (ws : List Row) (w r : List ℕ) (is : r ≡ record_of w) (c : Check) (told : c ≡ verdict (sender_checks ws r)) where
   pub fits : c ≡ Pass → (r ≡ take (length r) (drop 4 w)) × (4 ≤ length r) × (length r ≤ 256)
-  unfolding recordOf
+  unfolding record_of
   fits e = (
     is ∙ take_again (bits (drop 2 w) 0 16) (drop 4 w) ∙ ap (λ (l : List ℕ). take (length l) (drop 4 w)) (sym is),
-    long-enough r (passed (senderChecks ws r) (sym told ∙ e) 2),
-    short-record ws r (sym told ∙ e),
+    long_enough r (passed (sender_checks ws r) (sym told ∙ e) 2),
+    short_record ws r (sym told ∙ e),
   )
 
-  pub bad-record : (n : ℕ) → c ≡ Refuse n → false ≡ slotSound ws w
-  unfolding slotSound
-  bad-record n e = sym (rw (← is, ← told, e, and-false))
+  pub bad_record : (n : ℕ) → c ≡ Refuse n → false ≡ slot_sound ws w
+  unfolding slot_sound
+  bad_record n e = sym (rw (← is, ← told, e, and-false))
 
-  pub kept-is : c ≡ Pass → (b : Bool) → b ≡ same w (slot_of r) → b ≡ slotSound ws w
-  unfolding slotSound
-  kept-is e b s = s ∙ rw (← is, ← told, e, and-true)
+  pub kept_is : c ≡ Pass → (b : Bool) → b ≡ same w (slot_of r) → b ≡ slot_sound ws w
+  unfolding slot_sound
+  kept_is e b s = s ∙ rw (← is, ← told, e, and-true)
 
 -- ---- the queue
 
-pub too_many : (ws : List Row) (m : List ℕ) → 25 < get_or m 0 0 → false ≡ queueSound ws m
-unfolding queueSound
+pub too_many : (ws : List Row) (m : List ℕ) → 25 < get_or m 0 0 → false ≡ queue_sound ws m
+unfolding queue_sound
 too_many ws m l = sym (rw (lt-leb (get_or m 0 0) 25 l, and-false))
 
-module _ (ws : List Row) (m : List ℕ) (six : length m ≡ queueSize) (few : get_or m 0 0 ≤ 25) where
+module _ (ws : List Row) (m : List ℕ) (six : length m ≡ queue_size) (few : get_or m 0 0 ≤ 25) where
   abbrev part : List ℕ
   part = take (length m - 4) (drop 4 m)
 
-  pub tested : (r z s d : Bool) → r ≡ same (take 3 (drop 1 m)) (roundBytes (roundOf m)) → z ≡ allZero (drop (get_or m 0 0 * slotSize) part)
-      → s ≡ every (slotSound ws) (rows_of slotSize (get_or m 0 0) part) → d ≡ distinctNumbers (rows_of slotSize (get_or m 0 0) part)
-      → (((r && z) && s) && d) ≡ queueSound ws m
-  unfolding queueSound waiting
+  pub tested : (r z s d : Bool) → r ≡ same (take 3 (drop 1 m)) (round_bytes (round_of m)) → z ≡ all_zero (drop (get_or m 0 0 * slot_size) part)
+      → s ≡ every (slot_sound ws) (rows_of slot_size (get_or m 0 0) part) → d ≡ distinct_numbers (rows_of slot_size (get_or m 0 0) part)
+      → (((r && z) && s) && d) ≡ queue_sound ws m
+  unfolding queue_sound waiting
   tested r z s d hr hz hs hd =
-      rw (hr, hz, hs, hd, take_rest 4 m, eq-eqb (length m) queueSize six, le-leb (get_or m 0 0) 25 few, min-eq_left few)
+      rw (hr, hz, hs, hd, take_rest 4 m, eq-eqb (length m) queue_size six, le-leb (get_or m 0 0) 25 few, min-eq_left few)
 
   -- where nothing waits, the round and the zeros are all there is
-  pub tested-empty : (r z : Bool) → get_or m 0 0 ≡ 0 → r ≡ same (take 3 (drop 1 m)) (roundBytes (roundOf m)) → z ≡ allZero (drop (get_or m 0 0 * slotSize) part)
-      → (r && z) ≡ queueSound ws m
-  unfolding every distinctNumbers rows_of
-  tested-empty r z e hr hz =
+  pub tested_empty : (r z : Bool) → get_or m 0 0 ≡ 0 → r ≡ same (take 3 (drop 1 m)) (round_bytes (round_of m)) → z ≡ all_zero (drop (get_or m 0 0 * slot_size) part)
+      → (r && z) ≡ queue_sound ws m
+  unfolding every distinct_numbers rows_of
+  tested_empty r z e hr hz =
       sym (and-true (r && z)) ∙ sym (and-true ((r && z) && true))
       ∙ tested r z true true hr hz (rw e) (rw e)

@@ -8,28 +8,28 @@ use Rattle.rules.specs.declared.Check.TheVariants.{Pass, Refuse}
 use Rattle.rules.specs.declared.Decision.{Decision}
 use Rattle.rules.specs.Record.{Request}
 use Rattle.rules.specs.Checks.{verdict}
-use Rattle.rules.specs.Contracts.Callers.{callerRow}
-use Rattle.rules.specs.Contracts.Decision.{laterChecks, decisionChecks, nothingPermitted, decisionBy, decidedBy, decided}
+use Rattle.rules.specs.Promises.Callers.{caller_row}
+use Rattle.rules.specs.Promises.Decision.{later_checks, decision_checks, nothing_permitted, decision_by, decided_by, decided}
 
 -- a refusal of these checks
-pub turned : (k : Caller) (p l : ℕ) (a : Action) (c v : Check) (n : ℕ) (d : Decision) → c ≡ v → c ≡ Refuse n → d ≡ nothingPermitted k c → d ≡ decisionBy k p a l v
-turned k p l a c v n d e r f = f ∙ ap (nothingPermitted k) r ∙ ap (decisionBy k p a l) (sym r ∙ e)
+pub turned : (k : Caller) (p l : ℕ) (a : Action) (c v : Check) (n : ℕ) (d : Decision) → c ≡ v → c ≡ Refuse n → d ≡ nothing_permitted k c → d ≡ decision_by k p a l v
+turned k p l a c v n d e r f = f ∙ ap (nothing_permitted k) r ∙ ap (decision_by k p a l) (sym r ∙ e)
 
 -- a pass
 pub let_through : (k : Caller) (p q l m : ℕ) (a b : Action) (c v : Check) → c ≡ Pass → c ≡ v → p ≡ q → a ≡ b → l ≡ m
-    → record { check = c; caller = k; permission = p; action = a; reply = l } ≡ decisionBy k q b m v
-let_through k p q l m a b c v e i f g h = rw (e, f, g, h) (ap (decisionBy k q b m) (sym e ∙ i))
+    → record { check = c; caller = k; permission = p; action = a; reply = l } ≡ decision_by k q b m v
+let_through k p q l m a b c v e i f g h = rw (e, f, g, h) (ap (decision_by k q b m) (sym e ∙ i))
 
-check-by : (k : Caller) (p l : ℕ) (a : Action) (v : Check) → (decisionBy k p a l v).check ≡ v
-check-by k p l a Pass = refl
-check-by k p l a (Refuse n) = refl
+check_by : (k : Caller) (p l : ℕ) (a : Action) (v : Check) → (decision_by k p a l v).check ≡ v
+check_by k p l a Pass = refl
+check_by k p l a (Refuse n) = refl
 
 -- the check of a decision is the verdict on its list
-pub check-later : (clock : ℕ) (t : Tables) (k : Caller) (b : List ℕ) (capacity : ℕ)
-    → (decidedBy clock t k b capacity).check ≡ verdict (laterChecks clock t (callerRow t k) k.header b capacity)
-unfolding decidedBy
-check-later clock t k b capacity = check-by k _ _ _ (verdict (laterChecks clock t (callerRow t k) k.header b capacity))
+pub check_later : (clock : ℕ) (t : Tables) (k : Caller) (b : List ℕ) (capacity : ℕ)
+    → (decided_by clock t k b capacity).check ≡ verdict (later_checks clock t (caller_row t k) k.header b capacity)
+unfolding decided_by
+check_later clock t k b capacity = check_by k _ _ _ (verdict (later_checks clock t (caller_row t k) k.header b capacity))
 
-pub check-decided : (t : Tables) (q : Request) → (decided t q).check ≡ verdict (decisionChecks t q)
+pub check_decided : (t : Tables) (q : Request) → (decided t q).check ≡ verdict (decision_checks t q)
 unfolding decided
-check-decided t q = check-by _ _ _ _ (verdict (decisionChecks t q))
+check_decided t q = check_by _ _ _ _ (verdict (decision_checks t q))

@@ -1,9 +1,11 @@
 // The decision on a record with sound tables: the checks after 1 in their order and, where none applies, what is permitted.
 // The caller is found once, for all checks and for the permission. Check 1 is in check_waiting: it covers the queue too.
+#![tactic(auto)]
+
 ghost use Rattle.std.specs.Prelude.{◌≡◌};
 ghost use Rattle.rules.specs.Record.{received};
-ghost use Rattle.rules.specs.Contracts.Decision.{nothingPermitted, decidedBy, decided};
-ghost use Rattle.rules.specs.Contracts.Words.{was, before};
+ghost use Rattle.rules.specs.Promises.Decision.{nothing_permitted, decided_by, decided};
+ghost use Rattle.rules.specs.Promises.Words.{was, before};
 
 use action::action_of;
 use caller::{caller_of, check_caller, row_of};
@@ -17,7 +19,7 @@ use rules::{ACE_ROWS, Action, CRED_ROWS, Caller, Check, Decision, Head};
 
 // A record that is refused is permitted nothing.
 fn turned_away(caller: Caller, c: Check) -> Decision
-    ensures { result ≡ nothingPermitted caller c }
+    ensures { result ≡ nothing_permitted caller c }
 {
     Decision {
         check: c,
@@ -39,7 +41,7 @@ pub fn decide_request<'a>(
     b: &[u8],
     capacity: usize,
 ) -> Decision
-    ensures { result ≡ decidedBy clock (before h creds aces) caller (was b) capacity }
+    ensures { result ≡ decided_by clock (before h creds aces) caller (was b) capacity }
 {
     let header = caller.header;
     let found = caller.row;

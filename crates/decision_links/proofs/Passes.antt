@@ -6,40 +6,40 @@ use Rattle.rules.specs.declared.Tables.{Tables}
 use Rattle.rules.specs.declared.Table.TheVariants.{Aces}
 use Rattle.rules.specs.declared.Caller.{Caller}
 use Rattle.rules.specs.declared.Action.TheVariants.{Serve}
-use Rattle.rules.specs.Directory.{resourceOf, isSecurity, links}
+use Rattle.rules.specs.Directory.{resource_of, is_security, links}
 use Rattle.rules.specs.Tables.{head_of, rows}
-use Rattle.rules.specs.Permission.{connectionOf, effectiveOf, permissionOf}
-use Rattle.rules.specs.Action.{actionOf}
-use Rattle.rules.specs.Reading.{reads, replyTo, tooShort}
-use Rattle.rules.specs.Checks.{verdict, isPass}
-use Rattle.rules.specs.Contracts.Callers.{callerRow}
-use Rattle.rules.specs.Links.{setOf}
-use Rattle.permission_row.specs.ByLink.{byLink, ofLink}
-use Rattle.decision.proofs.Laws.{check-later}
-use Rattle.decision_links.specs.Linked.{linkHeader, linked, linkPasses, linkPermitted}
-use Rattle.decision_links.proofs.Halves.{link-plain, set_same}
+use Rattle.rules.specs.Permission.{connection_of, effective_of, permission_of}
+use Rattle.rules.specs.Action.{action_of}
+use Rattle.rules.specs.Reading.{reads, reply_to, too_short}
+use Rattle.rules.specs.Checks.{verdict, is_pass}
+use Rattle.rules.specs.Promises.Callers.{caller_row}
+use Rattle.rules.specs.Links.{set_of}
+use Rattle.permission_row.specs.ByLink.{by_link, of_link}
+use Rattle.decision.proofs.Laws.{check_later}
+use Rattle.decision_links.specs.Linked.{link_header, linked, link_passes, link_permitted}
+use Rattle.decision_links.proofs.Halves.{link_plain, set_same}
 
 module _ (clock : ℕ) (t : Tables) (k : Caller) where
   abbrev allowed : ℕ → ℕ
-  allowed n = permissionOf clock (head_of t) (rows Aces t) (callerRow t k) (linkHeader k.header n)
+  allowed n = permission_of clock (head_of t) (rows Aces t) (caller_row t k) (link_header k.header n)
 
-  module _ (n : ℕ) (plain : isSecurity n ≡ false) where
-    serves : actionOf (linkHeader k.header n) [] ≡ Serve
-    unfolding actionOf
+  module _ (n : ℕ) (plain : is_security n ≡ false) where
+    serves : action_of (link_header k.header n) [] ≡ Serve
+    unfolding action_of
     serves = rw (plain)
 
-    no-reply : replyTo clock t (callerRow t k) (linkHeader k.header n) ≡ []
-    unfolding replyTo reads
-    no-reply = rw (plain, and-false)
+    no_reply : reply_to clock t (caller_row t k) (link_header k.header n) ≡ []
+    unfolding reply_to reads
+    no_reply = rw (plain, and-false)
 
-    passes-decided : linkPasses (head_of t) k.header (allowed n) n ≡ linkPermitted clock t k n
-    unfolding linkPasses linkPermitted verdict tooShort
-    passes-decided = sym (ap isPass (check-later clock t (linked k n) [] 0) ∙ rw (serves, no-reply))
+    passes_decided : link_passes (head_of t) k.header (allowed n) n ≡ link_permitted clock t k n
+    unfolding link_passes link_permitted verdict too_short
+    passes_decided = sym (ap is_pass (check_later clock t (linked k n) [] 0) ∙ rw (serves, no_reply))
 
-  pub set_is : (w : Row) (connection : ℕ) (ps : List ℕ) → w ≡ callerRow t k → connection ≡ connectionOf k.header.sender
-      → ps ≡ byLink (λ n. effectiveOf clock (head_of t) (rows Aces t) w connection (resourceOf n))
-      → setOf (λ n. linkPasses (head_of t) k.header (ofLink ps n) n) links ≡ setOf (linkPermitted clock t k) links
-  unfolding byLink setOf permissionOf
+  pub set_is : (w : Row) (connection : ℕ) (ps : List ℕ) → w ≡ caller_row t k → connection ≡ connection_of k.header.sender
+      → ps ≡ by_link (λ n. effective_of clock (head_of t) (rows Aces t) w connection (resource_of n))
+      → set_of (λ n. link_passes (head_of t) k.header (of_link ps n) n) links ≡ set_of (link_permitted clock t k) links
+  unfolding by_link set_of permission_of
   set_is w connection ps ew ec ep =
       rw (ep, ew, ec)
-      (set_same (λ n. linkPasses (head_of t) k.header (allowed n) n) (linkPermitted clock t k) (λ n low high. passes-decided n (link-plain n low high)))
+      (set_same (λ n. link_passes (head_of t) k.header (allowed n) n) (link_permitted clock t k) (λ n low high. passes_decided n (link_plain n low high)))

@@ -8,19 +8,19 @@ use Rattle.rules.specs.declared.Header.{Header}
 use Rattle.rules.specs.declared.Action.TheVariants.{Serve}
 use Rattle.rules.specs.declared.Caller.{Caller}
 use Rattle.rules.specs.declared.Links.{Links}
-use Rattle.rules.specs.Directory.{resourceOf, links}
-use Rattle.rules.specs.Checks.{verdict, isPass}
-use Rattle.rules.specs.Contracts.Groups.{requestChecks, stateChecks}
-use Rattle.rules.specs.Contracts.Decision.{decidedBy}
-use Rattle.rules.specs.Links.{setOf, asksLinks}
+use Rattle.rules.specs.Directory.{resource_of, links}
+use Rattle.rules.specs.Checks.{verdict, is_pass}
+use Rattle.rules.specs.Promises.Groups.{request_checks, state_checks}
+use Rattle.rules.specs.Promises.Decision.{decided_by}
+use Rattle.rules.specs.Links.{set_of, asks_links}
 use Rattle.rules.specs.Types.{Clock, Permission, ResourceNumber, ResourceSet}
 
 -- the header with the resource n
-abbrev pub linkHeader : Header → ResourceNumber → Header
-linkHeader header n = record {
+abbrev pub link_header : Header → ResourceNumber → Header
+link_header header n = record {
   verb = header.verb;
   connection = header.connection;
-  resource = resourceOf n;
+  resource = resource_of n;
   zeros = header.zeros;
   credential = header.credential;
   sender = header.sender;
@@ -28,18 +28,18 @@ linkHeader header n = record {
 
 -- the same caller, for the resource n
 abbrev pub linked : Caller → ResourceNumber → Caller
-linked caller n = record { header = linkHeader caller.header n; row = caller.row }
+linked caller n = record { header = link_header caller.header n; row = caller.row }
 
 -- the link n passes with this permission: it asks to be served
-unfoldable pub linkPasses : Head → Header → Permission → ResourceNumber → Bool
-linkPasses head header p n = isPass (verdict (requestChecks p (linkHeader header n) Serve ++ stateChecks head Serve))
+unfoldable pub link_passes : Head → Header → Permission → ResourceNumber → Bool
+link_passes head header p n = is_pass (verdict (request_checks p (link_header header n) Serve ++ state_checks head Serve))
 
 -- the link n is permitted
-unfoldable pub linkPermitted : Clock → Tables → Caller → ResourceNumber → Bool
-linkPermitted clock t caller n = isPass (decidedBy clock t (linked caller n) [] 0).check
+unfoldable pub link_permitted : Clock → Tables → Caller → ResourceNumber → Bool
+link_permitted clock t caller n = is_pass (decided_by clock t (linked caller n) [] 0).check
 
-unfoldable pub permittedSet : Clock → Tables → Caller → ResourceSet
-permittedSet clock t caller = cond (asksLinks caller.header) (setOf (linkPermitted clock t caller) links) 0
+unfoldable pub permitted_set : Clock → Tables → Caller → ResourceSet
+permitted_set clock t caller = cond (asks_links caller.header) (set_of (link_permitted clock t caller) links) 0
 
-abbrev pub permittedLinks : Clock → Tables → Caller → Links
-permittedLinks clock t caller = record { set = permittedSet clock t caller; size = ones (permittedSet clock t caller) }
+abbrev pub permitted_links : Clock → Tables → Caller → Links
+permitted_links clock t caller = record { set = permitted_set clock t caller; size = ones (permitted_set clock t caller) }

@@ -1,11 +1,13 @@
 // The links of /yard whose own record would be permitted, as a set and its size.
 // Each link goes through the checks as if its own record had come; it passes 1 to 7 because the record that asks did.
+#![tactic(auto)]
+
 ghost use Rattle.std.specs.Prelude.{◌≡◌, cond, ◌≤◌};
 ghost use Rattle.rules.specs.Directory.{links};
-ghost use Rattle.rules.specs.Links.{setOf, asksLinks};
-ghost use Rattle.rules.specs.Contracts.Words.{before};
-ghost use Rattle.permission_row.specs.ByLink.{ofLink};
-ghost use Rattle.decision_links.specs.Linked.{linkHeader, linkPasses, linkPermitted, permittedLinks};
+ghost use Rattle.rules.specs.Links.{set_of, asks_links};
+ghost use Rattle.rules.specs.Promises.Words.{before};
+ghost use Rattle.permission_row.specs.ByLink.{of_link};
+ghost use Rattle.decision_links.specs.Linked.{link_header, link_passes, link_permitted, permitted_links};
 
 use caller::{connection_of, row_of};
 use check_request::check_request;
@@ -17,7 +19,7 @@ use rules::{ACE_ROWS, Action, CRED_ROWS, Caller, Check, Head, Header, Links, Res
 
 // The header with another resource.
 fn link_header(header: Header, n: u16) -> Header
-    ensures { result ≡ linkHeader header n }
+    ensures { result ≡ link_header header n }
 {
     let who = header.sender;
     Header {
@@ -33,7 +35,7 @@ fn link_header(header: Header, n: u16) -> Header
 // The bit of link n in the set, where its own record passes with this permission.
 // It asks to be served, with no body and no reply, so no check after 12 applies.
 fn link_bit(h: Head, header: Header, permission: u8, n: u8, bit: u64) -> u64
-    ensures { (result ≡ cond (linkPasses h header permission n) bit 0) × (result ≤ bit) }
+    ensures { (result ≡ cond (link_passes h header permission n) bit 0) × (result ≤ bit) }
 {
     let c = check_request(permission, link_header(header, n as u16), Action::Serve);
     let Check::Pass = c else {
@@ -51,7 +53,7 @@ const FIRST: u64 = 0x0080_0000_0000_0000;
 
 // The sum of the links' bits, with the permission on each link: from link to link the bit halves.
 fn bits_sum(h: Head, header: Header, permissions: [u8; LINKS]) -> u64
-    ensures { result ≡ setOf (λ n. linkPasses h header (ofLink permissions n) n) links }
+    ensures { result ≡ set_of (λ n. link_passes h header (of_link permissions n) n) links }
 {
     let mut set: u64 = 0;
     let mut bit: u64 = FIRST;
@@ -73,7 +75,7 @@ fn link_set<'a>(
     aces: &'a [u8; ACE_ROWS],
     caller: Caller,
 ) -> u64
-    ensures { result ≡ setOf (linkPermitted clock (before h creds aces) caller) links }
+    ensures { result ≡ set_of (link_permitted clock (before h creds aces) caller) links }
 {
     let header = caller.header;
     let found = caller.row;
@@ -85,7 +87,7 @@ fn link_set<'a>(
 
 // RETRIEVE or UPDATE of /yard.
 fn asks_links(h: Header) -> bool
-    ensures { result ≡ asksLinks h }
+    ensures { result ≡ asks_links h }
 {
     let verb = h.verb;
     let e = h.resource;
@@ -105,7 +107,7 @@ pub fn links_of<'a>(
     aces: &'a [u8; ACE_ROWS],
     caller: Caller,
 ) -> Links
-    ensures { result ≡ permittedLinks clock (before h creds aces) caller }
+    ensures { result ≡ permitted_links clock (before h creds aces) caller }
 {
     let header = caller.header;
     if !asks_links(header) {

@@ -4,8 +4,8 @@ ghost use Rattle.std.specs.Prelude.{◌≡◌, ◌*◌, ◌≤◌, length, repli
 ghost use Rattle.rows.specs.Words.{was, became};
 ghost use Rattle.text.specs.Buffer.{written, Puts};
 ghost use Rattle.rows.specs.Rows.{joined, packed};
-ghost use Rattle.rules.specs.Tables.{tables_of, longest, rowFrom, tableSize};
-ghost use Rattle.rules.specs.Defaults.{defaults, listed, goodList, defaultRows, fresh};
+ghost use Rattle.rules.specs.Tables.{tables_of, longest, row_from, table_size};
+ghost use Rattle.rules.specs.Defaults.{defaults, listed, good_list, default_rows, fresh};
 
 use check_tables::rows_storable;
 use row_format::stride_of;
@@ -28,7 +28,7 @@ const NO_ROLES: [u8; 16] = [0; 16];
 
 // Writes the row that a body of the longest form is.
 fn put_listed_row(table: Table, out: &mut [u8], at: usize, body: &[u8]) -> usize
-    ensures { Puts (was out) at (rowFrom table (was body)) (became out) result }
+    ensures { Puts (was out) at (row_from table (was body)) (became out) result }
 {
     let p = put(out, at, body);
     let more = stride_of(table) - longest_of(table);
@@ -53,8 +53,8 @@ fn put_listed(table: Table, out: &mut [u8], list: &[u8]) -> usize
 
 // Whether the list, with these rows over a table of zeros, counts.
 fn good_list(table: Table, list: &[u8], rows: &[u8]) -> bool
-    requires { rows.now ≡ written (replicate (tableSize table) 0) 0 (joined (listed table list.now)) }
-    ensures { result ≡ goodList table (was list) }
+    requires { rows.now ≡ written (replicate (table_size table) 0) 0 (joined (listed table list.now)) }
+    ensures { result ≡ good_list table (was list) }
 {
     let long = longest_of(table);
     let n = list.len() / long;
@@ -68,9 +68,9 @@ fn good_list(table: Table, list: &[u8], rows: &[u8]) -> bool
 
 // Puts the default rows of a list into an empty table, and says how many they are.
 fn put_defaults(table: Table, out: &mut [u8], list: &[u8]) -> usize
-    requires { out.old ≡ replicate (tableSize table) 0 }
-    ensures value { (result ≡ length (defaultRows table (was list))) × (result ≤ 2) }
-    ensures out_value { became out ≡ packed (tableSize table) (defaultRows table (was list)) }
+    requires { out.old ≡ replicate (table_size table) 0 }
+    ensures value { (result ≡ length (default_rows table (was list))) × (result ≤ 2) }
+    ensures out_value { became out ≡ packed (table_size table) (default_rows table (was list)) }
 {
     put_listed(table, out, list);
     if good_list(table, list, out) {

@@ -7,27 +7,27 @@ use Rattle.rules.specs.declared.Check.{Check}
 use Rattle.rules.specs.declared.Check.TheVariants.{Pass, Refuse}
 use Rattle.rules.specs.declared.Header.{Header}
 use Rattle.rules.specs.Types.{Bytes}
-use Rattle.rules.specs.Record.{Request, body, passedOn}
+use Rattle.rules.specs.Record.{Request, body, passed_on}
 use Rattle.rules.specs.Reading.{filled}
 use Rattle.rules.specs.Defaults.{Defaults}
-use Rattle.rules.specs.Outcome.{outcome, responseTo}
-use Rattle.rules.specs.Contracts.Results.{result_of, resultWith}
+use Rattle.rules.specs.Outcome.{outcome, response_to}
+use Rattle.rules.specs.Promises.Results.{result_of, result_with}
 use Rattle.rules.specs.declared.Decision.{Decision}
 use Rattle.rules.specs.Tables.{sound}
-use Rattle.rules.specs.Contracts.Decision.{decided}
-use Rattle.rules_terminal.specs.Slots.{Queue, queueOf, roundOf, waiting}
-use Rattle.rules_terminal.specs.Terminal.{queueAfter}
+use Rattle.rules.specs.Promises.Decision.{decided}
+use Rattle.rules_terminal.specs.Slots.{Queue, queue_of, round_of, waiting}
+use Rattle.rules_terminal.specs.Terminal.{queue_after}
 use Rattle.queue.specs.Queue.{IsQueue}
 
 -- the payload of a record r by what its checks say: a refused record has none
-abbrev pub payloadBy : Check → Header → Bytes → Bytes
-payloadBy Pass header r = passedOn header (body r)
-payloadBy (Refuse n) header r = []
+abbrev pub payload_by : Check → Header → Bytes → Bytes
+payload_by Pass header r = passed_on header (body r)
+payload_by (Refuse n) header r = []
 
 -- of a request q with tables t: what is reported with the tables afterwards, and the caller's buffer
 pub record Executes (d : Defaults) (t : Tables) (q : Request) (lent : Bytes) (j : Judgement) (creds aces buffer : Bytes) : Type 0 where
-  pub says : resultWith j creds aces ≡ result_of (outcome d t q)
-  pub fills : buffer ≡ filled lent (responseTo d t q).contents
+  pub says : result_with j creds aces ≡ result_of (outcome d t q)
+  pub fills : buffer ≡ filled lent (response_to d t q).contents
 
 -- the tables are sound, the decision is that on this request, and it permits
 abbrev pub Decided : Tables → Request → Decision → Type 0
@@ -35,8 +35,8 @@ Decided t q decision = (sound t ≡ true) × (decision ≡ decided t q) × (deci
 
 -- the bytes are a queue, and nothing besides its round and its slots
 abbrev pub IsWholeQueue : Queue → Type 0
-IsWholeQueue queue = IsQueue queue × (queue ≡ queueOf (roundOf queue) (waiting queue))
+IsWholeQueue queue = IsQueue queue × (queue ≡ queue_of (round_of queue) (waiting queue))
 
 -- the queue before and after
 abbrev pub LeavesQueue : Defaults → Tables → Request → Queue → Queue → Type 0
-LeavesQueue d t q old new = new ≡ queueAfter d t q (roundOf old) (waiting old)
+LeavesQueue d t q old new = new ≡ queue_after d t q (round_of old) (waiting old)

@@ -1,14 +1,16 @@
 // What becomes of a decided record with sound tables and a queue: the response, the tables changed in place, and the queue.
 // Check 1 and the decision are the caller's. Only here is put together what the sender gets.
+#![tactic(auto)]
+
 ghost use Rattle.std.specs.Prelude.{◌≡◌, true, length};
 ghost use Rattle.rules.specs.declared.Check.TheVariants.{Pass};
 ghost use Rattle.rules.specs.Record.{received};
 ghost use Rattle.rules.specs.Tables.{sound};
 ghost use Rattle.rules.specs.Defaults.{defaults};
-ghost use Rattle.rules.specs.Contracts.Decision.{decided};
-ghost use Rattle.execute.specs.Executed.{Decided, IsWholeQueue, LeavesQueue, payloadBy, Executes};
-ghost use Rattle.rules.specs.Contracts.Words.{was, became, given, before};
-ghost use Rattle.rules_terminal.specs.Terminal.{isReset};
+ghost use Rattle.rules.specs.Promises.Decision.{decided};
+ghost use Rattle.execute.specs.Executed.{Decided, IsWholeQueue, LeavesQueue, payload_by, Executes};
+ghost use Rattle.rules.specs.Promises.Words.{was, became, given, before};
+ghost use Rattle.rules_terminal.specs.Terminal.{is_reset};
 
 use decision_links::links_of;
 use effect::apply;
@@ -22,7 +24,7 @@ use rules_terminal::QUEUE;
 // of the record. It is the empty part for a security resource, and if the record is refused.
 // Rules out: a payload that starts a byte later; the body of a refused record, or of one for a security resource.
 pub fn payload(d: Decision, rec: &[u8]) -> &[u8]
-    ensures { result.now ≡ payloadBy d.check d.caller.header (was rec) }
+    ensures { result.now ≡ payload_by d.check d.caller.header (was rec) }
 {
     let c = d.check;
     let Check::Pass = c else {
@@ -77,7 +79,7 @@ pub fn execute(
 
 // Whether the action gives the fresh tables.
 fn is_reset(a: Action) -> bool
-    ensures { result ≡ isReset a }
+    ensures { result ≡ is_reset a }
 {
     let Action::SetState(target) = a else {
         return false;

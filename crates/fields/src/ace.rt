@@ -3,43 +3,43 @@
 ghost use Rattle.std.specs.Prelude.{◌≡◌};
 ghost use Rattle.rows.specs.Words.{was};
 ghost use Rattle.rules.specs.Bits.{bits};
-ghost use Rattle.rules.specs.Directory.{someSecurity};
-ghost use Rattle.rules.specs.Bodies.{aceKind, acePermission, acePlus, aceMinus, aceStar, in_set, setKnown};
-ghost use Rattle.rules.specs.Bodies.{aceSubject, aceAuthority, aceRole, aceConnection, aceFirst, aceLast};
+ghost use Rattle.rules.specs.Directory.{some_security};
+ghost use Rattle.rules.specs.Bodies.{ace_kind, ace_permission, ace_plus, ace_minus, ace_star, in_set, set_known};
+ghost use Rattle.rules.specs.Bodies.{ace_subject, ace_authority, ace_role, ace_connection, ace_first, ace_last};
 
 use crate::bits::{bit_at, byte_at, double_field, field};
 use rows::part;
 
 // 0 UUID, 1 role, 2 connection
 pub fn kind(row: &[u8]) -> u16
-    ensures { result ≡ aceKind (was row) }
+    ensures { result ≡ ace_kind (was row) }
 {
     field(row, 16, 2)
 }
 
 pub fn permission(row: &[u8]) -> u16
-    ensures { result ≡ acePermission (was row) }
+    ensures { result ≡ ace_permission (was row) }
 {
     field(row, 18, 5)
 }
 
 // The wildcard "+".
 pub fn plus(row: &[u8]) -> bool
-    ensures { result ≡ acePlus (was row) }
+    ensures { result ≡ ace_plus (was row) }
 {
     field(row, 23, 1) == 1
 }
 
 // The wildcard "-".
 pub fn minus(row: &[u8]) -> bool
-    ensures { result ≡ aceMinus (was row) }
+    ensures { result ≡ ace_minus (was row) }
 {
     field(row, 24, 1) == 1
 }
 
 // The wildcard "*".
 pub fn star(row: &[u8]) -> bool
-    ensures { result ≡ aceStar (was row) }
+    ensures { result ≡ ace_star (was row) }
 {
     field(row, 25, 1) == 1
 }
@@ -58,40 +58,40 @@ pub fn in_set(row: &[u8], resource: u16) -> bool
 }
 
 pub fn subject(row: &[u8]) -> &[u8]
-    ensures { result.now ≡ aceSubject (was row) }
+    ensures { result.now ≡ ace_subject (was row) }
 {
     part(row, 12, 16)
 }
 
 // Whose role it is.
 pub fn authority(row: &[u8]) -> u16
-    ensures { result ≡ aceAuthority (was row) }
+    ensures { result ≡ ace_authority (was row) }
 {
     field(row, 192, 16)
 }
 
 pub fn role(row: &[u8]) -> u16
-    ensures { result ≡ aceRole (was row) }
+    ensures { result ≡ ace_role (was row) }
 {
     field(row, 208, 16)
 }
 
 pub fn connection(row: &[u8]) -> u16
-    ensures { result ≡ aceConnection (was row) }
+    ensures { result ≡ ace_connection (was row) }
 {
     field(row, 223, 1)
 }
 
 // The first second of the row's period.
 pub fn first(row: &[u8]) -> u32
-    ensures { result ≡ aceFirst (was row) }
+    ensures { result ≡ ace_first (was row) }
 {
     double_field(row, 224)
 }
 
 // The last second of the row's period.
 pub fn last(row: &[u8]) -> u32
-    ensures { result ≡ aceLast (was row) }
+    ensures { result ≡ ace_last (was row) }
 {
     double_field(row, 256)
 }
@@ -105,7 +105,7 @@ pub fn connection_zeros(row: &[u8]) -> u16
 
 // Whether a security resource is in the set: they are its first five numbers.
 pub fn on_security(row: &[u8]) -> bool
-    ensures { result ≡ someSecurity (in_set (was row)) }
+    ensures { result ≡ some_security (in_set (was row)) }
 {
     field(row, 32, 5) != 0
 }
@@ -113,7 +113,7 @@ pub fn on_security(row: &[u8]) -> bool
 // Whether each number in the set of resources is known: the numbers between and after the known ones are not in it.
 // Byte by byte, as one union: the compiler then compares all eight together.
 pub fn set_known(row: &[u8]) -> bool
-    ensures { result ≡ setKnown (was row) 64 }
+    ensures { result ≡ set_known (was row) 64 }
 {
     // 5 to 7, 15, and 17 to 63
     let low = (byte_at(row, 4) % 8) | (byte_at(row, 5) % 2);

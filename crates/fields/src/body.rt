@@ -3,13 +3,13 @@
 ghost use Rattle.std.specs.Prelude.{◌≡◌};
 ghost use Rattle.rows.specs.Words.{was};
 ghost use Rattle.rules.specs.Bits.{bits};
-ghost use Rattle.rules.specs.Bodies.{newOwned, newOwner, target};
+ghost use Rattle.rules.specs.Bodies.{new_owned, new_owner, target};
 
 use crate::bits::field;
 use crate::skip;
 
 pub fn new_owned(b: &[u8]) -> u16
-    ensures { result ≡ newOwned (was b) }
+    ensures { result ≡ new_owned (was b) }
 {
     field(b, 0, 1)
 }
@@ -22,7 +22,7 @@ pub fn owner_zeros(b: &[u8]) -> u16
 
 // All that follows the first byte.
 pub fn new_owner(b: &[u8]) -> &[u8]
-    ensures { result.now ≡ newOwner (was b) }
+    ensures { result.now ≡ new_owner (was b) }
 {
     skip(b, 1)
 }

@@ -1,5 +1,7 @@
 // Total readers of records and rows: a field past the end is 0, and a part ends where the bytes end.
 // One reader of packed bits serves every named field.
+#![tactic(auto)]
+
 pub mod ace;
 pub mod asserted;
 mod bits;

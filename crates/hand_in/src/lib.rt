@@ -1,13 +1,15 @@
 // Hand-in: a record that passes the checks 1 to 7 and 26 waits in its sender's seat.
 // It asks nothing of its caller.
+#![tactic(auto)]
+
 ghost use Rattle.std.specs.Prelude.{◌≡◌, ◌≤◌, length, get_or};
-ghost use Rattle.rules.specs.Checks.{refuseIf, verdict};
-ghost use Rattle.rules_terminal.specs.Slots.{seatOf, waiting, queueSize};
+ghost use Rattle.rules.specs.Checks.{refuse_if, verdict};
+ghost use Rattle.rules_terminal.specs.Slots.{seat_of, waiting, queue_size};
 ghost use Rattle.rules_terminal.specs.Round.{occupied};
-ghost use Rattle.rules.specs.Contracts.Results.{numberJudgement, resultWith};
-ghost use Rattle.rules_terminal.specs.Terminal.{terminal, handInChecks};
+ghost use Rattle.rules.specs.Promises.Results.{number_judgement, result_with};
+ghost use Rattle.rules_terminal.specs.Terminal.{terminal, hand_in_checks};
 ghost use Rattle.rules_terminal.specs.Calls.{HandsIn};
-ghost use Rattle.rules.specs.Contracts.Words.{was, became, before};
+ghost use Rattle.rules.specs.Promises.Words.{was, became, before};
 
 use caller::check_record;
 use check_waiting::check_terminal;
@@ -17,8 +19,8 @@ use rules_terminal::{QUEUE, SLOT};
 
 // Check 26: the sender's seat is occupied.
 fn check_free(queue: &[u8], rec: &[u8]) -> Check
-    requires { (length queue.now ≡ queueSize) × (get_or queue.now 0 0 ≤ 25) × (4 ≤ length rec.now) }
-    ensures { result ≡ refuseIf 26 (occupied (waiting (was queue)) (seatOf (was rec))) }
+    requires { (length queue.now ≡ queue_size) × (get_or queue.now 0 0 ≤ 25) × (4 ≤ length rec.now) }
+    ensures { result ≡ refuse_if 26 (occupied (waiting (was queue)) (seat_of (was rec))) }
 {
     let count = queue[0] as usize;
     let Found::At(_) = rows::find(&queue[4..], SLOT, count, 0, &rec[2..4]) else {
@@ -35,7 +37,7 @@ fn check_hand_in<'a>(
     queue: &[u8; QUEUE],
     rec: &[u8],
 ) -> Check
-    ensures { result ≡ verdict (handInChecks (terminal (before h creds aces) (was queue)) (was rec)) }
+    ensures { result ≡ verdict (hand_in_checks (terminal (before h creds aces) (was queue)) (was rec)) }
 {
     let c = check_terminal(h, creds, aces, queue);
     let Check::Pass = c else {
@@ -50,7 +52,7 @@ fn check_hand_in<'a>(
 
 // What is reported of a record that is kept: 0, with permission 0 and all else empty.
 fn kept(h: Head) -> Judgement
-    ensures { result ≡ numberJudgement h 0 }
+    ensures { result ≡ number_judgement h 0 }
 {
     Judgement {
         answer: 0,
@@ -73,7 +75,7 @@ pub fn hand_in<'a>(
     rec: &[u8],
 ) -> Judgement
     ensures { HandsIn (terminal (before h creds aces) (was queue))
-        (was rec) (resultWith result (was creds) (was aces)) (became queue) }
+        (was rec) (result_with result (was creds) (was aces)) (became queue) }
 {
     let c = check_hand_in(h, creds, aces, queue, rec);
     let Check::Pass = c else {

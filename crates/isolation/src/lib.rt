@@ -1,15 +1,17 @@
 // Whether the senders of a list are isolated from all others: the premise of demand 3 as a question to the tables.
 // The first reason why not is returned immediately. Total: any bytes are tables, and any bytes a list.
+#![tactic(auto)]
+
 ghost use Rattle.std.specs.Prelude.{◌≡◌, ◌*◌, ◌≤◌, ◌<◌, length};
 ghost use Rattle.rows.specs.Rows.{rows_of};
-ghost use Rattle.rows.specs.Contracts.{index_of};
-ghost use Rattle.rules.specs.Directory.{someSecurity};
-ghost use Rattle.rules.specs.Permission.{isOwner};
-ghost use Rattle.rules.specs.Isolation.{mayFit};
-ghost use Rattle.rules.specs.Contracts.Words.{was, before};
+ghost use Rattle.rows.specs.Promises.{index_of};
+ghost use Rattle.rules.specs.Directory.{some_security};
+ghost use Rattle.rules.specs.Permission.{is_owner};
+ghost use Rattle.rules.specs.Isolation.{may_fit};
+ghost use Rattle.rules.specs.Promises.Words.{was, before};
 ghost use Rattle.rules_isolation.specs.declared.Isolation.TheVariants.{Isolated};
-ghost use Rattle.rules_isolation.specs.Question.{entries, senderOf, letsAlter, entryAnswer, entriesAnswer, isolationOf};
-ghost use Rattle.rules.specs.Sizes.{aceRowSize};
+ghost use Rattle.rules_isolation.specs.Question.{entries, sender_of, lets_alter, entry_answer, entries_answer, isolation_of};
+ghost use Rattle.rules.specs.Sizes.{ace_row_size};
 
 use caller::{connection_of, index_for, row_of};
 use check_tables::tables_sound;
@@ -24,7 +26,7 @@ use rules_isolation::Isolation;
 
 // Whether the row may fit the sender: it may assert any role one day.
 fn may_fit(cred: &[u8], connection: u16, ace: &[u8]) -> bool
-    ensures { result ≡ mayFit (was cred) connection (was ace) }
+    ensures { result ≡ may_fit (was cred) connection (was ace) }
 {
     let kind = ace::kind(ace);
     match kind {
@@ -37,15 +39,15 @@ fn may_fit(cred: &[u8], connection: u16, ace: &[u8]) -> bool
 }
 
 fn lets_alter(cred: &[u8], connection: u16, ace: &[u8]) -> bool
-    ensures { result ≡ letsAlter (was cred) connection (was ace) }
+    ensures { result ≡ lets_alter (was cred) connection (was ace) }
 {
     may_fit(cred, connection, ace) & row_alters(ace)
 }
 
 // The index of the first row that may let the sender alter a security resource.
 fn altering_row(aces: &[u8], count: usize, cred: &[u8], connection: u16) -> Found
-    requires { count * aceRowSize ≤ length aces.now }
-    ensures { result ≡ index_of (letsAlter (was cred) connection) (rows_of aceRowSize count (was aces)) }
+    requires { count * ace_row_size ≤ length aces.now }
+    ensures { result ≡ index_of (lets_alter (was cred) connection) (rows_of ace_row_size count (was aces)) }
 {
     let mut i = 0;
     while i < count {
@@ -61,7 +63,7 @@ fn altering_row(aces: &[u8], count: usize, cred: &[u8], connection: u16) -> Foun
 
 // The sender that an entry names.
 fn sender_of(entry: &[u8]) -> Sender
-    ensures { result ≡ senderOf (was entry) }
+    ensures { result ≡ sender_of (was entry) }
 {
     let number = be16(entry);
     if number == 0 {
@@ -72,7 +74,7 @@ fn sender_of(entry: &[u8]) -> Sender
 
 // Whether a credential row names the device owner or any row owner: the security resources are 0 to 4.
 fn names_owner(h: Head, cred: &[u8]) -> bool
-    ensures { result ≡ someSecurity (isOwner h (was cred)) }
+    ensures { result ≡ some_security (is_owner h (was cred)) }
 {
     let doxm = is_owner(h, cred, 0);
     let pstat = is_owner(h, cred, 1);
@@ -90,7 +92,7 @@ fn entry_answer<'a>(
     who: Sender,
     i: usize,
 ) -> Isolation
-    ensures { result ≡ entryAnswer (before h creds aces) i who Isolated }
+    ensures { result ≡ entry_answer (before h creds aces) i who Isolated }
 {
     let cred = row_of(h.ncreds, creds, index_for(h.ncreds, creds, who));
     if names_owner(h, cred) {
@@ -112,7 +114,7 @@ fn entries_answer<'a>(
     aces: &'a [u8; ACE_ROWS],
     list: &[u8],
 ) -> Isolation
-    ensures { result ≡ entriesAnswer (before h creds aces) 1 (entries (was list)) }
+    ensures { result ≡ entries_answer (before h creds aces) 1 (entries (was list)) }
 {
     let mut rest = list;
     let mut i: usize = 1;
@@ -136,7 +138,7 @@ pub fn isolation_of<'a>(
     aces: &'a [u8; ACE_ROWS],
     list: &[u8],
 ) -> Isolation
-    ensures { result ≡ isolationOf (before h creds aces) (was list) }
+    ensures { result ≡ isolation_of (before h creds aces) (was list) }
 {
     if list.len() % 2 == 1 {
         return Isolation::OddLength;

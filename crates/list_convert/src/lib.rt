@@ -1,13 +1,15 @@
 // An access list of the older terminals as access rows, in the caller's buffer.
 // The whole file is tested and the rows are counted before a byte is written.
+#![tactic(auto)]
+
 ghost use Rattle.std.specs.Prelude.{◌≡◌, ◌≤◌, length};
 ghost use Rattle.rows.specs.Words.{was, became};
 ghost use Rattle.text.specs.Buffer.{Puts};
 ghost use Rattle.rows.specs.Rows.{some, joined};
 ghost use Rattle.rules.specs.Reading.{filled};
 ghost use Rattle.rules.specs.Checks.{number_of};
-ghost use Rattle.rules_legacy.specs.OldList.{oldRows, badRow, badFile};
-ghost use Rattle.rules_legacy.specs.Conversion.{rowsMade, conversionVerdict, conversionReply};
+ghost use Rattle.rules_legacy.specs.OldList.{old_rows, bad_row, bad_file};
+ghost use Rattle.rules_legacy.specs.Conversion.{rows_made, conversion_verdict, conversion_reply};
 
 use list_row::{OLD_ROW, is_bad, made_count, put_made};
 use rules::{ACE_ROW, ACES};
@@ -25,7 +27,7 @@ pub struct Converted {
 
 // Whether some row is bad.
 fn has_bad_row(file: &[u8]) -> bool
-    ensures { result ≡ some badRow (oldRows (was file)) }
+    ensures { result ≡ some bad_row (old_rows (was file)) }
 {
     let mut rest = file;
     let mut left = file.len() / OLD_ROW;
@@ -40,14 +42,14 @@ fn has_bad_row(file: &[u8]) -> bool
 }
 
 fn is_bad_file(file: &[u8]) -> bool
-    ensures { result ≡ badFile (was file) }
+    ensures { result ≡ bad_file (was file) }
 {
     (file.len() % OLD_ROW != 0) | has_bad_row(file)
 }
 
 // How many rows are made.
 fn count_made(file: &[u8]) -> usize
-    ensures { result ≡ length (rowsMade (was file)) }
+    ensures { result ≡ length (rows_made (was file)) }
 {
     let mut total = 0usize;
     let mut rest = file;
@@ -62,8 +64,8 @@ fn count_made(file: &[u8]) -> usize
 
 // The rows made, in a buffer that holds them.
 fn put_all(out: &mut [u8], file: &[u8]) -> usize
-    requires { (length (rowsMade file.now) ≤ 32) × (length (joined (rowsMade file.now)) ≤ length out.old) }
-    ensures { Puts (was out) 0 (joined (rowsMade (was file))) (became out) result }
+    requires { (length (rows_made file.now) ≤ 32) × (length (joined (rows_made file.now)) ≤ length out.old) }
+    ensures { Puts (was out) 0 (joined (rows_made (was file))) (became out) result }
 {
     let mut p = 0;
     let mut number = 1u16;
@@ -82,9 +84,9 @@ fn put_all(out: &mut [u8], file: &[u8]) -> usize
 // A file of old rows as access rows: the answer, the length of the rows, and the caller's buffer afterwards.
 // Rules out: a byte written on a refusal; 24 for 32 rows, or before 23; 25 where the rows just fit; anon-clear before auth-crypt.
 pub fn convert(file: &[u8], rows: &mut [u8]) -> Converted
-    ensures answer { result.answer ≡ number_of (conversionVerdict (was file) (length (was rows))) }
-    ensures length { result.length ≡ length (conversionReply (was file) (length (was rows))) }
-    ensures buffer { became rows ≡ filled (was rows) (conversionReply (was file) (length (was rows))) }
+    ensures answer { result.answer ≡ number_of (conversion_verdict (was file) (length (was rows))) }
+    ensures length { result.length ≡ length (conversion_reply (was file) (length (was rows))) }
+    ensures buffer { became rows ≡ filled (was rows) (conversion_reply (was file) (length (was rows))) }
 {
     let bad = is_bad_file(file);
     let made = count_made(file);

@@ -1,13 +1,15 @@
 // One old row: whether it is bad, how many access rows it becomes, and their bytes.
 // The tests are total: a byte past the row's end is 0. Rows are put into a buffer that holds them, from an old row of 25 bytes.
+#![tactic(auto)]
+
 ghost use Rattle.std.specs.Prelude.{◌≡◌, ◌++◌, ◌+◌, ◌≤◌, ◌<◌, length, get_or};
 ghost use Rattle.rows.specs.Words.{was, became};
 ghost use Rattle.text.specs.Buffer.{Puts};
 ghost use Rattle.rows.specs.Rows.{joined};
 ghost use Rattle.rules.specs.Bits.{be16};
-ghost use Rattle.rules_legacy.specs.OldList.{isAnybody, badRow};
-ghost use Rattle.rules_legacy.specs.Conversion.{entry, connectionEntry, entriesOf, numberedFrom};
-ghost use Rattle.rules.specs.Sizes.{aceRowSize};
+ghost use Rattle.rules_legacy.specs.OldList.{is_anybody, bad_row};
+ghost use Rattle.rules_legacy.specs.Conversion.{entry, connection_entry, entries_of, numbered_from};
+ghost use Rattle.rules.specs.Sizes.{ace_row_size};
 
 use fields::{ace, skip};
 use row_format::is_nil;
@@ -47,14 +49,14 @@ fn flags(row: &[u8]) -> u8
 // Whether a zero bit is set or an unknown resource is in the set, which is 13 bytes later than in an access row.
 // Rules out: the last zero bit ignored; a set in which only the last resource is tested.
 pub fn is_bad(row: &[u8]) -> bool
-    ensures { result ≡ badRow (was row) }
+    ensures { result ≡ bad_row (was row) }
 {
     (flags(row) % 8 != 0) | !ace::set_known(skip(row, 13))
 }
 
 // Whether the row is for "*".
 fn is_anybody(row: &[u8]) -> bool
-    ensures { result ≡ isAnybody (was row) }
+    ensures { result ≡ is_anybody (was row) }
 {
     is_nil(part(row, 0, SUBJECT_BYTES))
 }
@@ -62,7 +64,7 @@ fn is_anybody(row: &[u8]) -> bool
 // How many access rows the row becomes.
 // Rules out: one for "*"; two for a UUID.
 pub fn made_count(row: &[u8]) -> u16
-    ensures { result ≡ length (entriesOf (was row)) }
+    ensures { result ≡ length (entries_of (was row)) }
 {
     if is_anybody(row) { 2 } else { 1 }
 }
@@ -90,7 +92,7 @@ fn row_made(number: u16, kind: u8, subject: &[u8], row: &[u8]) -> [u8; ACE_ROW]
 
 // That row in the buffer, which holds it, in one copy.
 fn put_row(out: &mut [u8], at: usize, number: u16, kind: u8, subject: &[u8], row: &[u8]) -> usize
-    requires { (kind < 4) × (length subject.now ≡ 16) × (length row.now ≡ 25) × (at + aceRowSize ≤ length out.old) }
+    requires { (kind < 4) × (length subject.now ≡ 16) × (length row.now ≡ 25) × (at + ace_row_size ≤ length out.old) }
     ensures { Puts (was out) at (be16 number ++ entry kind (was subject) (was row)) (became out) result }
 {
     let made = row_made(number, kind, subject, row);
@@ -100,8 +102,8 @@ fn put_row(out: &mut [u8], at: usize, number: u16, kind: u8, subject: &[u8], row
 
 // An access row for a connection.
 fn put_connection(out: &mut [u8], at: usize, number: u16, connection: u8, row: &[u8]) -> usize
-    requires { (length row.now ≡ 25) × (at + aceRowSize ≤ length out.old) }
-    ensures { Puts (was out) at (be16 number ++ connectionEntry connection (was row)) (became out) result }
+    requires { (length row.now ≡ 25) × (at + ace_row_size ≤ length out.old) }
+    ensures { Puts (was out) at (be16 number ++ connection_entry connection (was row)) (became out) result }
 {
     let mut subject = [0u8; SUBJECT_BYTES];
     subject[15] = connection;
@@ -113,8 +115,8 @@ fn put_connection(out: &mut [u8], at: usize, number: u16, connection: u8, row: &
 pub fn put_made(out: &mut [u8], at: usize, number: u16, row: &[u8]) -> usize
     requires { (number < 65535)
         × (length row.now ≡ 25)
-        × (at + length (joined (numberedFrom number (entriesOf row.now))) ≤ length out.old) }
-    ensures { Puts (was out) at (joined (numberedFrom number (entriesOf (was row)))) (became out) result }
+        × (at + length (joined (numbered_from number (entries_of row.now))) ≤ length out.old) }
+    ensures { Puts (was out) at (joined (numbered_from number (entries_of (was row)))) (became out) result }
 {
     if is_anybody(row) {
         let p = put_connection(out, at, number, 1, row);

@@ -1,13 +1,15 @@
 // The test of a list of access rows that the provisioning program writes: checks 19, then 20 and 21 row by row.
 // The first refusal is returned immediately, with its row. Total: any bytes are a list.
+#![tactic(auto)]
+
 ghost use Rattle.std.specs.Prelude.{◌≡◌, not, ◌||◌, [], ◌∷◌, ◌*◌, ◌≤◌, length};
 ghost use Rattle.rows.specs.Words.{was};
 ghost use Rattle.rows.specs.Rows.{rows_of};
 ghost use Rattle.rules.specs.declared.Table.TheVariants.{Aces};
 ghost use Rattle.rules.specs.Tables.{storable};
 ghost use Rattle.rules.specs.Checks.{verdict};
-ghost use Rattle.rules_lists.specs.Lists.{excessive, rowsTested, listTested};
-ghost use Rattle.rules.specs.Sizes.{aceRowSize};
+ghost use Rattle.rules_lists.specs.Lists.{excessive, rows_tested, list_tested};
+ghost use Rattle.rules.specs.Sizes.{ace_row_size};
 
 use fields::ace;
 use permission_row::row_alters;
@@ -42,8 +44,8 @@ fn check_row(row: &[u8], again: bool) -> Check
 
 // The rows of a list whose size is good.
 fn test_rows(rows: &[u8], count: usize) -> Tested
-    requires { count * aceRowSize ≤ length rows.now }
-    ensures { result ≡ rowsTested [] (rows_of aceRowSize count (was rows)) }
+    requires { count * ace_row_size ≤ length rows.now }
+    ensures { result ≡ rows_tested [] (rows_of ace_row_size count (was rows)) }
 {
     let repeat = before_repeat(rows, ACE_ROW, count);
     let mut i = 0;
@@ -64,7 +66,7 @@ fn test_rows(rows: &[u8], count: usize) -> Tested
 // Rules out: a list of 33 rows; a later bad row named; a number that occurs twice; a row for a
 // connection that gives UPDATE of acl2; 21 for a row that could not be stored.
 pub fn test_list(rows: &[u8]) -> Tested
-    ensures { result ≡ listTested (was rows) }
+    ensures { result ≡ list_tested (was rows) }
 {
     let count = rows.len() / ACE_ROW;
     if (rows.len() % ACE_ROW != 0) | (MOST_ROWS < count) {

@@ -1,11 +1,13 @@
 // The office text of one access control entry, put into a caller's buffer at a position.
 // Every public function is total: a byte past the buffer's end is not written, and the position goes on.
+#![tactic(auto)]
+
 ghost use Rattle.std.specs.Prelude.{◌≡◌, ◌++◌, ◌<◌};
 ghost use Rattle.rows.specs.Words.{was, became};
 ghost use Rattle.text.specs.Text.{ascii, decimal};
 ghost use Rattle.text.specs.Buffer.{Puts};
-ghost use Rattle.rules_office.specs.Office.{hexDigit, dashed, dash, hexByte, uuidText, uuidSubject};
-ghost use Rattle.rules_office.specs.Office.{roleSubject, connectionSubject, subjectText, resourcesText, rowText};
+ghost use Rattle.rules_office.specs.Office.{hex_digit, dashed, dash, hex_byte, uuid_text, uuid_subject};
+ghost use Rattle.rules_office.specs.Office.{role_subject, connection_subject, subject_text, resources_text, row_text};
 
 use fields::{ace, be16};
 use office_resources::put_resources;
@@ -14,7 +16,7 @@ use text::{direct, put, put_byte, put_decimal};
 
 fn hex_digit(d: u8) -> u8
     requires { d < 16 }
-    ensures { result ≡ hexDigit d }
+    ensures { result ≡ hex_digit d }
 {
     if d < 10 {
         return 48 + d;
@@ -45,7 +47,7 @@ fn put_dash(out: &mut [u8], at: usize, i: usize) -> usize
 
 // Byte i of a UUID: a dash before some, and two digits.
 fn put_hex(out: &mut [u8], at: usize, i: usize, b: u8) -> usize
-    ensures { Puts (was out) at (hexByte i b) (became out) result }
+    ensures { Puts (was out) at (hex_byte i b) (became out) result }
 {
     let p = put_dash(out, at, i);
     let p = put_byte(out, p, hex_digit(b / 16));
@@ -53,7 +55,7 @@ fn put_hex(out: &mut [u8], at: usize, i: usize, b: u8) -> usize
 }
 
 fn put_uuid(out: &mut [u8], at: usize, u: &[u8]) -> usize
-    ensures { Puts (was out) at (uuidText (was u)) (became out) result }
+    ensures { Puts (was out) at (uuid_text (was u)) (became out) result }
 {
     let mut p = at;
     let mut i = 0;
@@ -65,7 +67,7 @@ fn put_uuid(out: &mut [u8], at: usize, u: &[u8]) -> usize
 }
 
 fn put_uuid_subject(out: &mut [u8], at: usize, row: &[u8]) -> usize
-    ensures { Puts (was out) at (uuidSubject (was row)) (became out) result }
+    ensures { Puts (was out) at (uuid_subject (was row)) (became out) result }
 {
     let p = direct::put(out, at, b"{\"uuid\":\"");
     let p = put_uuid(out, p, ace::subject(row));
@@ -81,7 +83,7 @@ fn put_number(out: &mut [u8], at: usize, key: &[u8], n: u16) -> usize
 }
 
 fn put_role_subject(out: &mut [u8], at: usize, row: &[u8]) -> usize
-    ensures { Puts (was out) at (roleSubject (was row)) (became out) result }
+    ensures { Puts (was out) at (role_subject (was row)) (became out) result }
 {
     let p = put_number(out, at, b"{\"authority\":\"", ace::authority(row));
     let p = put_number(out, p, b"\",\"role\":\"", ace::role(row));
@@ -89,7 +91,7 @@ fn put_role_subject(out: &mut [u8], at: usize, row: &[u8]) -> usize
 }
 
 fn put_connection_subject(out: &mut [u8], at: usize, row: &[u8]) -> usize
-    ensures { Puts (was out) at (connectionSubject (was row)) (became out) result }
+    ensures { Puts (was out) at (connection_subject (was row)) (became out) result }
 {
     if ace::connection(row) == 1 {
         return put(out, at, b"{\"conntype\":\"auth-crypt\"}");
@@ -98,7 +100,7 @@ fn put_connection_subject(out: &mut [u8], at: usize, row: &[u8]) -> usize
 }
 
 fn put_subject(out: &mut [u8], at: usize, row: &[u8]) -> usize
-    ensures { Puts (was out) at (subjectText (was row)) (became out) result }
+    ensures { Puts (was out) at (subject_text (was row)) (became out) result }
 {
     let kind = ace::kind(row);
     match kind {
@@ -111,7 +113,7 @@ fn put_subject(out: &mut [u8], at: usize, row: &[u8]) -> usize
 
 // A key and the subject.
 fn put_keyed_subject(out: &mut [u8], at: usize, row: &[u8]) -> usize
-    ensures { Puts (was out) at (ascii ",\"subject\":" ++ subjectText (was row)) (became out) result }
+    ensures { Puts (was out) at (ascii ",\"subject\":" ++ subject_text (was row)) (became out) result }
 {
     let p = direct::put(out, at, b",\"subject\":");
     put_subject(out, p, row)
@@ -119,7 +121,7 @@ fn put_keyed_subject(out: &mut [u8], at: usize, row: &[u8]) -> usize
 
 // A key and the resources.
 fn put_keyed_resources(out: &mut [u8], at: usize, row: &[u8]) -> usize
-    ensures { Puts (was out) at (ascii ",\"resources\":[" ++ resourcesText (was row)) (became out) result }
+    ensures { Puts (was out) at (ascii ",\"resources\":[" ++ resources_text (was row)) (became out) result }
 {
     let p = direct::put(out, at, b",\"resources\":[");
     put_resources(out, p, row)
@@ -128,7 +130,7 @@ fn put_keyed_resources(out: &mut [u8], at: usize, row: &[u8]) -> usize
 // The text of a row.
 // Rules out: a wildcard that is lost; the UUID in upper case; the resources in another order.
 pub fn put_row(out: &mut [u8], at: usize, row: &[u8]) -> usize
-    ensures { Puts (was out) at (rowText (was row)) (became out) result }
+    ensures { Puts (was out) at (row_text (was row)) (became out) result }
 {
     let p = put_number(out, at, b"{\"aceid\":", be16(row));
     let p = put_keyed_subject(out, p, row);

@@ -5,61 +5,61 @@ use Rattle.text.specs.Text.{ascii}
 use Rattle.text.specs.Buffer.{largest, Puts}
 use Rattle.text.proofs.Buffers.{puts_then, written_start}
 use Rattle.rows.specs.Rows.{Row, rows_of, without, joined}
-use Rattle.rows.proofs.Laws.{take_rest, rowsOf-suc}
+use Rattle.rows.proofs.Laws.{take_rest, rows_of_suc}
 use Rattle.rules.specs.declared.Table.TheVariants.{Aces}
-use Rattle.rules.specs.Tables.{rowsIn}
-use Rattle.rules_terminal.specs.Terminal.{Terminal, soundTerminal}
+use Rattle.rules.specs.Tables.{rows_in}
+use Rattle.rules_terminal.specs.Terminal.{Terminal, sound_terminal}
 use Rattle.rules.specs.Reading.{filled}
 use Rattle.rules.specs.Checks.{verdict, number_of}
-use Rattle.rules_office.specs.Office.{comma, separated, rowText, rowsText, listText, seasonal, rowsWritten, officeText, officeVerdict, officeReply}
-use Rattle.rules_office.proofs.Bounds.{text-short}
-use Rattle.rules.specs.Sizes.{aceRowSize}
+use Rattle.rules_office.specs.Office.{comma, separated, row_text, rows_text, list_text, seasonal, rows_written, office_text, office_verdict, office_reply}
+use Rattle.rules_office.proofs.Bounds.{text_short}
+use Rattle.rules.specs.Sizes.{ace_row_size}
 
 -- the text of that many rows, those of a shorter period left out
 abbrev pub entries : Bool → ℕ → List ℕ → List ℕ
-entries first n b = separated first (map rowText (rowsWritten (rows_of aceRowSize n b)))
+entries first n b = separated first (map row_text (rows_written (rows_of ace_row_size n b)))
 
 -- what one row adds
 abbrev pub entry : Bool → Row → List ℕ
-entry first w = cond (seasonal w) [] (comma first ++ rowText w)
+entry first w = cond (seasonal w) [] (comma first ++ row_text w)
 
-pub entries-take : (first : Bool) (n : ℕ) (b : List ℕ) → 0 < n
-    → entries first n b ≡ entry first (take aceRowSize b) ++ entries (seasonal (take aceRowSize b) && first) (n - 1) (take (length b - aceRowSize) (drop aceRowSize b))
+pub entries_take : (first : Bool) (n : ℕ) (b : List ℕ) → 0 < n
+    → entries first n b ≡ entry first (take ace_row_size b) ++ entries (seasonal (take ace_row_size b) && first) (n - 1) (take (length b - ace_row_size) (drop ace_row_size b))
 unfolding without
-entries-take first n b h = rw (rowsOf-suc aceRowSize n b h, take_rest) (bool_cases (seasonal (take aceRowSize b)) (λ e. rw e) (λ e. rw e))
+entries_take first n b h = rw (rows_of_suc ace_row_size n b h, take_rest) (bool_cases (seasonal (take ace_row_size b)) (λ e. rw e) (λ e. rw e))
 
-pub entries-end : (first : Bool) (n : ℕ) (b : List ℕ) → n ≤ 0 → entries first n b ≡ []
+pub entries_end : (first : Bool) (n : ℕ) (b : List ℕ) → n ≤ 0 → entries first n b ≡ []
 unfolding rows_of without
-entries-end first n b h = let e : n ≡ 0 = omega arith in ap (λ (k : ℕ). entries first k b) e
+entries_end first n b h = let e : n ≡ 0 = omega arith in ap (λ (k : ℕ). entries first k b) e
 
 -- the list, in the three parts in which the code puts it
 pub list_puts : {o o₁ o₂ o₃ : List ℕ} {at r₁ r₂ r₃ : ℕ} (held : ℕ) (b : List ℕ) (n : ℕ) → length o ≤ largest → n ≡ min held 32
-    → Puts o at (ascii "{\"aclist2\":[") o₁ r₁ → Puts o₁ r₁ (rowsText (rowsWritten (rows_of aceRowSize n b))) o₂ r₂ → Puts o₂ r₂ (ascii "]}") o₃ r₃
-    → Puts o at (listText (rowsWritten (rowsIn Aces held b))) o₃ r₃
-unfolding listText rowsIn joined
+    → Puts o at (ascii "{\"aclist2\":[") o₁ r₁ → Puts o₁ r₁ (rows_text (rows_written (rows_of ace_row_size n b))) o₂ r₂ → Puts o₂ r₂ (ascii "]}") o₃ r₃
+    → Puts o at (list_text (rows_written (rows_in Aces held b))) o₃ r₃
+unfolding list_text rows_in joined
 list_puts held b n h e p q r =
-    rw (← e, append-nil, ← append_assoc (ascii "{\"aclist2\":[") (rowsText (rowsWritten (rows_of aceRowSize n b))) (ascii "]}"))
+    rw (← e, append-nil, ← append_assoc (ascii "{\"aclist2\":[") (rows_text (rows_written (rows_of ace_row_size n b))) (ascii "]}"))
     (puts_then h (puts_then h p q) r)
 
 -- ---- the three ends
 
 abbrev pub Ends : Terminal → List ℕ → List ℕ → ℕ → ℕ → Type 0
 Ends x o o' answer n =
-    (answer ≡ number_of (officeVerdict x (length o))) × ((n ≡ length (officeReply x (length o))) × (o' ≡ filled o (officeReply x (length o))))
+    (answer ≡ number_of (office_verdict x (length o))) × ((n ≡ length (office_reply x (length o))) × (o' ≡ filled o (office_reply x (length o))))
 
 module _ (x : Terminal) (o : List ℕ) where
-  pub not_sound : soundTerminal x ≡ false → Ends x o o 17 0
-  unfolding officeReply officeVerdict verdict filled
+  pub not_sound : sound_terminal x ≡ false → Ends x o o 17 0
+  unfolding office_reply office_verdict verdict filled
   not_sound e = (rw e, (rw e, rw e))
 
-  pub too_short : soundTerminal x ≡ true → ltb (length o) (length (officeText x.tables)) ≡ true → Ends x o o 18 0
-  unfolding officeReply officeVerdict verdict filled
+  pub too_short : sound_terminal x ≡ true → ltb (length o) (length (office_text x.tables)) ≡ true → Ends x o o 18 0
+  unfolding office_reply office_verdict verdict filled
   too_short e l = (rw (e, l), (rw (e, l), rw (e, l)))
 
-  pub all-written : {o' : List ℕ} (r : ℕ) → soundTerminal x ≡ true → ltb (length o) (length (officeText x.tables)) ≡ false
-      → Puts o 0 (officeText x.tables) o' r → Ends x o o' 0 r
-  unfolding officeReply officeVerdict verdict filled
-  all-written r e l p =
-      let f = ltb-false (length o) (length (officeText x.tables)) l in
-      let n : r ≡ length (officeText x.tables) = omega (arith, p.next, text-short x.tables) in
-      (rw (e, l), (rw (e, l) n, rw (e, l) (p.buffer ∙ written_start o (officeText x.tables) f)))
+  pub all_written : {o' : List ℕ} (r : ℕ) → sound_terminal x ≡ true → ltb (length o) (length (office_text x.tables)) ≡ false
+      → Puts o 0 (office_text x.tables) o' r → Ends x o o' 0 r
+  unfolding office_reply office_verdict verdict filled
+  all_written r e l p =
+      let f = ltb-false (length o) (length (office_text x.tables)) l in
+      let n : r ≡ length (office_text x.tables) = omega (arith, p.next, text_short x.tables) in
+      (rw (e, l), (rw (e, l) n, rw (e, l) (p.buffer ∙ written_start o (office_text x.tables) f)))

@@ -1,17 +1,19 @@
 // The tables' access list as office text, in the caller's buffer.
 // The same walk measures, on an empty buffer, and writes: too short is decided before a byte is written.
 // A buffer that fits every text needs no measuring.
+#![tactic(auto)]
+
 ghost use Rattle.std.specs.Prelude.{◌≡◌, cond, [], ◌++◌, ◌*◌, ◌≤◌, ltb, length};
 ghost use Rattle.text.specs.Buffer.{Puts};
 ghost use Rattle.rows.specs.Rows.{rows_of};
 ghost use Rattle.rules.specs.declared.Table.TheVariants.{Aces};
-ghost use Rattle.rules.specs.Tables.{rowsIn};
-ghost use Rattle.rules.specs.Contracts.Words.{was, became, before};
+ghost use Rattle.rules.specs.Tables.{rows_in};
+ghost use Rattle.rules.specs.Promises.Words.{was, became, before};
 ghost use Rattle.rules.specs.Reading.{filled};
 ghost use Rattle.rules.specs.Checks.{number_of};
 ghost use Rattle.rules_terminal.specs.Terminal.{terminal};
-ghost use Rattle.rules_office.specs.Office.{comma, rowText, rowsText, seasonal, rowsWritten, listText, officeVerdict, officeReply};
-ghost use Rattle.rules.specs.Sizes.{aceRowSize};
+ghost use Rattle.rules_office.specs.Office.{comma, row_text, rows_text, seasonal, rows_written, list_text, office_verdict, office_reply};
+ghost use Rattle.rules.specs.Sizes.{ace_row_size};
 
 use check_waiting::terminal_sound;
 use fields::{ace, capped};
@@ -22,7 +24,7 @@ use rules::{ACE_ROW, ACE_ROWS, ACES, CRED_ROWS, Head};
 use rules_terminal::QUEUE;
 use text::{direct, put};
 
-// Bytes that fit every text (`text-short`, rules_office/proofs/Bounds.antt).
+// Bytes that fit every text (`text_short`, rules_office/proofs/Bounds.antt).
 const TEXT_MAX: usize = 13069;
 
 // The result: 0, 17 or 18, and how many bytes were written.
@@ -42,7 +44,7 @@ fn is_seasonal(row: &[u8]) -> bool
 
 // A row after its comma, or nothing where the row is left out.
 fn put_entry(out: &mut [u8], at: usize, first: bool, row: &[u8]) -> usize
-    ensures { Puts (was out) at (cond (seasonal (was row)) [] (comma first ++ rowText (was row))) (became out) result }
+    ensures { Puts (was out) at (cond (seasonal (was row)) [] (comma first ++ row_text (was row))) (became out) result }
 {
     if is_seasonal(row) {
         return direct::put(out, at, b"");
@@ -52,8 +54,8 @@ fn put_entry(out: &mut [u8], at: usize, first: bool, row: &[u8]) -> usize
 }
 
 fn put_rows(out: &mut [u8], at: usize, rows: &[u8], count: usize) -> usize
-    requires { count * aceRowSize ≤ length rows.now }
-    ensures { Puts (was out) at (rowsText (rowsWritten (rows_of aceRowSize count (was rows)))) (became out) result }
+    requires { count * ace_row_size ≤ length rows.now }
+    ensures { Puts (was out) at (rows_text (rows_written (rows_of ace_row_size count (was rows)))) (became out) result }
 {
     let mut p = at;
     let mut first = true;
@@ -70,7 +72,7 @@ fn put_rows(out: &mut [u8], at: usize, rows: &[u8], count: usize) -> usize
 }
 
 fn put_list(out: &mut [u8], naces: u8, aces: &[u8; ACE_ROWS]) -> usize
-    ensures { Puts (was out) 0 (listText (rowsWritten (rowsIn Aces naces (was aces)))) (became out) result }
+    ensures { Puts (was out) 0 (list_text (rows_written (rows_in Aces naces (was aces)))) (became out) result }
 {
     let p = put(out, 0, b"{\"aclist2\":[");
     let count = capped(naces, ACES);
@@ -81,7 +83,7 @@ fn put_list(out: &mut [u8], naces: u8, aces: &[u8; ACE_ROWS]) -> usize
 // Whether a buffer of this capacity is shorter than the text.
 // Rules out: a buffer that fits exactly; a text that is longer than every text.
 fn is_too_short(capacity: usize, naces: u8, aces: &[u8; ACE_ROWS]) -> bool
-    ensures { result ≡ ltb capacity (length (listText (rowsWritten (rowsIn Aces naces (was aces))))) }
+    ensures { result ≡ ltb capacity (length (list_text (rows_written (rows_in Aces naces (was aces))))) }
 {
     if TEXT_MAX <= capacity {
         return false;
@@ -101,9 +103,9 @@ pub fn access_list<'a>(
     queue: &[u8; QUEUE],
     out: &mut [u8],
 ) -> Listed
-    ensures answer { result.answer ≡ number_of (officeVerdict (terminal (before h creds aces) (was queue)) (length (was out))) }
-    ensures length { result.length ≡ length (officeReply (terminal (before h creds aces) (was queue)) (length (was out))) }
-    ensures buffer { became out ≡ filled (was out) (officeReply (terminal (before h creds aces) (was queue)) (length (was out))) }
+    ensures answer { result.answer ≡ number_of (office_verdict (terminal (before h creds aces) (was queue)) (length (was out))) }
+    ensures length { result.length ≡ length (office_reply (terminal (before h creds aces) (was queue)) (length (was out))) }
+    ensures buffer { became out ≡ filled (was out) (office_reply (terminal (before h creds aces) (was queue)) (length (was out))) }
 {
     if !terminal_sound(h, creds, aces, queue) {
         return Listed {

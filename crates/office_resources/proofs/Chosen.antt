@@ -7,15 +7,15 @@ use Rattle.text.specs.Buffer.{Puts}
 use Rattle.text.proofs.Buffers.{Writing, writing_step}
 use Rattle.rows.specs.Rows.{Row}
 use Rattle.rules.specs.Lookup.{lookup}
-use Rattle.rules.specs.Bodies.{in_set, acePlus, aceMinus, aceStar}
+use Rattle.rules.specs.Bodies.{in_set, ace_plus, ace_minus, ace_star}
 use Rattle.rules_office.specs.Office.{comma, separated, names, href, choices, chosen, picked, braced}
 
 -- ---- a resource's name by its number
 
 -- the name of a number that is known
-pub name-puts : {n j at r : ℕ} {o x o' : List ℕ} (es : List (ℕ × String))
+pub name_puts : {n j at r : ℕ} {o x o' : List ℕ} (es : List (ℕ × String))
     → n ≡ j → ascii (lookup j es "") ≡ x → Puts o at x o' r → Puts o at (ascii (lookup n es "")) o' r
-name-puts es e h p = rw (ap (λ (m : ℕ). ascii (lookup m es "")) e ∙ h) p
+name_puts es e h p = rw (ap (λ (m : ℕ). ascii (lookup m es "")) e ∙ h) p
 
 -- ---- the choices with a number
 
@@ -31,13 +31,13 @@ get_d_map d f [] xs k h = absurd (omega arith)
 get_d_map d f (n ∷ ns) xs zero h = refl
 get_d_map d f (n ∷ ns) xs (suc k) h = get_d_map d f ns xs k (omega arith)
 
-pub in-number : (w : Row) (k : ℕ) → k < count → in_set w (get_or numbers k 0) ≡ get_or (chosen w) k false
+pub in_number : (w : Row) (k : ℕ) → k < count → in_set w (get_or numbers k 0) ≡ get_or (chosen w) k false
 unfolding chosen
-in-number w k h = get_d_map false (in_set w) numbers (acePlus w ∷ aceMinus w ∷ aceStar w ∷ []) k h
+in_number w k h = get_d_map false (in_set w) numbers (ace_plus w ∷ ace_minus w ∷ ace_star w ∷ []) k h
 
-pub href-number : (k : ℕ) → k < count → braced (href (lookup (get_or numbers k 0) names "")) ≡ braced (get_or choices k [])
+pub href_number : (k : ℕ) → k < count → braced (href (lookup (get_or numbers k 0) names "")) ≡ braced (get_or choices k [])
 unfolding choices
-href-number k h = ap braced (get_d_map [] (λ (n : ℕ). href (lookup n names "")) numbers (drop count choices) k h)
+href_number k h = ap braced (get_d_map [] (λ (n : ℕ). href (lookup n names "")) numbers (drop count choices) k h)
 
 -- ---- what is left from choice k on
 
@@ -46,19 +46,19 @@ items w first k = separated first (map braced (picked (drop k (chosen w)) (drop 
 
 module _ (w : Row) (first : Bool) (k : ℕ) where
   -- choice k, if it is named, and then the others
-  items-next : {b : Bool} → k < count + 3 → b ≡ get_or (chosen w) k false
+  items_next : {b : Bool} → k < count + 3 → b ≡ get_or (chosen w) k false
       → items w first k ≡ cond b (comma first ++ braced (get_or choices k [])) [] ++ items w (not b && first) (suc k)
   unfolding chosen choices
-  items-next {b} h e =
+  items_next {b} h e =
       ap₂ (λ (bs : List Bool) (xs : List (List ℕ)). separated first (map braced (picked bs xs))) (drop-cons (chosen w) k false h) (drop-cons choices k [] h)
       ∙ rw (← e) (bool_cases b (λ t. rw t) (λ t. rw t))
 
   -- choice k is put, if it is named: x is its text
-  pub items-put : {o whole out x out' : List ℕ} {at p p' : ℕ} {b : Bool}
+  pub items_put : {o whole out x out' : List ℕ} {at p p' : ℕ} {b : Bool}
       → k < count + 3 → b ≡ get_or (chosen w) k false → Writing o at whole (items w first k) out p
       → Puts out p (cond b (comma first ++ x) []) out' p' → x ≡ braced (get_or choices k []) → Writing o at whole (items w (not b && first) (suc k)) out' p'
-  items-put h e v q d = writing_step _ _ v (rw d (items-next h e)) q
+  items_put h e v q d = writing_step _ _ v (rw d (items_next h e)) q
 
   -- only the wildcards
-  pub items-last : count ≤ k → k ≤ count → items w first k ≡ items w first count ++ []
-  items-last h l = let e : k ≡ count = omega arith in ap (items w first) e ∙ sym (append-nil (items w first count))
+  pub items_last : count ≤ k → k ≤ count → items w first k ≡ items w first count ++ []
+  items_last h l = let e : k ≡ count = omega arith in ap (items w first) e ∙ sym (append-nil (items w first count))

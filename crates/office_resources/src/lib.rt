@@ -1,11 +1,13 @@
 // The office text of an access row's resources, put into a caller's buffer at a position.
 // Every public function is total: a byte past the buffer's end is not written, and the position goes on.
+#![tactic(auto)]
+
 ghost use Rattle.std.specs.Prelude.{cond, [], ◌++◌, map, length, drop};
 ghost use Rattle.rows.specs.Words.{was, became};
 ghost use Rattle.text.specs.Text.{ascii};
 ghost use Rattle.text.specs.Buffer.{Puts};
 ghost use Rattle.rules.specs.Lookup.{lookup};
-ghost use Rattle.rules_office.specs.Office.{comma, separated, names, href, choices, chosen, picked, braced, resourcesText};
+ghost use Rattle.rules_office.specs.Office.{comma, separated, names, href, choices, chosen, picked, braced, resources_text};
 
 use fields::ace;
 use rules::Resource;
@@ -97,7 +99,7 @@ const NUMBERS: [u16; 13] = [0, 1, 2, 3, 4, 8, 9, 10, 11, 12, 13, 14, 16];
 // The resources of a row: those that it names, with a comma between them, and then its wildcards.
 // Rules out: the wildcards before the resources; a resource that is not in the set.
 pub fn put_resources(out: &mut [u8], at: usize, row: &[u8]) -> usize
-    ensures { Puts (was out) at (resourcesText (was row)) (became out) result }
+    ensures { Puts (was out) at (resources_text (was row)) (became out) result }
 {
     let mut p = at;
     let mut first = true;

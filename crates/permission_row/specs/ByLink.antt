@@ -5,9 +5,9 @@ use Rattle.rules.specs.Directory.{links}
 use Rattle.rules.specs.Types.{Permission, ResourceNumber}
 
 -- of each link
-unfoldable pub byLink : (ResourceNumber → Permission) → List Permission
-byLink f = map f links
+unfoldable pub by_link : (ResourceNumber → Permission) → List Permission
+by_link f = map f links
 
 -- of the link n
-abbrev pub ofLink : List Permission → ResourceNumber → Permission
-ofLink permissions n = get_or permissions (n - 8) 0
+abbrev pub of_link : List Permission → ResourceNumber → Permission
+of_link permissions n = get_or permissions (n - 8) 0

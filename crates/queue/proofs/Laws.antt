@@ -5,17 +5,17 @@ use Rattle.rows.proofs.Prelude.{get_or-drop, drop_of_length-le, length-append, l
 use Rattle.rows.proofs.Prelude.{contradiction}
 use lib.ListN.{replicate-append-replicate}
 use Rattle.rows.specs.declared.Found.{Found}
-use Rattle.rows.specs.Rows.{Row, rows_of, packed, joined, allZero, same, has_key, some, numberedAs, stored, without, with_row}
-use Rattle.rows.specs.Contracts.{index_of, IsTable}
-use Rattle.rows.proofs.Laws.{length-rowsOf, drop-replicate, take_rest, lent-rest, some-index, is_at, zeros-replicate, packed-is, joined-rowsOf}
-use Rattle.rows.proofs.Kept.{long-rowsOf, rowsOf-joined, same_true, same_refl, same-sym, length_without, length-stored}
+use Rattle.rows.specs.Rows.{Row, rows_of, packed, joined, all_zero, same, has_key, some, numbered_as, stored, without, with_row}
+use Rattle.rows.specs.Promises.{index_of, IsTable}
+use Rattle.rows.proofs.Laws.{length_rows_of, drop_replicate, take_rest, lent_rest, some_index, is_at, zeros_replicate, packed_is, joined_rows_of}
+use Rattle.rows.proofs.Kept.{long_rows_of, rows_of_joined, same_true, same_refl, same_sym, length_without, length_stored}
 use Rattle.rules.specs.Bits.{be16}
 use Rattle.rules.specs.declared.Table.TheVariants.{Creds}
-use Rattle.rules.specs.Tables.{stride, capacity, rowsIn}
-use Rattle.rules.proofs.BitLaws.{word-is}
-use Rattle.rules_terminal.specs.Slots.{Seat, Round, afterSeat, seatOf, padded, slot_of, roundBytes, roundOf, waiting, queueOf, queueSize, slotSize}
-use Rattle.rules_terminal.specs.Round.{nobody, seatsIn, isSeat, orphaned}
-use Rattle.rules_terminal.specs.Terminal.{withRecord}
+use Rattle.rules.specs.Tables.{stride, capacity, rows_in}
+use Rattle.rules.proofs.BitLaws.{word_is}
+use Rattle.rules_terminal.specs.Slots.{Seat, Round, after_seat, seat_of, padded, slot_of, round_bytes, round_of, waiting, queue_of, queue_size, slot_size}
+use Rattle.rules_terminal.specs.Round.{nobody, seats_in, is_seat, orphaned}
+use Rattle.rules_terminal.specs.Terminal.{with_record}
 use Rattle.queue.specs.Queue.{IsQueue}
 
 -- ---- a slot
@@ -23,24 +23,24 @@ use Rattle.queue.specs.Queue.{IsQueue}
 -- as the code fills it
 pub slot_is : (r last : List ℕ) → get_or r 2 0 < 256 → get_or r 3 0 < 256 → last ≡ with_row (length r) 0 r (replicate 256 0)
     → get_or r 2 0 ∷ get_or r 3 0 ∷ length r / 256 ∷ length r % 256 ∷ (last ++ []) ≡ slot_of r
-unfolding slot_of seatOf padded be16 with_row
+unfolding slot_of seat_of padded be16 with_row
 slot_is r last a b e =
-    ap (λ (l : List ℕ). get_or r 2 0 ∷ get_or r 3 0 ∷ length r / 256 ∷ length r % 256 ∷ l) (append-nil last ∙ e ∙ rw (zero-mul, drop-replicate (length r) 256 0))
-    ∙ ap (λ (l : List ℕ). l ++ (be16 (length r) ++ (r ++ replicate (256 - length r) 0))) (sym (word-is r 2 a b))
+    ap (λ (l : List ℕ). get_or r 2 0 ∷ get_or r 3 0 ∷ length r / 256 ∷ length r % 256 ∷ l) (append-nil last ∙ e ∙ rw (zero-mul, drop_replicate (length r) 256 0))
+    ∙ ap (λ (l : List ℕ). l ++ (be16 (length r) ++ (r ++ replicate (256 - length r) 0))) (sym (word_is r 2 a b))
 
 -- ---- the head
 
-pub two-of : (b : List ℕ) → 2 ≤ length b → get_or b 0 0 ∷ get_or b 1 0 ∷ [] ≡ take 2 b
-two-of b h = rw (drop-cons b 0 0 (omega arith), drop-cons b 1 0 (omega arith))
+pub two_of : (b : List ℕ) → 2 ≤ length b → get_or b 0 0 ∷ get_or b 1 0 ∷ [] ≡ take 2 b
+two_of b h = rw (drop-cons b 0 0 (omega arith), drop-cons b 1 0 (omega arith))
 
-three-of : (b : List ℕ) → 3 ≤ length b → get_or b 0 0 ∷ get_or b 1 0 ∷ get_or b 2 0 ∷ [] ≡ take 3 b
-three-of b h = rw (drop-cons b 0 0 (omega arith), drop-cons b 1 0 (omega arith), drop-cons b 2 0 (omega arith))
+three_of : (b : List ℕ) → 3 ≤ length b → get_or b 0 0 ∷ get_or b 1 0 ∷ get_or b 2 0 ∷ [] ≡ take 3 b
+three_of b h = rw (drop-cons b 0 0 (omega arith), drop-cons b 1 0 (omega arith), drop-cons b 2 0 (omega arith))
 
-pub head-set : (m : List ℕ) (n : ℕ) (r : List ℕ) → 4 ≤ length m → length r ≡ 3
+pub head_set : (m : List ℕ) (n : ℕ) (r : List ℕ) → 4 ≤ length m → length r ≡ 3
     → set (set (set (set m 0 n) 1 (get_or r 0 0)) 2 (get_or r 1 0)) 3 (get_or r 2 0) ≡ n ∷ (r ++ drop 4 m)
-head-set m n r h t =
+head_set m n r h t =
     rw (drop-cons m 0 0 (omega arith), drop-cons m 1 0 (omega arith), drop-cons m 2 0 (omega arith), drop-cons m 3 0 (omega arith))
-    (ap (λ (l : List ℕ). n ∷ (l ++ drop 4 m)) (three-of r (omega arith) ∙ take_all 3 r (omega arith)))
+    (ap (λ (l : List ℕ). n ∷ (l ++ drop 4 m)) (three_of r (omega arith) ∙ take_all 3 r (omega arith)))
 
 -- ---- the slots
 
@@ -53,145 +53,145 @@ abbrev pub between : List ℕ → List ℕ → List ℕ
 between m last = take 4 m ++ (last ++ drop (length m - 4) (drop 4 m))
 
 module _ (m : List ℕ) (q : IsQueue m) where
-  pub slots-long : length (slots_of m) ≡ 6500
-  slots-long = ap length (take_rest 4 m) ∙ length-drop 4 m ∙ omega (arith, q.long)
+  pub slots_long : length (slots_of m) ≡ 6500
+  slots_long = ap length (take_rest 4 m) ∙ length-drop 4 m ∙ omega (arith, q.long)
 
-  pub slots-table : IsTable slotSize (get_or m 0 0) (slots_of m)
-  slots-table = rw (take_rest 4 m) q.table
+  pub slots_table : IsTable slot_size (get_or m 0 0) (slots_of m)
+  slots_table = rw (take_rest 4 m) q.table
 
-  pub slots-rows : rows_of slotSize (get_or m 0 0) (slots_of m) ≡ waiting m
+  pub slots_rows : rows_of slot_size (get_or m 0 0) (slots_of m) ≡ waiting m
   unfolding waiting
-  slots-rows = rw (take_rest 4 m, min-eq_left q.few)
+  slots_rows = rw (take_rest 4 m, min-eq_left q.few)
 
   front : length (take 4 m) ≡ 4
   front = length-take-le 4 m (omega (arith, q.long))
 
-  pub between-long : (last : List ℕ) → length last ≡ length (slots_of m) → length (between m last) ≡ queueSize
-  between-long last e = ap length (lent-rest 4 m last) ∙ length-append (take 4 m) last ∙ omega (arith, front, slots-long, e)
+  pub between_long : (last : List ℕ) → length last ≡ length (slots_of m) → length (between m last) ≡ queue_size
+  between_long last e = ap length (lent_rest 4 m last) ∙ length-append (take 4 m) last ∙ omega (arith, front, slots_long, e)
 
-  between-slots : (last : List ℕ) → drop 4 (between m last) ≡ last
-  between-slots last = ap (drop 4) (lent-rest 4 m last) ∙ drop_at (take 4 m) last 4 front
+  between_slots : (last : List ℕ) → drop 4 (between m last) ≡ last
+  between_slots last = ap (drop 4) (lent_rest 4 m last) ∙ drop_at (take 4 m) last 4 front
 
   -- other slots, and another head
-  pub changed : (k : Round) (ws : List Row) (left : ℕ) (last r x : List ℕ) → left ≡ length ws → last ≡ packed (length (slots_of m)) ws → r ≡ roundBytes k
-      → x ≡ left ∷ (r ++ drop 4 (between m last)) → x ≡ queueOf k ws
-  unfolding queueOf
+  pub changed : (k : Round) (ws : List Row) (left : ℕ) (last r x : List ℕ) → left ≡ length ws → last ≡ packed (length (slots_of m)) ws → r ≡ round_bytes k
+      → x ≡ left ∷ (r ++ drop 4 (between m last)) → x ≡ queue_of k ws
+  unfolding queue_of
   changed k ws left last r x n b e h =
       h ∙ ap₂ (λ (j : ℕ) (l : List ℕ). j ∷ (l ++ drop 4 (between m last))) n e
-      ∙ ap (λ (l : List ℕ). length ws ∷ (roundBytes k ++ l)) (between-slots last ∙ b ∙ ap (λ (j : ℕ). packed j ws) slots-long)
+      ∙ ap (λ (l : List ℕ). length ws ∷ (round_bytes k ++ l)) (between_slots last ∙ b ∙ ap (λ (j : ℕ). packed j ws) slots_long)
 
   -- other slots, and the count
-  pub counted-anew : (ws : List Row) (left : ℕ) (last : List ℕ) → left ≡ length ws → last ≡ packed (length (slots_of m)) ws
-      → set (between m last) 0 left ≡ queueOf (roundOf m) ws
-  unfolding queueOf
-  counted-anew ws left last n b =
-      ap (λ (l : List ℕ). set l 0 left) (lent-rest 4 m last ∙ ap (λ (l : List ℕ). l ++ last) head-is)
-      ∙ ap₂ (λ (j : ℕ) (l : List ℕ). j ∷ (roundBytes (roundOf m) ++ l)) n (b ∙ ap (λ (j : ℕ). packed j ws) slots-long)
+  pub counted_anew : (ws : List Row) (left : ℕ) (last : List ℕ) → left ≡ length ws → last ≡ packed (length (slots_of m)) ws
+      → set (between m last) 0 left ≡ queue_of (round_of m) ws
+  unfolding queue_of
+  counted_anew ws left last n b =
+      ap (λ (l : List ℕ). set l 0 left) (lent_rest 4 m last ∙ ap (λ (l : List ℕ). l ++ last) head_is)
+      ∙ ap₂ (λ (j : ℕ) (l : List ℕ). j ∷ (round_bytes (round_of m) ++ l)) n (b ∙ ap (λ (j : ℕ). packed j ws) slots_long)
     where
-      head-is : take 4 m ≡ get_or m 0 0 ∷ roundBytes (roundOf m)
-      head-is = ap (take 4) (drop-cons m 0 0 (omega (arith, q.long))) ∙ ap (λ (b : List ℕ). get_or m 0 0 ∷ b) q.round
+      head_is : take 4 m ≡ get_or m 0 0 ∷ round_bytes (round_of m)
+      head_is = ap (take 4) (drop-cons m 0 0 (omega (arith, q.long))) ∙ ap (λ (b : List ℕ). get_or m 0 0 ∷ b) q.round
 
 -- ---- a record is kept
 
 module _ (m r s : List ℕ) (q : IsQueue m) (free : get_or m 0 0 < 25) (made : s ≡ slot_of r) where
   abbrev rows : List Row
-  rows = stored s (rows_of slotSize (get_or m 0 0) (slots_of m))
+  rows = stored s (rows_of slot_size (get_or m 0 0) (slots_of m))
 
   pub rows_few : length rows ≤ 25
   rows_few =
-      let few = length-rowsOf slotSize (get_or m 0 0) (slots_of m) in
-      rw (length-stored s (rows_of slotSize (get_or m 0 0) (slots_of m)))
-      (cond_cases (λ (n : ℕ). n ≤ 25) (some (numberedAs s) (rows_of slotSize (get_or m 0 0) (slots_of m)))
+      let few = length_rows_of slot_size (get_or m 0 0) (slots_of m) in
+      rw (length_stored s (rows_of slot_size (get_or m 0 0) (slots_of m)))
+      (cond_cases (λ (n : ℕ). n ≤ 25) (some (numbered_as s) (rows_of slot_size (get_or m 0 0) (slots_of m)))
       (λ _. omega arith) (λ _. omega arith))
 
-  pub fits : length rows * slotSize ≤ length (slots_of m)
-  fits = omega (arith, rows_few, slots-long m q)
+  pub fits : length rows * slot_size ≤ length (slots_of m)
+  fits = omega (arith, rows_few, slots_long m q)
 
-  pub kept-is : (left : ℕ) (last : List ℕ) → left ≡ length rows → last ≡ packed (length (slots_of m)) rows → set (between m last) 0 left ≡ withRecord r m
-  unfolding withRecord
-  kept-is left last n b = counted-anew m q rows left last n b ∙ ap₂ (λ (w : Row) (ws : List Row). queueOf (roundOf m) (stored w ws)) made (slots-rows m q)
+  pub kept_is : (left : ℕ) (last : List ℕ) → left ≡ length rows → last ≡ packed (length (slots_of m)) rows → set (between m last) 0 left ≡ with_record r m
+  unfolding with_record
+  kept_is left last n b = counted_anew m q rows left last n b ∙ ap₂ (λ (w : Row) (ws : List Row). queue_of (round_of m) (stored w ws)) made (slots_rows m q)
 
 -- ---- rows taken out of the part that is used
 
 module _ (s n : ℕ) (b : List ℕ) (t : IsTable s n b) where
-  pub used-long : length (take (n * s) b) ≡ n * s
-  used-long = length-take-le (n * s) b t.fits
+  pub used_long : length (take (n * s) b) ≡ n * s
+  used_long = length-take-le (n * s) b t.fits
 
-  pub used-rows : rows_of s n (take (n * s) b) ≡ rows_of s n b
-  used-rows =
+  pub used_rows : rows_of s n (take (n * s) b) ≡ rows_of s n b
+  used_rows =
       let ws = rows_of s n b in
-      ap (rows_of s n) (sym (joined-rowsOf s n b) ∙ sym (append-nil (joined ws)))
-      ∙ ap (λ (k : ℕ). rows_of s k (joined ws ++ [])) (sym (length-rowsOf s n b))
-      ∙ rowsOf-joined s ws [] (long-rowsOf s n b t.fits)
+      ap (rows_of s n) (sym (joined_rows_of s n b) ∙ sym (append-nil (joined ws)))
+      ∙ ap (λ (k : ℕ). rows_of s k (joined ws ++ [])) (sym (length_rows_of s n b))
+      ∙ rows_of_joined s ws [] (long_rows_of s n b t.fits)
 
-  pub used-table : IsTable s n (take (n * s) b)
-  unfolding allZero
-  used-table =
-      let few : length (take (n * s) b) ≤ n * s = omega (arith, used-long) in
-      record { numbered = t.numbered; fits = rw used-long (omega arith); zeros = ap allZero (drop_of_length-le (take (n * s) b) few) }
+  pub used_table : IsTable s n (take (n * s) b)
+  unfolding all_zero
+  used_table =
+      let few : length (take (n * s) b) ≤ n * s = omega (arith, used_long) in
+      record { numbered = t.numbered; fits = rw used_long (omega arith); zeros = ap all_zero (drop_of_length-le (take (n * s) b) few) }
 
   -- what is left of them, with the zeros after
-  pub used-packed : (ws : List Row) (last : List ℕ) → last ≡ packed (length (take (n * s) b)) ws → length last ≡ length (take (n * s) b)
+  pub used_packed : (ws : List Row) (last : List ℕ) → last ≡ packed (length (take (n * s) b)) ws → length last ≡ length (take (n * s) b)
       → last ++ drop (n * s) b ≡ packed (length b) ws
   unfolding packed
-  used-packed ws last e l =
+  used_packed ws last e l =
       let free = length (take (n * s) b) - length (joined ws) in
-      packed-is (length b) (free + length (drop (n * s) b)) (last ++ drop (n * s) b) ws
-      (ap₂ (λ (x y : List ℕ). x ++ y) e (zeros-replicate (drop (n * s) b) t.zeros)
+      packed_is (length b) (free + length (drop (n * s) b)) (last ++ drop (n * s) b) ws
+      (ap₂ (λ (x y : List ℕ). x ++ y) e (zeros_replicate (drop (n * s) b) t.zeros)
       ∙ append_assoc (joined ws) (replicate free 0) (replicate (length (drop (n * s) b)) 0)
       ∙ ap (λ (x : List ℕ). joined ws ++ x) (replicate-append-replicate free (length (drop (n * s) b)) 0))
-      (length-append last (drop (n * s) b) ∙ omega (arith, l, used-long, length-drop (n * s) b, t.fits))
+      (length-append last (drop (n * s) b) ∙ omega (arith, l, used_long, length-drop (n * s) b, t.fits))
 
 -- ---- seats
 
-pub zero-seat : (p : Seat) → length p ≡ 2 → (b : Bool) → b ≡ allZero (drop 0 p) → b ≡ same p nobody
-unfolding allZero be16
-zero-seat p two true e = sym (ap (λ (q : Seat). same q nobody) (zeros-replicate p (sym e) ∙ ap (λ (n : ℕ). replicate n 0) two) ∙ same_refl nobody)
-zero-seat p two false e =
+pub zero_seat : (p : Seat) → length p ≡ 2 → (b : Bool) → b ≡ all_zero (drop 0 p) → b ≡ same p nobody
+unfolding all_zero be16
+zero_seat p two true e = sym (ap (λ (q : Seat). same q nobody) (zeros_replicate p (sym e) ∙ ap (λ (n : ℕ). replicate n 0) two) ∙ same_refl nobody)
+zero_seat p two false e =
     bool_cases (same p nobody)
-    (λ h. contradiction (ap allZero (same_true p nobody h)) (sym e))
+    (λ h. contradiction (ap all_zero (same_true p nobody h)) (sym e))
     (λ h. sym h)
 
-pub key-same : (p : Seat) (w : Row) → length p ≡ 2 → has_key 0 p w ≡ same p (take 2 w)
+pub key_same : (p : Seat) (w : Row) → length p ≡ 2 → has_key 0 p w ≡ same p (take 2 w)
 unfolding has_key
-key-same p w l = ap (λ (k : ℕ). same (take k w) p) l ∙ same-sym (take 2 w) p
+key_same p w l = ap (λ (k : ℕ). same (take k w) p) l ∙ same_sym (take 2 w) p
 
 some_key : (p : Seat) (ws : List Row) → length p ≡ 2 → some (has_key 0 p) ws ≡ some (same p) (map (take 2) ws)
 unfolding some
 some_key p [] l = refl
-some_key p (w ∷ ws) l = ap₂ (λ (a b : Bool). a || b) (key-same p w l) (some_key p ws l)
+some_key p (w ∷ ws) l = ap₂ (λ (a b : Bool). a || b) (key_same p w l) (some_key p ws l)
 
-module _ (count : ℕ) (creds : List ℕ) (p : Seat) (two : length p ≡ 2) (b : Bool) (z : b ≡ allZero (drop 0 p)) where
-  pub seat-zero : b ≡ true → true ≡ isSeat (seatsIn count creds) p
-  unfolding isSeat some
-  seat-zero e = sym (rw (sym (zero-seat p two b z) ∙ e))
+module _ (count : ℕ) (creds : List ℕ) (p : Seat) (two : length p ≡ 2) (b : Bool) (z : b ≡ all_zero (drop 0 p)) where
+  pub seat_zero : b ≡ true → true ≡ is_seat (seats_in count creds) p
+  unfolding is_seat some
+  seat_zero e = sym (rw (sym (zero_seat p two b z) ∙ e))
 
-  pub seat-found : b ≡ false → (n : ℕ) → n ≡ min count (capacity Creds) → (at : Found) → at ≡ index_of (has_key 0 p) (rows_of (stride Creds) n creds)
-      → is_at at ≡ isSeat (seatsIn count creds) p
-  unfolding isSeat some rowsIn
-  seat-found e n counted at f =
-      ap is_at f ∙ sym (some-index 0 (has_key 0 p) (rows_of (stride Creds) n creds)) ∙ some_key p (rows_of (stride Creds) n creds) two
-      ∙ rw (sym (zero-seat p two b z) ∙ e, counted)
+  pub seat_found : b ≡ false → (n : ℕ) → n ≡ min count (capacity Creds) → (at : Found) → at ≡ index_of (has_key 0 p) (rows_of (stride Creds) n creds)
+      → is_at at ≡ is_seat (seats_in count creds) p
+  unfolding is_seat some rows_in
+  seat_found e n counted at f =
+      ap is_at f ∙ sym (some_index 0 (has_key 0 p) (rows_of (stride Creds) n creds)) ∙ some_key p (rows_of (stride Creds) n creds) two
+      ∙ rw (sym (zero_seat p two b z) ∙ e, counted)
 
 -- the seat of slot i
-pub seat-gone : (ps : List Seat) (i : ℕ) (b : List ℕ) (p : Seat) → p ≡ take 2 (drop (i * slotSize) b) → (h : Bool) → h ≡ isSeat ps p
-    → orphaned ps (take slotSize (drop (i * slotSize) b)) ≡ not h
+pub seat_gone : (ps : List Seat) (i : ℕ) (b : List ℕ) (p : Seat) → p ≡ take 2 (drop (i * slot_size) b) → (h : Bool) → h ≡ is_seat ps p
+    → orphaned ps (take slot_size (drop (i * slot_size) b)) ≡ not h
 unfolding orphaned
-seat-gone ps i b p is h e = rw (take-take 2 slotSize (drop (i * slotSize) b) (omega arith), ← is, e)
+seat_gone ps i b p is h e = rw (take-take 2 slot_size (drop (i * slot_size) b) (omega arith), ← is, e)
 
 -- ---- the round
 
 module _ (m : List ℕ) (q : IsQueue m) where
-  pub three-bytes : get_or m 1 0 ∷ get_or m 2 0 ∷ get_or m 3 0 ∷ [] ≡ roundBytes (roundOf m)
-  three-bytes = let long = q.long in simp get_or-drop at (three-of (drop 1 m) (omega (arith, length-drop 1 m))) ∙ q.round
+  pub three_bytes : get_or m 1 0 ∷ get_or m 2 0 ∷ get_or m 3 0 ∷ [] ≡ round_bytes (round_of m)
+  three_bytes = let long = q.long in simp get_or-drop at (three_of (drop 1 m) (omega (arith, length-drop 1 m))) ∙ q.round
 
-  pub seat-two : length (take 2 (drop 2 m)) ≡ 2
-  seat-two = length-take-le 2 (drop 2 m) (omega (arith, length-drop 2 m, q.long))
+  pub seat_two : length (take 2 (drop 2 m)) ≡ 2
+  seat_two = length-take-le 2 (drop 2 m) (omega (arith, length-drop 2 m, q.long))
 
 -- a seat's bytes, after 1
-pub round-bytes : (p : Seat) → length p ≡ 2 → 1 ∷ get_or p 0 0 ∷ get_or p 1 0 ∷ [] ≡ roundBytes (afterSeat p)
-round-bytes p two = ap (λ (l : List ℕ). 1 ∷ l) (two-of p (omega arith) ∙ take_all 2 p (omega arith))
+pub round_bytes_lem : (p : Seat) → length p ≡ 2 → 1 ∷ get_or p 0 0 ∷ get_or p 1 0 ∷ [] ≡ round_bytes (after_seat p)
+round_bytes_lem p two = ap (λ (l : List ℕ). 1 ∷ l) (two_of p (omega arith) ∙ take_all 2 p (omega arith))
 
 -- slots without some are few
-pub few-left : (m : List ℕ) (q : IsQueue m) (p : Row → Bool) (n : ℕ) → n ≡ length (without p (rows_of slotSize (get_or m 0 0) (slots_of m))) → n ≤ 25
-few-left m q p n e = omega (arith, e, length_without p (rows_of slotSize (get_or m 0 0) (slots_of m)), length-rowsOf slotSize (get_or m 0 0) (slots_of m), q.few)
+pub few_left : (m : List ℕ) (q : IsQueue m) (p : Row → Bool) (n : ℕ) → n ≡ length (without p (rows_of slot_size (get_or m 0 0) (slots_of m))) → n ≤ 25
+few_left m q p n e = omega (arith, e, length_without p (rows_of slot_size (get_or m 0 0) (slots_of m)), length_rows_of slot_size (get_or m 0 0) (slots_of m), q.few)

@@ -1,20 +1,20 @@
 -- The memory of a sound terminal is a queue, and what the changes leave is one again.
 use Rattle.rows.proofs.Prelude.{◌≡◌, ◌∙◌, true, List, ℕ, ◌≤◌, min, min-eq_left, arith, length, drop, get_or, length-drop, eqb-true, leb-true}
-use Rattle.rows.proofs.Laws.{length-rowsOf}
+use Rattle.rows.proofs.Laws.{length_rows_of}
 use Rattle.rows.proofs.Kept.{same_true}
 use Rattle.rules.specs.declared.Tables.{Tables}
-use Rattle.rules_terminal.specs.Slots.{waiting, queueSize, slotSize}
-use Rattle.rules_terminal.specs.Terminal.{terminal, queueSound, soundTerminal}
-use Rattle.rules_terminal.proofs.SlotLaws.{queue-parts}
-use Rattle.rules_terminal.proofs.Sound.{terminal-parts}
+use Rattle.rules_terminal.specs.Slots.{waiting, queue_size, slot_size}
+use Rattle.rules_terminal.specs.Terminal.{terminal, queue_sound, sound_terminal}
+use Rattle.rules_terminal.proofs.SlotLaws.{queue_parts}
+use Rattle.rules_terminal.proofs.Sound.{terminal_parts}
 use Rattle.queue.specs.Queue.{IsQueue}
 use Rattle.rules.specs.Tables.{rows}
 use Rattle.rules.specs.declared.Table.TheVariants.{Creds}
 
-pub queue-queue : (t : Tables) (m : List ℕ) → queueSound (rows Creds t) m ≡ true → IsQueue m
-queue-queue t m h =
-    let p = queue-parts t m h in
-    let long : length m ≡ queueSize = eqb-true _ _ p.long in
+pub queue_queue : (t : Tables) (m : List ℕ) → queue_sound (rows Creds t) m ≡ true → IsQueue m
+queue_queue t m h =
+    let p = queue_parts t m h in
+    let long : length m ≡ queue_size = eqb-true _ _ p.long in
     let few : get_or m 0 0 ≤ 25 = leb-true _ _ p.few in
     record {
       long = long;
@@ -23,10 +23,10 @@ queue-queue t m h =
       table = record { numbered = omega arith; fits = omega (arith, length-drop 4 m); zeros = p.unused };
     }
 
-module _ (t : Tables) (m : List ℕ) (h : soundTerminal (terminal t m) ≡ true) where
-  pub sound-queue : IsQueue m
-  sound-queue = queue-queue t m (terminal-parts (terminal t m) h).queue
+module _ (t : Tables) (m : List ℕ) (h : sound_terminal (terminal t m) ≡ true) where
+  pub sound_queue_lem : IsQueue m
+  sound_queue_lem = queue_queue t m (terminal_parts (terminal t m) h).queue
 
-  pub count-is : length (waiting m) ≡ get_or m 0 0
+  pub count_is : length (waiting m) ≡ get_or m 0 0
   unfolding waiting
-  count-is = length-rowsOf slotSize (min (get_or m 0 0) 25) (drop 4 m) ∙ min-eq_left sound-queue.few
+  count_is = length_rows_of slot_size (min (get_or m 0 0) 25) (drop 4 m) ∙ min-eq_left sound_queue_lem.few

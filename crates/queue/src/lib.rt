@@ -1,12 +1,14 @@
 // Changes of the queue: a record is kept, a seat is emptied, and slots are dropped with their credential rows.
 // Nothing here knows what a record asks for; every byte afterwards is given.
+#![tactic(auto)]
+
 ghost use Rattle.std.specs.Prelude.{◌≡◌, cond, ◌∷◌, ◌++◌, ◌*◌, ◌≤◌, ◌<◌, length, drop, get_or};
 ghost use Rattle.rows.specs.Words.{was, became};
 ghost use Rattle.rows.specs.Rows.{rows_of, packed, without, has_key};
-ghost use Rattle.rows.specs.Contracts.{IsTable};
-ghost use Rattle.rules_terminal.specs.Slots.{anew, afterSeat, slot_of, recordOf, roundBytes, roundOf, waiting, queueOf, emptyQueue, slotSize};
-ghost use Rattle.rules_terminal.specs.Round.{seatsIn, isSeat, orphaned, validRound};
-ghost use Rattle.rules_terminal.specs.Terminal.{withRecord};
+ghost use Rattle.rows.specs.Promises.{IsTable};
+ghost use Rattle.rules_terminal.specs.Slots.{anew, after_seat, slot_of, record_of, round_bytes, round_of, waiting, queue_of, empty_queue, slot_size};
+ghost use Rattle.rules_terminal.specs.Round.{seats_in, is_seat, orphaned, valid_round};
+ghost use Rattle.rules_terminal.specs.Terminal.{with_record};
 ghost use Rattle.queue.specs.Queue.{IsQueue};
 
 use fields::{be16, capped, skip};
@@ -17,7 +19,7 @@ use rules_terminal::{QUEUE, SLOT};
 // The record that a slot keeps.
 // Rules out: the slot's head taken for the record; a byte after the record.
 pub fn record_in(slot: &[u8]) -> &[u8]
-    ensures { result.now ≡ recordOf (was slot) }
+    ensures { result.now ≡ record_of (was slot) }
 {
     let n = be16(skip(slot, 2)) as usize;
     part(slot, 4, n)
@@ -42,7 +44,7 @@ fn slot_of(rec: &[u8]) -> [u8; SLOT]
 // Rules out: a record in another's seat; a record that lost a byte; a round that moves.
 pub fn enqueue(queue: &mut [u8], rec: &[u8])
     requires { (IsQueue queue.old) × (get_or queue.old 0 0 < 25) × (4 ≤ length rec.now) × (length rec.now ≤ 256) }
-    ensures { became queue ≡ withRecord (was rec) (was queue) }
+    ensures { became queue ≡ with_record (was rec) (was queue) }
 {
     let count = queue[0] as usize;
     let slot = slot_of(rec);
@@ -63,10 +65,10 @@ fn put_head(queue: &mut [u8], count: usize, round: [u8; 3])
 
 // Takes the slot of a seat out: the slots after it move down. Returns how many are left.
 fn take_out(slots: &mut [u8], count: usize, seat: &[u8]) -> usize
-    requires { IsTable slotSize count slots.old }
-    ensures value { result ≡ length (without (has_key 0 (was seat)) (rows_of slotSize count (was slots))) }
+    requires { IsTable slot_size count slots.old }
+    ensures value { result ≡ length (without (has_key 0 (was seat)) (rows_of slot_size count (was slots))) }
     ensures slots_value { became slots
-        ≡ packed (length (was slots)) (without (has_key 0 (was seat)) (rows_of slotSize count (was slots))) }
+        ≡ packed (length (was slots)) (without (has_key 0 (was seat)) (rows_of slot_size count (was slots))) }
 {
     let used = count * SLOT;
     rows_change::remove(&mut slots[..used], SLOT, count, 0, seat)
@@ -76,7 +78,7 @@ fn take_out(slots: &mut [u8], count: usize, seat: &[u8]) -> usize
 // Rules out: another's record emptied; a round that is still.
 pub fn dequeue(queue: &mut [u8], seat: &[u8])
     requires { (IsQueue queue.old) × (length seat.now ≡ 2) }
-    ensures { became queue ≡ queueOf (afterSeat (was seat)) (without (has_key 0 (was seat)) (waiting (was queue))) }
+    ensures { became queue ≡ queue_of (after_seat (was seat)) (without (has_key 0 (was seat)) (waiting (was queue))) }
 {
     let count = queue[0] as usize;
     let left = take_out(&mut queue[4..], count, seat);
@@ -87,7 +89,7 @@ pub fn dequeue(queue: &mut [u8], seat: &[u8])
 // Whether a seat is one of those of `count` credential rows.
 fn is_seat(count: u8, creds: &[u8; CRED_ROWS], seat: &[u8]) -> bool
     requires { length seat.now ≡ 2 }
-    ensures { result ≡ isSeat (seatsIn count (was creds)) (was seat) }
+    ensures { result ≡ is_seat (seats_in count (was creds)) (was seat) }
 {
     if rows::all_zero(seat, 0) {
         return true;
@@ -101,10 +103,10 @@ fn is_seat(count: u8, creds: &[u8; CRED_ROWS], seat: &[u8]) -> bool
 
 // Takes out each slot whose seat is none of these rows'. Returns how many are left.
 fn drop_orphans(rows: u8, creds: &[u8; CRED_ROWS], slots: &mut [u8], count: usize) -> usize
-    requires { IsTable slotSize count slots.old }
-    ensures value { result ≡ length (without (orphaned (seatsIn rows (was creds))) (rows_of slotSize count (was slots))) }
+    requires { IsTable slot_size count slots.old }
+    ensures value { result ≡ length (without (orphaned (seats_in rows (was creds))) (rows_of slot_size count (was slots))) }
     ensures slots_value { became slots
-        ≡ packed (length (was slots)) (without (orphaned (seatsIn rows (was creds))) (rows_of slotSize count (was slots))) }
+        ≡ packed (length (was slots)) (without (orphaned (seats_in rows (was creds))) (rows_of slot_size count (was slots))) }
 {
     let mut n = count;
     let mut i = 0;
@@ -124,7 +126,7 @@ fn drop_orphans(rows: u8, creds: &[u8; CRED_ROWS], slots: &mut [u8], count: usiz
 // Rules out: a round after a seat that no row has; one lost whose seat a row has. For a round that starts over either result is correct.
 pub fn round_valid(count: u8, creds: &[u8; CRED_ROWS], queue: &[u8]) -> bool
     requires { IsQueue queue.now }
-    ensures { validRound (seatsIn count (was creds)) (roundOf (was queue)) ≡ cond result (roundOf (was queue)) anew }
+    ensures { valid_round (seats_in count (was creds)) (round_of (was queue)) ≡ cond result (round_of (was queue)) anew }
 {
     if queue[1] == 0 {
         return true;
@@ -135,7 +137,7 @@ pub fn round_valid(count: u8, creds: &[u8; CRED_ROWS], queue: &[u8]) -> bool
 // The round's bytes with these credential rows: it starts over if it was not valid before, or is not now.
 fn round_after(was_valid: bool, count: u8, creds: &[u8; CRED_ROWS], queue: &[u8]) -> [u8; 3]
     requires { IsQueue queue.now }
-    ensures { result ≡ roundBytes (validRound (seatsIn count (was creds)) (cond was_valid (roundOf (was queue)) anew)) }
+    ensures { result ≡ round_bytes (valid_round (seats_in count (was creds)) (cond was_valid (round_of (was queue)) anew)) }
 {
     if !was_valid {
         return [0, 0, 0];
@@ -152,8 +154,8 @@ fn round_after(was_valid: bool, count: u8, creds: &[u8; CRED_ROWS], queue: &[u8]
 pub fn settle(was_valid: bool, count: u8, creds: &[u8; CRED_ROWS], queue: &mut [u8])
     requires { IsQueue queue.old }
     ensures { became queue
-        ≡ queueOf (validRound (seatsIn count (was creds)) (cond was_valid (roundOf (was queue)) anew))
-        (without (orphaned (seatsIn count (was creds))) (waiting (was queue))) }
+        ≡ queue_of (valid_round (seats_in count (was creds)) (cond was_valid (round_of (was queue)) anew))
+        (without (orphaned (seats_in count (was creds))) (waiting (was queue))) }
 {
     let round = round_after(was_valid, count, creds, queue);
     let used = queue[0] as usize;
@@ -164,7 +166,7 @@ pub fn settle(was_valid: bool, count: u8, creds: &[u8; CRED_ROWS], queue: &mut [
 // Nothing waits, and the round starts over.
 // Rules out: a byte left.
 pub fn clear(queue: &mut [u8; QUEUE])
-    ensures { became queue ≡ emptyQueue }
+    ensures { became queue ≡ empty_queue }
 {
     rows_change::clear(queue);
 }

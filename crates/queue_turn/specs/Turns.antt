@@ -2,10 +2,10 @@
 use Rattle.std.specs.Prelude.{suc, cond, List, [], ◌∷◌, length}
 use Rattle.rows.specs.declared.Found.{Found}
 use Rattle.rows.specs.declared.Found.TheVariants.{At, Nothing}
-use Rattle.rows.specs.Rows.{Row, same, has_key, rowsBefore}
-use Rattle.rows.specs.Contracts.{index_of}
-use Rattle.rules_terminal.specs.Slots.{Seat, Round, anew, afterSeat, padded}
-use Rattle.rules_terminal.specs.Round.{nobody, isSeat}
+use Rattle.rows.specs.Rows.{Row, same, has_key, rows_before}
+use Rattle.rows.specs.Promises.{index_of}
+use Rattle.rules_terminal.specs.Slots.{Seat, Round, anew, after_seat, padded}
+use Rattle.rules_terminal.specs.Round.{nobody, is_seat}
 use Rattle.rules_terminal.specs.Terminal.{Terminal, turn, due}
 use Rattle.queue_turn.specs.declared.Due.{Due}
 use Rattle.rules.specs.Types.{Index}
@@ -15,15 +15,15 @@ or_else (At i) other = At i
 or_else Nothing other = other
 
 -- the slot of the first of these seats in which a record waits
-unfoldable pub slotIn : List Row → List Seat → Found
-slotIn slots [] = Nothing
-slotIn slots (seat ∷ seats) = or_else (index_of (has_key 0 seat) slots) (slotIn slots seats)
+unfoldable pub slot_in : List Row → List Seat → Found
+slot_in slots [] = Nothing
+slot_in slots (seat ∷ seats) = or_else (index_of (has_key 0 seat) slots) (slot_in slots seats)
 
 -- how many credential rows come before the row whose seat is first in turn, if the unauthenticated seat comes after all of them
-unfoldable pub rowsAhead : Round → List Seat → Index
-rowsAhead anew seats = length seats
-rowsAhead (afterSeat seat) seats = cond (same seat nobody) 0 (cond (isSeat seats seat) (suc (rowsBefore (same seat) seats)) (length seats))
+unfoldable pub rows_ahead : Round → List Seat → Index
+rows_ahead anew seats = length seats
+rows_ahead (after_seat seat) seats = cond (same seat nobody) 0 (cond (is_seat seats seat) (suc (rows_before (same seat) seats)) (length seats))
 
 -- the record whose turn it is
-abbrev pub dueOf : Terminal → Due
-dueOf x = record { bytes = padded (due x); size = length (due x); seat = turn x }
+abbrev pub due_of : Terminal → Due
+due_of x = record { bytes = padded (due x); size = length (due x); seat = turn x }

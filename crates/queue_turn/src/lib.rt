@@ -1,16 +1,18 @@
 // Whose turn it is: the slot of the first occupied seat in turn, and the record that waits there.
 // The round goes from the unauthenticated seat through the credential rows, starting after the last seat taken.
+#![tactic(auto)]
+
 ghost use Rattle.std.specs.Prelude.{◌≡◌, true, false, map, ◌∷◌, ◌+◌, ◌*◌, ◌≤◌, eqb, length, take, drop};
 ghost use Rattle.rows.specs.Words.{was};
 ghost use Rattle.rows.specs.Rows.{rows_of, has_key};
-ghost use Rattle.rows.specs.Contracts.{index_of};
+ghost use Rattle.rows.specs.Promises.{index_of};
 ghost use Rattle.rows.specs.declared.Found.TheVariants.{At};
 ghost use Rattle.rules.specs.declared.Table.TheVariants.{Creds};
 ghost use Rattle.rules.specs.Tables.{stride, tables_of};
-ghost use Rattle.rules_terminal.specs.Slots.{roundOf, waiting, slotSize};
+ghost use Rattle.rules_terminal.specs.Slots.{round_of, waiting, slot_size};
 ghost use Rattle.rules_terminal.specs.Round.{nobody, in_turn};
-ghost use Rattle.rules_terminal.specs.Terminal.{terminal, soundTerminal, turn};
-ghost use Rattle.queue_turn.specs.Turns.{slotIn, rowsAhead, dueOf};
+ghost use Rattle.rules_terminal.specs.Terminal.{terminal, sound_terminal, turn};
+ghost use Rattle.queue_turn.specs.Turns.{slot_in, rows_ahead, due_of};
 
 use fields::capped;
 use rows::{Found, part};
@@ -19,8 +21,8 @@ use rules_terminal::SLOT;
 
 // The slot of the first of these credential rows in whose seat a record waits.
 fn first_waiting(creds: &[u8], count: usize, slots: &[u8], kept: usize) -> Found
-    requires { (count * stride Creds ≤ length creds.now) × (kept * slotSize ≤ length slots.now) }
-    ensures { result ≡ slotIn (rows_of slotSize kept (was slots)) (map (take 2) (rows_of (stride Creds) count (was creds))) }
+    requires { (count * stride Creds ≤ length creds.now) × (kept * slot_size ≤ length slots.now) }
+    ensures { result ≡ slot_in (rows_of slot_size kept (was slots)) (map (take 2) (rows_of (stride Creds) count (was creds))) }
 {
     let mut rest = creds;
     let mut left = count;
@@ -37,7 +39,7 @@ fn first_waiting(creds: &[u8], count: usize, slots: &[u8], kept: usize) -> Found
 // How many credential rows are before the seat that is first in turn.
 fn rows_before(creds: &[u8], count: usize, m: &[u8]) -> usize
     requires { (count * stride Creds ≤ length creds.now) × (4 ≤ length m.now) }
-    ensures { result ≡ rowsAhead (roundOf (was m)) (map (take 2) (rows_of (stride Creds) count (was creds))) }
+    ensures { result ≡ rows_ahead (round_of (was m)) (map (take 2) (rows_of (stride Creds) count (was creds))) }
 {
     if m[1] == 0 {
         return count;
@@ -54,9 +56,9 @@ fn rows_before(creds: &[u8], count: usize, m: &[u8]) -> usize
 
 // The slot of the coming take: that of the occupied seat that comes first in turn.
 fn next_slot(creds: &[u8], count: usize, m: &[u8], slots: &[u8], kept: usize) -> Found
-    requires { (count * stride Creds ≤ length creds.now) × (4 ≤ length m.now) × (kept * slotSize ≤ length slots.now) }
-    ensures { result ≡ slotIn (rows_of slotSize kept (was slots))
-        (in_turn (roundOf (was m)) (nobody ∷ map (take 2) (rows_of (stride Creds) count (was creds)))) }
+    requires { (count * stride Creds ≤ length creds.now) × (4 ≤ length m.now) × (kept * slot_size ≤ length slots.now) }
+    ensures { result ≡ slot_in (rows_of slot_size kept (was slots))
+        (in_turn (round_of (was m)) (nobody ∷ map (take 2) (rows_of (stride Creds) count (was creds)))) }
 {
     let k = rows_before(creds, count, m);
     let start = k * CRED_ROW;
@@ -74,7 +76,7 @@ fn next_slot(creds: &[u8], count: usize, m: &[u8], slots: &[u8], kept: usize) ->
 
 // The slot of the record whose turn it is.
 fn due_slot<'a>(h: Head, creds: &'a [u8; CRED_ROWS], aces: &'a [u8; ACE_ROWS], m: &[u8]) -> usize
-    requires { (soundTerminal (terminal (tables_of h creds.now aces.now) m.now) ≡ true) × (eqb (length (waiting m.now)) 0 ≡ false) }
+    requires { (sound_terminal (terminal (tables_of h creds.now aces.now) m.now) ≡ true) × (eqb (length (waiting m.now)) 0 ≡ false) }
     ensures { index_of (has_key 0 (turn (terminal (tables_of h (was creds) (was aces)) (was m)))) (waiting (was m))
         ≡ At result }
 {
@@ -88,7 +90,7 @@ fn due_slot<'a>(h: Head, creds: &'a [u8; CRED_ROWS], aces: &'a [u8; ACE_ROWS], m
 
 // The bytes after a slot's head: its record, with zeros after.
 fn record_bytes(slot: &[u8]) -> [u8; 256]
-    requires { length slot.now ≡ slotSize }
+    requires { length slot.now ≡ slot_size }
     ensures { result ≡ drop 4 (was slot) }
 {
     let mut bytes = [0; 256];
@@ -112,8 +114,8 @@ pub fn due_record<'a>(
     aces: &'a [u8; ACE_ROWS],
     queue: &[u8],
 ) -> Due
-    requires { (soundTerminal (terminal (tables_of h creds.now aces.now) queue.now) ≡ true) × (eqb (length (waiting queue.now)) 0 ≡ false) }
-    ensures { result ≡ dueOf (terminal (tables_of h (was creds) (was aces)) (was queue)) }
+    requires { (sound_terminal (terminal (tables_of h creds.now aces.now) queue.now) ≡ true) × (eqb (length (waiting queue.now)) 0 ≡ false) }
+    ensures { result ≡ due_of (terminal (tables_of h (was creds) (was aces)) (was queue)) }
 {
     let i = due_slot(h, creds, aces, queue);
     let slots = fields::skip(queue, 4);

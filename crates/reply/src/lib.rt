@@ -1,18 +1,20 @@
 // The reply to a RETRIEVE of a security resource: its bytes, their number, and check 15.
 // The resource's own body, its row owner, and its rows in table order, without asserted roles; of roles the sender's own in force.
 // One writer serves both: put into an empty buffer it only measures.
+#![tactic(auto)]
+
 ghost use Rattle.std.specs.Prelude.{◌≡◌, map, ◌*◌, ◌≤◌, length};
 ghost use Rattle.text.specs.Buffer.{Puts};
 ghost use Rattle.rows.specs.Rows.{rows_of, joined};
-ghost use Rattle.rows.specs.Contracts.{row_at};
+ghost use Rattle.rows.specs.Promises.{row_at};
 ghost use Rattle.rules.specs.declared.Table.TheVariants.{Creds};
 ghost use Rattle.rules.specs.Tables.{rows};
-ghost use Rattle.rules.specs.Checks.{refuseIf};
-ghost use Rattle.rules.specs.Contracts.Callers.{callerRow};
+ghost use Rattle.rules.specs.Checks.{refuse_if};
+ghost use Rattle.rules.specs.Promises.Callers.{caller_row};
 ghost use Rattle.rules.specs.Roles.{body_of};
-ghost use Rattle.rules.specs.Reading.{ownBody, rowBytes, contents, reads, replyTo, tooShort};
-ghost use Rattle.rules.specs.Contracts.Words.{was, became, before};
-ghost use Rattle.rules.specs.Sizes.{credRowSize};
+ghost use Rattle.rules.specs.Reading.{own_body, row_bytes, contents, reads, reply_to, too_short};
+ghost use Rattle.rules.specs.Promises.Words.{was, became, before};
+ghost use Rattle.rules.specs.Sizes.{cred_row_size};
 
 use asserted_roles::put_roles;
 use caller::row_of;
@@ -26,14 +28,14 @@ use text::direct::put;
 use text::put_byte;
 
 fn put_owner(out: &mut [u8], at: usize, h: Head) -> usize
-    ensures { Puts (was out) at (ownBody h 0) (became out) result }
+    ensures { Puts (was out) at (own_body h 0) (became out) result }
 {
     let p = put_byte(out, at, h.owned % 2 * 128);
     put(out, p, &h.devowner)
 }
 
 fn put_own(out: &mut [u8], at: usize, h: Head, resource: u16) -> usize
-    ensures { Puts (was out) at (ownBody h resource) (became out) result }
+    ensures { Puts (was out) at (own_body h resource) (became out) result }
 {
     match resource {
         Resource::DOXM => put_owner(out, at, h),
@@ -44,7 +46,7 @@ fn put_own(out: &mut [u8], at: usize, h: Head, resource: u16) -> usize
 
 // The body that a row starts with, as bytes of its own: the compiler then copies it in a few moves.
 fn body_at(row: &[u8]) -> [u8; CRED_BODY]
-    requires { credRowSize ≤ length row.now }
+    requires { cred_row_size ≤ length row.now }
     ensures { result ≡ body_of (was row) }
 {
     let mut body = [0u8; CRED_BODY];
@@ -54,8 +56,8 @@ fn body_at(row: &[u8]) -> [u8; CRED_BODY]
 
 // Writes the bodies of the first `count` credential rows.
 fn put_bodies(out: &mut [u8], at: usize, creds: &[u8], count: usize) -> usize
-    requires { count * credRowSize ≤ length creds.now }
-    ensures { Puts (was out) at (joined (map body_of (rows_of credRowSize count (was creds)))) (became out) result }
+    requires { count * cred_row_size ≤ length creds.now }
+    ensures { Puts (was out) at (joined (map body_of (rows_of cred_row_size count (was creds)))) (became out) result }
 {
     let mut p = at;
     let mut rest = creds;
@@ -71,8 +73,8 @@ fn put_bodies(out: &mut [u8], at: usize, creds: &[u8], count: usize) -> usize
 
 // The same. Past the buffer's end the bodies are counted: as many bytes of the table are put, and none is written.
 fn put_creds(out: &mut [u8], at: usize, creds: &[u8], count: usize) -> usize
-    requires { count * credRowSize ≤ length creds.now }
-    ensures { Puts (was out) at (joined (map body_of (rows_of credRowSize count (was creds)))) (became out) result }
+    requires { count * cred_row_size ≤ length creds.now }
+    ensures { Puts (was out) at (joined (map body_of (rows_of cred_row_size count (was creds)))) (became out) result }
 {
     if out.len() <= at {
         return put(out, at, part(creds, 0, count * CRED_BODY));
@@ -90,7 +92,7 @@ fn put_rows<'a>(
     found: Found,
     resource: u16,
 ) -> usize
-    ensures { Puts (was out) at (rowBytes clock (before h creds aces) (row_at found (rows Creds (before h creds aces))) resource) (became out) result }
+    ensures { Puts (was out) at (row_bytes clock (before h creds aces) (row_at found (rows Creds (before h creds aces))) resource) (became out) result }
 {
     match resource {
         Resource::CRED => {
@@ -145,7 +147,7 @@ pub fn put_reply<'a>(
     aces: &'a [u8; ACE_ROWS],
     caller: Caller,
 ) -> usize
-    ensures { Puts (was out) 0 (replyTo clock (before h creds aces) (callerRow (before h creds aces) caller) caller.header) (became out) result }
+    ensures { Puts (was out) 0 (reply_to clock (before h creds aces) (caller_row (before h creds aces) caller) caller.header) (became out) result }
 {
     let header = caller.header;
     if !is_read(header) {
@@ -165,7 +167,7 @@ pub fn reply_length<'a>(
     aces: &'a [u8; ACE_ROWS],
     caller: Caller,
 ) -> usize
-    ensures { result ≡ length (replyTo clock (before h creds aces) (callerRow (before h creds aces) caller) caller.header) }
+    ensures { result ≡ length (reply_to clock (before h creds aces) (caller_row (before h creds aces) caller) caller.header) }
 {
     let header = caller.header;
     if !is_read(header) {
@@ -180,7 +182,7 @@ pub fn reply_length<'a>(
 // Check 15: the reply does not fit the buffer.
 // Rules out: 15 where it fits exactly; 15 for a record without a reply.
 pub fn check_capacity(capacity: usize, length: usize) -> Check
-    ensures { result ≡ refuseIf 15 (tooShort capacity length) }
+    ensures { result ≡ refuse_if 15 (too_short capacity length) }
 {
     Check::refuse_if(15, capacity < length)
 }

@@ -3,34 +3,34 @@
 use Rattle.rows.proofs.Prelude.{◌≡◌, refl, ap, ◌∙◌, cond, List, [], ◌∷◌, ◌++◌, append_assoc, append-nil, ℕ, zero, suc, ◌+◌, ◌-◌, ◌*◌, ◌≤◌, ◌<◌, min, arith}
 use Rattle.rows.proofs.Prelude.{length, length-append, length-drop, eq-eqb, le-ltb, lt-ltb, ne_eqb}
 use Rattle.rules.specs.declared.Tables.{Tables}
-use Rattle.rules.specs.Defaults.{noDefaults, fresh}
-use Rattle.rules.specs.Outcome.{tablesAfter}
+use Rattle.rules.specs.Defaults.{no_defaults, fresh}
+use Rattle.rules.specs.Outcome.{tables_after}
 use Rattle.report.specs.declared.Judged.{Judged}
-use Rattle.report.specs.Judged.{judgedAs}
+use Rattle.report.specs.Judged.{judged_as}
 use Rattle.text.specs.Text.{ascii, decimal}
 use Rattle.text.specs.Buffer.{written, largest, Puts}
-use Rattle.text.proofs.Decimals.{decimal-length}
-use Rattle.text.proofs.Buffers.{puts_then, puts-length, Writing, writing_start, writing_step, writing-end}
-use Rattle.report.specs.Run.{header, line, line_for, cut, length_of, first_of, rest_of, isCut, lines_from, lines, runText}
+use Rattle.text.proofs.Decimals.{decimal_length}
+use Rattle.text.proofs.Buffers.{puts_then, puts_length, Writing, writing_start, writing_step, writing_end}
+use Rattle.report.specs.Run.{header, line, line_for, cut, length_of, first_of, rest_of, is_cut, lines_from, lines, run_text}
 use Rattle.report.specs.Fits.{LineFits, LinesFit, Whole}
 
 -- ---- a line
 
 -- four numbers, each with the byte after it
-pub line-numbers : (number a p s : ℕ)
+pub line_numbers : (number a p s : ℕ)
     → decimal number ++ 32 ∷ [] ++ (decimal a ++ 32 ∷ []) ++ (decimal p ++ 32 ∷ []) ++ (decimal s ++ 10 ∷ []) ≡ line number a p s
 unfolding line ascii
-line-numbers number a p s = simp append_assoc
+line_numbers number a p s = simp append_assoc
 
-pub line-length : (number a p s : ℕ) → a < 256 → p < 256 → s < 256 → LineFits number a p s
-line-length number a p s h k l m =
-    rw (← (line-numbers number a p s))
+pub line_length : (number a p s : ℕ) → a < 256 → p < 256 → s < 256 → LineFits number a p s
+line_length number a p s h k l m =
+    rw (← (line_numbers number a p s))
     (simp length-append
-    (omega (arith, decimal-length 4 number m, decimal-length 2 a (omega arith), decimal-length 2 p (omega arith), decimal-length 2 s (omega arith))))
+    (omega (arith, decimal_length 4 number m, decimal_length 2 a (omega arith), decimal_length 2 p (omega arith), decimal_length 2 s (omega arith))))
 
-cut-length : length cut ≡ 4
+cut_length : length cut ≡ 4
 unfolding cut ascii
-cut-length = refl
+cut_length = refl
 
 -- ---- the loop
 
@@ -44,9 +44,9 @@ pub record Running (s o : List ℕ) (at : ℕ) (out : List ℕ) (p : ℕ) (t : T
   -- four bytes of text at most for each byte of the input
   pub short : length s ≤ 32768 → length (lines s) + 4 * length rest ≤ 131072 + length (lines_from steps t number rest)
 
-pub run-start : (s o : List ℕ) {at : ℕ} {t : Tables} → length o ≤ largest → at ≤ largest → t ≡ fresh noDefaults → Running s o at o at t s 1
+pub run_start : (s o : List ℕ) {at : ℕ} {t : Tables} → length o ≤ largest → at ≤ largest → t ≡ fresh no_defaults → Running s o at o at t s 1
 unfolding lines
-run-start s o {at} h l e = rw e record {
+run_start s o {at} h l e = rw e record {
   steps = length s;
   enough = omega arith;
   writing = writing_start o at (lines s) h l;
@@ -63,7 +63,7 @@ module _ {s o : List ℕ} {at : ℕ} {out : List ℕ} {p : ℕ} {t : Tables} {re
   -- one step of the definition
   step : 0 < length rest
       → lines_from i.steps t number rest
-      ≡ cond (isCut rest) cut (line_for t number (first_of rest) ++ lines_from (i.steps - 1) (tablesAfter noDefaults t (first_of rest)) (number + 1) (rest_of rest))
+      ≡ cond (is_cut rest) cut (line_for t number (first_of rest) ++ lines_from (i.steps - 1) (tables_after no_defaults t (first_of rest)) (number + 1) (rest_of rest))
   unfolding lines_from
   step h =
       let k : i.steps ≡ suc (i.steps - 1) = omega (arith, i.enough) in
@@ -74,22 +74,22 @@ module _ {s o : List ℕ} {at : ℕ} {out : List ℕ} {p : ℕ} {t : Tables} {re
   pub run_end : length rest ≤ 0 → Puts o at (lines s) out p × LinesFit s
   run_end h =
       let e = lines_end i.steps t number rest h in
-      (writing-end i.writing e, λ k. omega (arith, i.short k, ap length e))
+      (writing_end i.writing e, λ k. omega (arith, i.short k, ap length e))
 
   -- a record that is not all there
-  pub run-cut : {out' : List ℕ} {r : ℕ} → 0 < length rest → length rest < 6 + length_of rest → Puts out p cut out' r
+  pub run_cut : {out' : List ℕ} {r : ℕ} → 0 < length rest → length rest < 6 + length_of rest → Puts out p cut out' r
       → Puts o at (lines s) out' r × LinesFit s
-  run-cut h c q =
+  run_cut h c q =
       let e : lines_from i.steps t number rest ≡ cut ++ [] = rw (step h, lt-ltb (length rest) (6 + length_of rest) c, append-nil) in
-      (writing-end (writing_step cut [] i.writing e q) refl, λ k. omega (arith, i.short k, ap length e ∙ length-append cut [], cut-length))
+      (writing_end (writing_step cut [] i.writing e q) refl, λ k. omega (arith, i.short k, ap length e ∙ length-append cut [], cut_length))
 
   -- a record, and what the judge says of it
-  pub run-turn : {out' : List ℕ} {r : ℕ} {rest' : List ℕ} {j : Judged} → 0 < length rest → 6 + length_of rest ≤ length rest
-      → j ≡ judgedAs t (first_of rest) → rest' ≡ rest_of rest
+  pub run_turn : {out' : List ℕ} {r : ℕ} {rest' : List ℕ} {j : Judged} → 0 < length rest → 6 + length_of rest ≤ length rest
+      → j ≡ judged_as t (first_of rest) → rest' ≡ rest_of rest
       → Puts out p (line number j.answer j.permission j.tables.state) out' r
       → LineFits number j.answer j.permission j.tables.state
       → Running s o at out' r j.tables rest' (number + 1)
-  run-turn {out'} {r} {rest'} {j} h c e d q l =
+  run_turn {out'} {r} {rest'} {j} h c e d q l =
       let len : length rest' ≡ length rest - (6 + length_of rest) = ap length d ∙ length-drop (6 + length_of rest) rest in
       let text = line number j.answer j.permission j.tables.state in
       let more = lines_from (i.steps - 1) j.tables (number + 1) rest' in
@@ -104,21 +104,21 @@ module _ {s o : List ℕ} {at : ℕ} {out : List ℕ} {p : ℕ} {t : Tables} {re
 
 -- ---- the header and the lines
 
-header-length : length header ≡ 20
+header_length : length header ≡ 20
 unfolding header ascii
-header-length = refl
+header_length = refl
 
 -- r bytes of the whole text are in the buffer
-pub run-whole : (s : List ℕ) {o o₁ o₂ : List ℕ} {p q r : ℕ} → length o ≤ largest
+pub run_whole : (s : List ℕ) {o o₁ o₂ : List ℕ} {p q r : ℕ} → length o ≤ largest
     → Puts o 0 header o₁ p → Puts o₁ p (lines s) o₂ q × LinesFit s → r ≡ min q (length o₂)
-    → (r ≡ min (length (runText s)) (length o))
-    × (o₂ ≡ written o 0 (runText s))
+    → (r ≡ min (length (run_text s)) (length o))
+    × (o₂ ≡ written o 0 (run_text s))
     × Whole s o r
-unfolding runText
-run-whole s {o} {o₁} {o₂} {p} {q} {r} h f g e =
+unfolding run_text
+run_whole s {o} {o₁} {o₂} {p} {q} {r} h f g e =
     let w = puts_then h f g.0 in
-    let same = puts-length w in (
+    let same = puts_length w in (
       omega (arith, w.next),
       w.buffer,
-      λ k l. omega (arith, w.next, length-append header (lines s), header-length, g.1 k),
+      λ k l. omega (arith, w.next, length-append header (lines s), header_length, g.1 k),
     )

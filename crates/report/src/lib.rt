@@ -1,12 +1,14 @@
 // The text of a run: the input is cut into records after 32-bit clocks and 16-bit lengths, and a line for each is written into a caller's buffer.
 // Each record is judged on the tables that the one before returned.
+#![tactic(auto)]
+
 ghost use Rattle.std.specs.Prelude.{◌≡◌, [], ◌∷◌, ◌++◌, min, length};
 ghost use Rattle.rows.specs.Words.{was, became};
 ghost use Rattle.text.specs.Text.{decimal};
 ghost use Rattle.text.specs.Buffer.{written, Puts, Counts};
-ghost use Rattle.rules.specs.Defaults.{noDefaults, fresh};
-ghost use Rattle.report.specs.Run.{lent, line, cut, lines, runText};
-ghost use Rattle.report.specs.Judged.{judgedAs};
+ghost use Rattle.rules.specs.Defaults.{no_defaults, fresh};
+ghost use Rattle.report.specs.Run.{lent, line, cut, lines, run_text};
+ghost use Rattle.report.specs.Judged.{judged_as};
 ghost use Rattle.report.specs.Fits.{LineFits, LinesFit, Whole};
 
 use fields::{be16, be32, skip};
@@ -48,7 +50,7 @@ fn put_cut(out: &mut [u8], at: usize) -> usize
 
 // A run starts from fresh tables of a build without default rows.
 fn start_tables() -> Tables
-    ensures { result ≡ fresh noDefaults }
+    ensures { result ≡ fresh no_defaults }
 {
     effect_fresh::defaults::fresh(b"", b"")
 }
@@ -63,7 +65,7 @@ struct Judged {
 
 // Judges a record with a buffer that fits any reply. Nothing waits in a run, so the queue is empty for each record.
 fn judge_one(t: Tables, clock: u32, rec: &[u8]) -> Judged
-    ensures { result ≡ judgedAs t (lent clock (was rec)) }
+    ensures { result ≡ judged_as t (lent clock (was rec)) }
 {
     let mut creds = t.creds;
     let mut aces = t.aces;
@@ -127,8 +129,8 @@ fn put_lines(out: &mut [u8], at: usize, input: &[u8]) -> usize
 // `whole`: a buffer of 131,092 bytes holds all of it, for every run that the run program reads. `part`: a caller may take `&out[..r]`.
 // Rules out: every record judged on the first tables; every record judged at the first clock; a cut record judged.
 pub fn run_text(input: &[u8], out: &mut [u8]) -> usize
-    ensures count { result ≡ min (length (runText (was input))) (length (was out)) }
-    ensures buffer { became out ≡ written (was out) 0 (runText (was input)) }
+    ensures count { result ≡ min (length (run_text (was input))) (length (was out)) }
+    ensures buffer { became out ≡ written (was out) 0 (run_text (was input)) }
     ensures whole { Whole (was input) (was out) result }
     ensures part { Counts result (became out) }
 {

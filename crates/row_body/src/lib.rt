@@ -1,5 +1,7 @@
 // The row that a body stores.
 // A body may leave out what the row has: that part then has its default.
+#![tactic(auto)]
+
 ghost use Rattle.std.specs.Prelude.{◌≡◌};
 ghost use Rattle.rows.specs.Words.{was};
 ghost use Rattle.rules.specs.declared.Table.TheVariants.{Creds, Aces};

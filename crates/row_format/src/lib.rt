@@ -1,11 +1,13 @@
 // The values that a body may have, and what it could store as a row.
 // A test for each field, in the order of the layout; a body of another length is no row.
+#![tactic(auto)]
+
 ghost use Rattle.std.specs.Prelude.{◌≡◌, ◌*◌, ◌≤◌, length};
 ghost use Rattle.rows.specs.Rows.{rows_of, every};
-ghost use Rattle.rules.specs.Bodies.{isNil, ownerBody, stateBody, credStorable, subjectStorable, aceStorable};
-ghost use Rattle.rules.specs.Roles.{rolesSound, credSound};
-ghost use Rattle.rules.specs.Sizes.{credRowSize, aceRowSize};
-ghost use Rattle.rules.specs.Contracts.Words.{was};
+ghost use Rattle.rules.specs.Bodies.{is_nil, owner_body, state_body, cred_storable, subject_storable, ace_storable};
+ghost use Rattle.rules.specs.Roles.{roles_sound, cred_sound};
+ghost use Rattle.rules.specs.Sizes.{cred_row_size, ace_row_size};
+ghost use Rattle.rules.specs.Promises.Words.{was};
 ghost use Rattle.rules.specs.Tables.{stride, capacity};
 
 use fields::asserted::{authority, no_role, same_role};
@@ -38,7 +40,7 @@ pub fn capacity_of(table: Table) -> usize
 // The UUID of nobody: sixteen zero bytes.
 // Rules out: fifteen zero bytes taken as nil; no bytes taken as nil.
 pub fn is_nil(uuid: &[u8]) -> bool
-    ensures { result ≡ isNil (was uuid) }
+    ensures { result ≡ is_nil (was uuid) }
 {
     if uuid.len() != UUID_SIZE {
         return false;
@@ -49,7 +51,7 @@ pub fn is_nil(uuid: &[u8]) -> bool
 // doxm: owned is 1 exactly when the device owner is not nil.
 // Rules out: an owner with owned 0; nil with owned 1.
 pub fn owner_body(b: &[u8]) -> bool
-    ensures { result ≡ ownerBody (was b) }
+    ensures { result ≡ owner_body (was b) }
 {
     let owned = !is_nil(body::new_owner(b)) as u16;
     (body::owner_zeros(b) == 0) & (body::new_owned(b) == owned)
@@ -58,7 +60,7 @@ pub fn owner_body(b: &[u8]) -> bool
 // pstat: a target state from 0 to 4.
 // Rules out: state 5 as a target; a set bit after the target.
 pub fn state_body(b: &[u8]) -> bool
-    ensures { result ≡ stateBody (was b) }
+    ensures { result ≡ state_body (was b) }
 {
     (body::target(b) <= 4) & (body::target_zeros(b) == 0)
 }
@@ -66,7 +68,7 @@ pub fn state_body(b: &[u8]) -> bool
 // What a body of 23 bytes may say of a credential.
 // Rules out: number 0; two bits of the type; an authority without a role.
 fn cred_storable(row: &[u8]) -> bool
-    ensures { result ≡ credStorable (was row) }
+    ensures { result ≡ cred_storable (was row) }
 {
     if row.len() != CRED_BODY {
         return false;
@@ -88,8 +90,8 @@ fn cred_storable(row: &[u8]) -> bool
 
 // The slots have the roles that are there, different ones, and after them zeros.
 fn roles_sound(row: &[u8]) -> bool
-    requires { length row.now ≡ credRowSize }
-    ensures { result ≡ rolesSound (was row) }
+    requires { length row.now ≡ cred_row_size }
+    ensures { result ≡ roles_sound (was row) }
 {
     let first = cred::role_slot(row, 0);
     if no_role(first) {
@@ -108,7 +110,7 @@ fn roles_sound(row: &[u8]) -> bool
 
 // A credential row that the table may hold: where nothing is asserted, as in most rows, the body is all there is to test.
 fn cred_row_sound(row: &[u8]) -> bool
-    ensures { result ≡ credSound (was row) }
+    ensures { result ≡ cred_sound (was row) }
 {
     if row.len() != CRED_ROW {
         return false;
@@ -121,8 +123,8 @@ fn cred_row_sound(row: &[u8]) -> bool
 
 // Whether each of `count` credential rows is a row that the table may hold. The test is in the code once, in this loop.
 pub fn all_creds_sound(rows: &[u8], count: usize) -> bool
-    requires { count * credRowSize ≤ length rows.now }
-    ensures { result ≡ every credSound (rows_of credRowSize count (was rows)) }
+    requires { count * cred_row_size ≤ length rows.now }
+    ensures { result ≡ every cred_sound (rows_of cred_row_size count (was rows)) }
 {
     let mut rest = rows;
     let mut left = count;
@@ -138,7 +140,7 @@ pub fn all_creds_sound(rows: &[u8], count: usize) -> bool
 
 // One row.
 pub fn cred_sound(row: &[u8]) -> bool
-    ensures { result ≡ credSound (was row) }
+    ensures { result ≡ cred_sound (was row) }
 {
     if row.len() != CRED_ROW {
         return false;
@@ -147,8 +149,8 @@ pub fn cred_sound(row: &[u8]) -> bool
 }
 
 fn subject_storable(row: &[u8]) -> bool
-    requires { length row.now ≡ aceRowSize }
-    ensures { result ≡ subjectStorable (was row) }
+    requires { length row.now ≡ ace_row_size }
+    ensures { result ≡ subject_storable (was row) }
 {
     let subject = ace::subject(row);
     let kind = ace::kind(row);
@@ -170,7 +172,7 @@ fn subject_storable(row: &[u8]) -> bool
 }
 
 fn ace_row_storable(row: &[u8]) -> bool
-    ensures { result ≡ aceStorable (was row) }
+    ensures { result ≡ ace_storable (was row) }
 {
     if row.len() != ACE_ROW {
         return false;
@@ -192,8 +194,8 @@ fn ace_row_storable(row: &[u8]) -> bool
 
 // Whether each of `count` access rows is a row that a body could store. The test is in the code once, in this loop.
 pub fn all_aces_storable(rows: &[u8], count: usize) -> bool
-    requires { count * aceRowSize ≤ length rows.now }
-    ensures { result ≡ every aceStorable (rows_of aceRowSize count (was rows)) }
+    requires { count * ace_row_size ≤ length rows.now }
+    ensures { result ≡ every ace_storable (rows_of ace_row_size count (was rows)) }
 {
     let mut rest = rows;
     let mut left = count;
@@ -209,7 +211,7 @@ pub fn all_aces_storable(rows: &[u8], count: usize) -> bool
 
 // An access row that a body could store.
 pub fn ace_storable(row: &[u8]) -> bool
-    ensures { result ≡ aceStorable (was row) }
+    ensures { result ≡ ace_storable (was row) }
 {
     if row.len() != ACE_ROW {
         return false;

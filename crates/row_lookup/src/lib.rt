@@ -1,13 +1,15 @@
 // Rows looked up in the tables by a key, and the rows to store after a DELETE.
 // Every function is total: a table is read as far as it has room.
+#![tactic(auto)]
+
 ghost use Rattle.std.specs.Prelude.{◌≡◌, min};
 ghost use Rattle.rows.specs.Rows.{has_key};
-ghost use Rattle.rows.specs.Contracts.{index_of};
+ghost use Rattle.rows.specs.Promises.{index_of};
 ghost use Rattle.rules.specs.Tables.{capacity, count, rows};
-ghost use Rattle.rules.specs.Keys.{goes, mayBeNone};
-ghost use Rattle.rules.specs.Contracts.Keys.{keyOffset, keyBytes};
-ghost use Rattle.rules.specs.StoreRange.{gap_of, storeRangeOf};
-ghost use Rattle.rules.specs.Contracts.Words.{was, before};
+ghost use Rattle.rules.specs.Keys.{goes, may_be_none};
+ghost use Rattle.rules.specs.Promises.Keys.{key_offset, key_bytes};
+ghost use Rattle.rules.specs.StoreRange.{gap_of, store_range_of};
+ghost use Rattle.rules.specs.Promises.Words.{was, before};
 
 use fields::capped;
 use rows::{Found, part};
@@ -63,7 +65,7 @@ pub fn index_by_key<'a>(
 // Whether all rows are meant, which may be none.
 // Rules out: a refusal to empty an empty table.
 pub fn may_be_none(key: Key) -> bool
-    ensures { result ≡ mayBeNone key }
+    ensures { result ≡ may_be_none key }
 {
     match key {
         Key::All => true,
@@ -75,7 +77,7 @@ pub fn may_be_none(key: Key) -> bool
 // Where in a row a key looks.
 // Rules out: a subject looked for in a row's number.
 pub fn key_offset(key: Key) -> usize
-    ensures { result ≡ keyOffset key }
+    ensures { result ≡ key_offset key }
 {
     match key {
         Key::All => 0,
@@ -87,7 +89,7 @@ pub fn key_offset(key: Key) -> usize
 // The bytes that a key looks for: none for all rows.
 // Rules out: the body's bytes where all rows are meant.
 pub fn key_bytes(key: Key, b: &[u8]) -> &[u8]
-    ensures { result.now ≡ keyBytes key (was b) }
+    ensures { result.now ≡ key_bytes key (was b) }
 {
     match key {
         Key::All => part(b, 0, 0),
@@ -140,7 +142,7 @@ pub fn store_range_of<'a>(
     a: Action,
     b: &[u8],
 ) -> StoreRange
-    ensures { result ≡ storeRangeOf (before h creds aces) (was b) a }
+    ensures { result ≡ store_range_of (before h creds aces) (was b) a }
 {
     let Action::Remove(table, key) = a else {
         return StoreRange::none();

@@ -1,9 +1,11 @@
 // Changing a table of rows in a flat byte slice: a row put, taken out, stored by its number, removed by a key.
 // Nothing here knows a table's stride or size; every byte afterwards is given.
+#![tactic(auto)]
+
 ghost use Rattle.std.specs.Prelude.{◌≡◌, ◌++◌, ◌+◌, ◌*◌, ◌≤◌, length, drop, replicate};
 ghost use Rattle.rows.specs.Words.{was, became};
 ghost use Rattle.rows.specs.Rows.{rows_of, packed, stored, without, with_row, has_key};
-ghost use Rattle.rows.specs.Contracts.{withoutRow, IsTable};
+ghost use Rattle.rows.specs.Promises.{without_row, IsTable};
 
 use rows::{Found, find, row_has};
 
@@ -59,7 +61,7 @@ pub fn put_row(rows: &mut [u8], stride: usize, i: usize, row: &[u8])
 // Rules out: the last row moved into the gap; a byte left after the rows.
 pub fn remove_row(rows: &mut [u8], stride: usize, i: usize)
     requires { i * stride + stride ≤ length rows.old }
-    ensures { became rows ≡ withoutRow stride i (was rows) }
+    ensures { became rows ≡ without_row stride i (was rows) }
 {
     let at = i * stride;
     shift_down(&mut rows[at..], stride);

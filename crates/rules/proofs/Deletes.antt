@@ -13,46 +13,46 @@ use Rattle.rules.specs.declared.Key.TheVariants.{All, Number, Subject}
 use Rattle.rules.specs.Keys.{goes}
 use Rattle.rules.specs.Directory.{entry_of, cred, acl2}
 use Rattle.rules.specs.Record.{Request, verb, resource, body}
-use Rattle.rules.specs.Tables.{rows, withRows, sound}
+use Rattle.rules.specs.Tables.{rows, with_rows, sound}
 use Rattle.rules.specs.Defaults.{Defaults}
-use Rattle.rules.specs.Action.{deleteAction, securityAction, action, actionOf}
-use Rattle.rules.specs.StoreRange.{no_range, gap_of, storeRangeOf}
-use Rattle.rules.specs.Contracts.Theorems.{deletes}
+use Rattle.rules.specs.Action.{delete_action, security_action, action, action_of}
+use Rattle.rules.specs.StoreRange.{no_range, gap_of, store_range_of}
+use Rattle.rules.specs.Promises.Theorems.{deletes}
 use Rattle.rules.specs.Permission.{permission}
-use Rattle.rules.specs.Checks.{checks, isMalformed, missing}
-use Rattle.rules.specs.Outcome.{Outcome, effectBy, responseTo, tablesAfter}
+use Rattle.rules.specs.Checks.{checks, is_malformed, missing}
+use Rattle.rules.specs.Outcome.{Outcome, effect_by, response_to, tables_after}
 use Rattle.rules.proofs.Answers.{passed}
-use Rattle.rules.proofs.BodyLaws.{deleteOf, Removal, removes, nothing, removal, action-asked}
-use Rattle.rules.proofs.Refusals.{permitted-passes, permitted-outcome}
+use Rattle.rules.proofs.BodyLaws.{delete_of, Removal, removes, nothing, removal, action_asked}
+use Rattle.rules.proofs.Refusals.{permitted_passes, permitted_outcome}
 
 -- ---- what it asks for
 
 -- the verb and the resource of such a record
-pub delete-verb : (k : Table) (r : List ℕ) → deletes k r ≡ true → verb r ≡ 3
+pub delete_verb : (k : Table) (r : List ℕ) → deletes k r ≡ true → verb r ≡ 3
 unfolding deletes
-delete-verb Creds r h = eqb-true (verb r) 3 (and_left (eqb (verb r) 3) (eqb (resource r) cred) h)
-delete-verb Aces r h = eqb-true (verb r) 3 (and_left (eqb (verb r) 3) (eqb (resource r) acl2) h)
+delete_verb Creds r h = eqb-true (verb r) 3 (and_left (eqb (verb r) 3) (eqb (resource r) cred) h)
+delete_verb Aces r h = eqb-true (verb r) 3 (and_left (eqb (verb r) 3) (eqb (resource r) acl2) h)
 
-pub delete-is : (k : Table) (r : List ℕ) → deletes k r ≡ true → action r ≡ deleteOf k (body r)
-unfolding deletes entry_of actionOf securityAction deleteAction
-delete-is Creds r h = rw (delete-verb Creds r h, eqb-true (resource r) cred (and_right (eqb (verb r) 3) (eqb (resource r) cred) h))
-delete-is Aces r h = rw (delete-verb Aces r h, eqb-true (resource r) acl2 (and_right (eqb (verb r) 3) (eqb (resource r) acl2) h))
+pub delete_is : (k : Table) (r : List ℕ) → deletes k r ≡ true → action r ≡ delete_of k (body r)
+unfolding deletes entry_of action_of security_action delete_action
+delete_is Creds r h = rw (delete_verb Creds r h, eqb-true (resource r) cred (and_right (eqb (verb r) 3) (eqb (resource r) cred) h))
+delete_is Aces r h = rw (delete_verb Aces r h, eqb-true (resource r) acl2 (and_right (eqb (verb r) 3) (eqb (resource r) acl2) h))
 
 -- where the body is not malformed, rows of that table go
-removing : {k : Table} {b : List ℕ} {a : Action} → Removal k b a → isMalformed a ≡ false → (key : Key) × (a ≡ Remove k key)
+removing : {k : Table} {b : List ℕ} {a : Action} → Removal k b a → is_malformed a ≡ false → (key : Key) × (a ≡ Remove k key)
 removing (removes key h) m = (key, refl)
 removing nothing m = contradiction refl m
 
 -- ---- a permitted one
 
-none-held : (b : List ℕ) (ws : List Row) → some (goes All b) ws ≡ false → ws ≡ []
+none_held : (b : List ℕ) (ws : List Row) → some (goes All b) ws ≡ false → ws ≡ []
 unfolding some
-none-held b [] h = refl
-none-held b (w ∷ ws) h = contradiction refl h
+none_held b [] h = refl
+none_held b (w ∷ ws) h = contradiction refl h
 
 -- where the key picks no row, there is none
 found : (k : Table) (key : Key) (t : Tables) (b : List ℕ) → missing t b (Remove k key) ≡ false → some (goes key b) (rows k t) ≡ false → rows k t ≡ []
-found k All t b m s = none-held b (rows k t) s
+found k All t b m s = none_held b (rows k t) s
 found k Number t b m s = contradiction refl (rw s at m)
 found k Subject t b m s = contradiction refl (rw s at m)
 
@@ -63,29 +63,29 @@ module _ (d : Defaults) (t : Tables) (q : Request) (k : Table) where
     pub is : action q.bytes ≡ Remove k key
     pub sound : sound t ≡ true
     pub none : some (goes key (body q.bytes)) (rows k t) ≡ false → rows k t ≡ []
-    pub tables : tablesAfter d t q ≡ withRows k t (without (goes key (body q.bytes)) (rows k t))
-    pub store : (responseTo d t q).store ≡ gap_of (goes key (body q.bytes)) (rows k t)
+    pub tables : tables_after d t q ≡ with_rows k t (without (goes key (body q.bytes)) (rows k t))
+    pub store : (response_to d t q).store ≡ gap_of (goes key (body q.bytes)) (rows k t)
 
-  pub deleted : deletes k q.bytes ≡ true → (responseTo d t q).answer ≡ 0 → Deleted
+  pub deleted : deletes k q.bytes ≡ true → (response_to d t q).answer ≡ 0 → Deleted
   deleted h z =
       let r = q.bytes in
       let p = permission q.clock t r in
-      let e = permitted-passes d t q z in
-      let o = permitted-outcome d t q z in
-      let i = delete-is k r h in
-      let m = removing (removal k (body r)) (ap isMalformed (sym i) ∙ passed (checks t p q) e 10) in
+      let e = permitted_passes d t q z in
+      let o = permitted_outcome d t q z in
+      let i = delete_is k r h in
+      let m = removing (removal k (body r)) (ap is_malformed (sym i) ∙ passed (checks t p q) e 10) in
       let a : action r ≡ Remove k m.0 = i ∙ m.1 in
       record {
         key = m.0;
         is = a;
         sound = not-false (sound t) (passed (checks t p q) e 1);
         none = found k m.0 t (body r) (ap (missing t (body r)) (sym a) ∙ passed (checks t p q) e 13);
-        tables = ap (λ (x : Outcome). x.tables) o ∙ ap (effectBy d t q) a;
-        store = ap (λ (x : Outcome). x.response.store) o ∙ ap (storeRangeOf t (body r)) a;
+        tables = ap (λ (x : Outcome). x.tables) o ∙ ap (effect_by d t q) a;
+        store = ap (λ (x : Outcome). x.response.store) o ∙ ap (store_range_of t (body r)) a;
       }
 
 -- ---- any other
 
 -- the action of a record that is no DELETE of a table's rows has no places
-pub quiet : (t : Tables) (r : List ℕ) → ((k : Table) → deletes k r ≡ false) → storeRangeOf t (body r) (action r) ≡ no_range
-quiet t r other = (action-asked r).1 other _
+pub quiet : (t : Tables) (r : List ℕ) → ((k : Table) → deletes k r ≡ false) → store_range_of t (body r) (action r) ≡ no_range
+quiet t r other = (action_asked r).1 other _

@@ -5,12 +5,12 @@ use Rattle.rules.specs.declared.Tables.{Tables}
 use Rattle.rules.specs.Record.{Request}
 use Rattle.rules.specs.Permission.{permission}
 use Rattle.rules.specs.Checks.{checks}
-use Rattle.rules.specs.Contracts.Groups.{formChecks}
-use Rattle.rules.specs.Contracts.Decision.{laterChecks}
-use Rattle.rules.specs.Record.{headerOf, body, sender}
-use Rattle.rules.specs.Permission.{senderRow}
+use Rattle.rules.specs.Promises.Groups.{form_checks}
+use Rattle.rules.specs.Promises.Decision.{later_checks}
+use Rattle.rules.specs.Record.{header_of, body, sender}
+use Rattle.rules.specs.Permission.{sender_row}
 
-pub groups-joined : (t : Tables) (q : Request) → let r = q.bytes in
+pub groups_joined : (t : Tables) (q : Request) → let r = q.bytes in
     checks t (permission q.clock t r) q
-    ≡ formChecks t r ++ laterChecks q.clock t (senderRow t (sender r)) (headerOf r) (body r) q.capacity
-groups-joined t q = refl
+    ≡ form_checks t r ++ later_checks q.clock t (sender_row t (sender r)) (header_of r) (body r) q.capacity
+groups_joined t q = refl

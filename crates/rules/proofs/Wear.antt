@@ -7,19 +7,19 @@ use Rattle.rules.specs.declared.Tables.{Tables}
 use Rattle.rules.specs.declared.StoreRange.{StoreRange}
 use Rattle.rules.specs.declared.Table.{Table}
 use Rattle.rules.specs.Record.{Request, body}
-use Rattle.rules.specs.Tables.{head_of, count, bytes, rows, withRows, sound, tableSize}
+use Rattle.rules.specs.Tables.{head_of, count, bytes, rows, with_rows, sound, table_size}
 use Rattle.rules.specs.Defaults.{Defaults}
 use Rattle.rules.specs.Keys.{goes}
 use Rattle.rules.specs.StoreRange.{no_range, gap_of}
-use Rattle.rules.specs.Contracts.Theorems.{deletes}
-use Rattle.rules.specs.Outcome.{Response, Outcome, responseTo, tablesAfter}
+use Rattle.rules.specs.Promises.Theorems.{deletes}
+use Rattle.rules.specs.Outcome.{Response, Outcome, response_to, tables_after}
 use Rattle.rules.specs.Deleted.{NoRange, Worn}
-use Rattle.rules.proofs.Answers.{rows-count}
-use Rattle.rules.proofs.TableLaws.{rows-with}
-use Rattle.rules.proofs.SoundKept.{removed-sound}
-use Rattle.rules.proofs.Refusals.{not-told, permitted-outcome}
+use Rattle.rules.proofs.Answers.{rows_count}
+use Rattle.rules.proofs.TableLaws.{rows_with}
+use Rattle.rules.proofs.SoundKept.{removed_sound}
+use Rattle.rules.proofs.Refusals.{not_told, permitted_outcome}
 use Rattle.rules.proofs.Gaps as gaps
-use Rattle.rules.proofs.Gaps.{with-count}
+use Rattle.rules.proofs.Gaps.{with_count}
 use Rattle.rules.proofs.Deletes.{deleted, quiet}
 
 -- ---- rows that go
@@ -29,46 +29,46 @@ gap_ends : (goes : Row → Bool) (ws : List Row) → (some goes ws ≡ false →
 unfolding gap_of
 gap_ends goes ws none =
     cond_cases (λ (p : StoreRange). p.first + p.count ≡ length ws) (some goes ws)
-    (λ _. omega (arith, gap.before-all goes ws))
+    (λ _. omega (arith, gap.before_all goes ws))
     (λ e. sym (ap length (none e)))
 
 -- where no fewer rows stay, there are no places
-gap-none : (goes : Row → Bool) (ws : List Row) → length (without goes ws) ≡ length ws → gap_of goes ws ≡ no_range
+gap_none : (goes : Row → Bool) (ws : List Row) → length (without goes ws) ≡ length ws → gap_of goes ws ≡ no_range
 unfolding gap_of
-gap-none goes ws same = cond_cases (λ (p : StoreRange). p ≡ no_range) (some goes ws) (λ e. absurd (omega (arith, gap.fewer-stay goes ws e))) (λ _. refl)
+gap_none goes ws same = cond_cases (λ (p : StoreRange). p ≡ no_range) (some goes ws) (λ e. absurd (omega (arith, gap.fewer_stay goes ws e))) (λ _. refl)
 
 -- ---- of a record
 
-pub delete-worn : (d : Defaults) (t : Tables) (q : Request) (k : Table)
-    → deletes k q.bytes ≡ true → (responseTo d t q).answer ≡ 0 → length (bytes k t) ≡ tableSize k
-    → Worn k t (tablesAfter d t q) (responseTo d t q).store
-delete-worn d t q k h z l =
+pub delete_worn : (d : Defaults) (t : Tables) (q : Request) (k : Table)
+    → deletes k q.bytes ≡ true → (response_to d t q).answer ≡ 0 → length (bytes k t) ≡ table_size k
+    → Worn k t (tables_after d t q) (response_to d t q).store
+delete_worn d t q k h z l =
     let x = deleted d t q k h z in
     let orphaned = goes x.key (body q.bytes) in
-    let s = removed-sound k t orphaned x.sound in
+    let s = removed_sound k t orphaned x.sound in
     rw (x.tables, x.store)
     (record {
-      stored = gaps.bytes-stored k t orphaned x.sound l;
-      front = gaps.bytes-kept k t orphaned x.sound l;
+      stored = gaps.bytes_stored k t orphaned x.sound l;
+      front = gaps.bytes_kept k t orphaned x.sound l;
       rest = gaps.bytes_rest k t orphaned x.sound l;
-      ends = gap_ends orphaned (rows k t) x.none ∙ rows-count k t x.sound;
-      changed = gaps.rows-changed k t orphaned x.sound l;
-      before = gaps.numbers-before k t orphaned x.sound l;
+      ends = gap_ends orphaned (rows k t) x.none ∙ rows_count k t x.sound;
+      changed = gaps.rows_changed k t orphaned x.sound l;
+      before = gaps.numbers_before k t orphaned x.sound l;
       behind = gaps.numbers_after k t orphaned x.sound l;
-      unused = gaps.numbers-unused k t orphaned x.sound l;
-      others = ap (withRows k t) (sym (rows-with k t (without orphaned (rows k t)) s.few s.stores));
+      unused = gaps.numbers_unused k t orphaned x.sound l;
+      others = ap (with_rows k t) (sym (rows_with k t (without orphaned (rows k t)) s.few s.stores));
     })
 
-range-unless : (d : Defaults) (t : Tables) (q : Request) → ((responseTo d t q).answer ≡ 0 → (responseTo d t q).store ≡ no_range) → (responseTo d t q).store ≡ no_range
-range-unless d t q = not-told (λ (x : Response). x.store) no_range d t q (λ n. refl)
+range_unless : (d : Defaults) (t : Tables) (q : Request) → ((response_to d t q).answer ≡ 0 → (response_to d t q).store ≡ no_range) → (response_to d t q).store ≡ no_range
+range_unless d t q = not_told (λ (x : Response). x.store) no_range d t q (λ n. refl)
 
-pub no-range : (d : Defaults) (t : Tables) (q : Request) → NoRange q t (tablesAfter d t q) (responseTo d t q)
-no-range d t q = record {
-  refused = λ other. range-unless d t q (λ z. absurd (other z));
-  no-delete = λ other. range-unless d t q (λ z. ap (λ (o : Outcome). o.response.store) (permitted-outcome d t q z) ∙ quiet t q.bytes other);
-  no_rows = λ k h same. range-unless d t q (λ z.
+pub no_range_lem : (d : Defaults) (t : Tables) (q : Request) → NoRange q t (tables_after d t q) (response_to d t q)
+no_range_lem d t q = record {
+  refused = λ other. range_unless d t q (λ z. absurd (other z));
+  no_delete = λ other. range_unless d t q (λ z. ap (λ (o : Outcome). o.response.store) (permitted_outcome d t q z) ∙ quiet t q.bytes other);
+  no_rows = λ k h same. range_unless d t q (λ z.
       let x = deleted d t q k h z in
       let orphaned = goes x.key (body q.bytes) in
       x.store
-      ∙ gap-none orphaned (rows k t) (sym (with-count k t (without orphaned (rows k t))) ∙ ap (λ (u : Tables). count k (head_of u)) (sym x.tables) ∙ same ∙ sym (rows-count k t x.sound)));
+      ∙ gap_none orphaned (rows k t) (sym (with_count k t (without orphaned (rows k t))) ∙ ap (λ (u : Tables). count k (head_of u)) (sym x.tables) ∙ same ∙ sym (rows_count k t x.sound)));
 }

@@ -26,7 +26,7 @@ module _ {Input : Type 0} (keep : Input → Bool) where
   kept (i ∷ is) = cond (keep i) (i ∷ kept is) (kept is)
 
   -- of one output for each input, those of the inputs that the test keeps
-  abbrev pub keptOf : {Output : Type 0} → List Input → List Output → List Output
-  keptOf [] xs = []
-  keptOf (i ∷ is) [] = []
-  keptOf (i ∷ is) (x ∷ xs) = cond (keep i) (x ∷ keptOf is xs) (keptOf is xs)
+  abbrev pub kept_of : {Output : Type 0} → List Input → List Output → List Output
+  kept_of [] xs = []
+  kept_of (i ∷ is) [] = []
+  kept_of (i ∷ is) (x ∷ xs) = cond (keep i) (x ∷ kept_of is xs) (kept_of is xs)

@@ -1,6 +1,6 @@
 -- Two runs in step: one over all inputs, one over those that are kept, and a relation between their states.
 use Rattle.std.specs.Prelude.{Bool, false, true, List, ◌≡◌}
-use Rattle.rules.specs.Run.{final, kept, keptOf, replies}
+use Rattle.rules.specs.Run.{final, kept, kept_of, replies}
 
 module _ {State Input Output : Type 0} (reply : State → Input → Output) (next : State → Input → State)
     (keep : Input → Bool) (P : State → Type 0) (R : State → State → Type 0) where
@@ -14,4 +14,4 @@ module _ {State Input Output : Type 0} (reply : State → Input → Output) (nex
 
   -- the outputs at the kept inputs, and the last states
   abbrev pub Together : State → State → List Input → Type 0
-  Together s b rs = (keptOf keep rs (replies reply next s rs) ≡ replies reply next b (kept keep rs)) × R (final next s rs) (final next b (kept keep rs))
+  Together s b rs = (kept_of keep rs (replies reply next s rs) ≡ replies reply next b (kept keep rs)) × R (final next s rs) (final next b (kept keep rs))

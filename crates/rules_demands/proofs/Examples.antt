@@ -1,7 +1,7 @@
 -- The paper's examples on the rules as one reads them: the fourteen rows of 'Why a record is refused', the worked run, the readings to guard against.
 -- Each is computed from the definitions.
 use Rattle.rows.proofs.Prelude.{◌≡◌, refl, true, false, List, [], ◌∷◌, ◌++◌, map, ℕ, zero, suc, replicate, ones, or-false, Bool, eqb, eqb-true, contradiction}
-use Rattle.rows.specs.Rows.{same, allZero}
+use Rattle.rows.specs.Rows.{same, all_zero}
 use Rattle.rules.specs.declared.Sender.{Sender}
 use Rattle.rules.specs.declared.Sender.TheVariants.{Unauthenticated, Partner}
 use Rattle.rules.specs.Bits.{bit, bits, be16}
@@ -11,26 +11,26 @@ use Rattle.rules_typed.specs.Lists.{Maybe, none, just, when, any, all, find, wit
 use Rattle.rules_typed.specs.Types.{Bytes, Uuid, Permission, Answer, Security, Application, Acl2, Weight, Connection, AnonClear, AuthCrypt, RFPRO, RFNOP, State, To}
 use Rattle.rules_typed.specs.Types.{Credential, IsConnection}
 use Rattle.rules_typed.specs.Types.{Access, Tables, Caller, Outcome}
-use Rattle.rules_typed.specs.Directory.{resourceOf}
-use Rattle.rules_typed.specs.Permission.{has, callerOf, sameRole, expired, rolesInForce, hasRole, subjectFits, resourceFits, inPeriod, gives, isOwner}
+use Rattle.rules_typed.specs.Directory.{resource_of}
+use Rattle.rules_typed.specs.Permission.{has, caller_of, same_role, expired, roles_in_force, has_role, subject_fits, resource_fits, in_period, gives, is_owner}
 use Rattle.rules_typed.specs.Permission.{effective}
-use Rattle.rules_typed.specs.States.{stateNumber, isState, mayMove}
-use Rattle.rules_typed.specs.Tables.{isBytes, isUuid, is_number, validRole, validAsserted, validCredential, validAccess, sound, freshTables}
-use Rattle.rules_typed.specs.Writing.{nil, be32, ownerBytes, targetBytes, credentialBytes, assertedBytes}
-use Rattle.rules_typed.specs.Reading.{verbOf, connectionAs, state_of, target_of, ownerOf, roleOf, readOwner, readTarget, readCredential, readAccess, readAsserted}
-use Rattle.rules_typed.specs.Reading.{readRecord}
-use Rattle.rules_typed.specs.Bodies.{read, newRowOwner, rowNumbered, senderOf}
-use Rattle.rules_typed.specs.Checks.{bothTaken, verdict}
-use Rattle.rules_typed.specs.Outcome.{gap, linksOf, outcome, next}
-use Rattle.rules_typed.specs.Isolation.{namesOwner, mayFit, rowAlters, mayAlter, Harmless, Premise}
+use Rattle.rules_typed.specs.States.{state_number, is_state_lem, may_move}
+use Rattle.rules_typed.specs.Tables.{is_bytes, is_uuid, is_number, valid_role, valid_asserted, valid_credential, valid_access, sound, fresh_tables}
+use Rattle.rules_typed.specs.Writing.{nil, be32, owner_bytes, target_bytes, credential_bytes, asserted_bytes}
+use Rattle.rules_typed.specs.Reading.{verb_of, connection_as, state_of, target_of, owner_of, role_of, read_owner, read_target, read_credential, read_access, read_asserted}
+use Rattle.rules_typed.specs.Reading.{read_record}
+use Rattle.rules_typed.specs.Bodies.{read, new_row_owner, row_numbered, sender_of}
+use Rattle.rules_typed.specs.Checks.{both_taken, verdict}
+use Rattle.rules_typed.specs.Outcome.{gap, links_of, outcome, next}
+use Rattle.rules_typed.specs.Isolation.{names_owner, may_fit, row_alters, may_alter, Harmless, Premise}
 
 -- `unfolding definitions` opens all that this line names
 unfoldable definitions : Unit {0}
-unfolding same allZero bit bits be16 when any all find without put distinct union resourceOf has sameRole expired rolesInForce hasRole subjectFits
-    resourceFits inPeriod gives isOwner effective isState isBytes isUuid is_number validRole validAsserted validCredential validAccess sound nil be32
-    ownerBytes targetBytes credentialBytes assertedBytes verbOf connectionAs state_of target_of ownerOf roleOf readOwner readTarget readCredential readAccess
-    readAsserted read newRowOwner rowNumbered senderOf bothTaken verdict gap linksOf outcome ones namesOwner mayFit
-    rowAlters mayAlter
+unfolding same all_zero bit bits be16 when any all find without put distinct union resource_of has same_role expired roles_in_force has_role subject_fits
+    resource_fits in_period gives is_owner effective is_state_lem is_bytes is_uuid is_number valid_role valid_asserted valid_credential valid_access sound nil be32
+    owner_bytes target_bytes credential_bytes asserted_bytes verb_of connection_as state_of target_of owner_of role_of read_owner read_target read_credential read_access
+    read_asserted read new_row_owner row_numbered sender_of both_taken verdict gap links_of outcome ones names_owner may_fit
+    row_alters may_alter
 definitions = tt
 
 -- ---- what the examples are made of
@@ -40,7 +40,7 @@ abbrev U : Uuid
 U = replicate 16 17
 
 abbrev fresh : Tables
-fresh = freshTables [] []
+fresh = fresh_tables [] []
 
 abbrev credential : ℕ → Credential
 credential n = record { number = n; subject = U; role = none; kind = 1; asserted = [] }
@@ -51,14 +51,14 @@ credentials zero = []
 credentials (suc n) = credential (suc n) ∷ credentials n
 
 abbrev holding : ℕ → Tables
-holding n = freshTables (credentials n) []
+holding n = fresh_tables (credentials n) []
 
 -- RFPRO, owner in row 5
 abbrev owned : Tables
-owned = record { state = RFPRO; owner = just U; rowOwners = fresh.rowOwners; credentials = credential 5 ∷ []; accesses = [] }
+owned = record { state = RFPRO; owner = just U; row_owners = fresh.row_owners; credentials = credential 5 ∷ []; accesses = [] }
 
 abbrev judged : Maybe Tables → Bytes → Outcome
-judged tables r = outcome fresh tables (readRecord (received 0 r 1168))
+judged tables r = outcome fresh tables (read_record (received 0 r 1168))
 
 -- ---- the fourteen rows
 
@@ -85,25 +85,25 @@ examples =
     ∷ (just (holding 24), 0x40 ∷ 0x80 ∷ 0x00 ∷ 0x00 ∷ 0x00 ∷ 0x19 ∷ U ++ 0x00 ∷ 0x00 ∷ 0x04 ∷ [])
     ∷ []
 
-pub fourteen-typed : map (λ (e : Maybe Tables × Bytes). (judged e.0 e.1).response.answer) examples
+pub fourteen_typed : map (λ (e : Maybe Tables × Bytes). (judged e.0 e.1).response.answer) examples
     ≡ 1 ∷ 2 ∷ 3 ∷ 4 ∷ 5 ∷ 6 ∷ 7 ∷ 8 ∷ 9 ∷ 10 ∷ 11 ∷ 12 ∷ 13 ∷ 14 ∷ []
 unfolding definitions
-fourteen-typed = refl
+fourteen_typed = refl
 
 -- ---- the worked run
 
-abbrev stateIn : Maybe Tables → ℕ
-stateIn none = 0
-stateIn (just t) = stateNumber t.state
+abbrev state_in : Maybe Tables → ℕ
+state_in none = 0
+state_in (just t) = state_number t.state
 
 -- the answer, the permission and the state afterwards of each record
 abbrev lines : Maybe Tables → List Bytes → List (ℕ × ℕ × ℕ)
 lines tables [] = []
 lines tables (r ∷ rs) =
     let o = judged tables r in
-    (o.response.answer, o.response.permission, stateIn o.tables) ∷ lines o.tables rs
+    (o.response.answer, o.response.permission, state_in o.tables) ∷ lines o.tables rs
 
-pub worked-typed : lines (just fresh) (
+pub worked_typed : lines (just fresh) (
     (0x40 ∷ 0x80 ∷ 0x00 ∷ 0x00 ∷ 0x00 ∷ 0x05 ∷ U ++ 0x00 ∷ 0x00 ∷ 0x04 ∷ [])
     ∷ (0x40 ∷ 0x00 ∷ 0x00 ∷ 0x00 ∷ 0x80 ∷ U)
     ∷ (0x40 ∷ 0x40 ∷ 0x00 ∷ 0x00 ∷ 0x40 ∷ [])
@@ -111,7 +111,7 @@ pub worked-typed : lines (just fresh) (
     ∷ (0x50 ∷ 0x40 ∷ 0x00 ∷ 0x05 ∷ 0x40 ∷ [])
     ∷ []) ≡ (0, 31, 1) ∷ (0, 31, 1) ∷ (8, 0, 1) ∷ (0, 31, 2) ∷ (12, 0, 2) ∷ []
 unfolding definitions
-worked-typed = refl
+worked_typed = refl
 
 -- ---- the readings to guard against
 
@@ -128,10 +128,10 @@ star c p = record {
 }
 
 abbrev with : List Access → Tables
-with xs = record { state = RFPRO; owner = just U; rowOwners = fresh.rowOwners; credentials = []; accesses = xs }
+with xs = record { state = RFPRO; owner = just U; row_owners = fresh.row_owners; credentials = []; accesses = xs }
 
 abbrev stranger : Caller
-stranger = callerOf (with []) Unauthenticated
+stranger = caller_of (with []) Unauthenticated
 
 -- rows with 1 and 4 together give 5
 pub together : effective 0 (with (star AnonClear 1 ∷ star AnonClear 4 ∷ [])) stranger (Application Weight) ≡ 5
@@ -139,29 +139,29 @@ unfolding definitions
 together = refl
 
 -- "*" does not reach /oic/sec/acl2
-pub star-stops : resourceFits (Security Acl2) (star AnonClear 31) ≡ false
+pub star_stops : resource_fits (Security Acl2) (star AnonClear 31) ≡ false
 unfolding definitions
-star-stops = refl
+star_stops = refl
 
 -- a nil row owner fits nobody
-pub nil-nobody : (c : Credential) → isOwner (with []) (record { connection = AuthCrypt; credential = just c }) Acl2 ≡ same U c.subject
-unfolding isOwner
-nil-nobody c = or-false (same U c.subject)
+pub nil_nobody : (c : Credential) → is_owner (with []) (record { connection = AuthCrypt; credential = just c }) Acl2 ≡ same U c.subject
+unfolding is_owner
+nil_nobody c = or-false (same U c.subject)
 
 -- a row for auth-crypt does not fit anon-clear
-pub not-in-clear : subjectFits 0 stranger (IsConnection AuthCrypt) ≡ false
+pub not_in_clear : subject_fits 0 stranger (IsConnection AuthCrypt) ≡ false
 unfolding definitions
-not-in-clear = refl
+not_in_clear = refl
 
 -- a stranger with a malformed body learns 8, not 10
-pub learns-eight : (judged (just (with [])) (0x40 ∷ 0xc0 ∷ 0x00 ∷ 0x00 ∷ 0x07 ∷ [])).response.answer ≡ 8
+pub learns_eight : (judged (just (with [])) (0x40 ∷ 0xc0 ∷ 0x00 ∷ 0x00 ∷ 0x07 ∷ [])).response.answer ≡ 8
 unfolding definitions
-learns-eight = refl
+learns_eight = refl
 
 -- a target equal to the present state does not pass
-pub no-stay : mayMove RFPRO (just U) (To RFPRO) ≡ false
+pub no_stay : may_move RFPRO (just U) (To RFPRO) ≡ false
 unfolding definitions
-no-stay = refl
+no_stay = refl
 
 -- ---- the others alone
 
@@ -174,41 +174,41 @@ abbrev shared : State → Tables
 shared s = record {
   state = s;
   owner = just U;
-  rowOwners = fresh.rowOwners;
+  row_owners = fresh.row_owners;
   credentials = credential 5 ∷ record { number = 7; subject = W; role = none; kind = 1; asserted = [] } ∷ [];
   accesses = star AuthCrypt 2 ∷ [];
 }
 
-abbrev chosenAs : ℕ → Sender → Bool
-chosenAs m Unauthenticated = false
-chosenAs m (Partner n) = eqb n m
+abbrev chosen_as : ℕ → Sender → Bool
+chosen_as m Unauthenticated = false
+chosen_as m (Partner n) = eqb n m
 
-seven-owns-nothing : (s : State) (x : Sender) → chosenAs 7 x ≡ true → namesOwner (shared s) x ≡ false
+seven_owns_nothing : (s : State) (x : Sender) → chosen_as 7 x ≡ true → names_owner (shared s) x ≡ false
 unfolding definitions
-seven-owns-nothing s Unauthenticated c = contradiction c refl
-seven-owns-nothing s (Partner n) c = rw (eqb-true n 7 c)
+seven_owns_nothing s Unauthenticated c = contradiction c refl
+seven_owns_nothing s (Partner n) c = rw (eqb-true n 7 c)
 
-seven-alters-nothing : (s : State) (x : Sender) → chosenAs 7 x ≡ true → mayAlter (shared s) x ≡ false
+seven_alters_nothing : (s : State) (x : Sender) → chosen_as 7 x ≡ true → may_alter (shared s) x ≡ false
 unfolding definitions
-seven-alters-nothing s Unauthenticated c = contradiction c refl
-seven-alters-nothing s (Partner n) c = refl
+seven_alters_nothing s Unauthenticated c = contradiction c refl
+seven_alters_nothing s (Partner n) c = refl
 
 -- partner 7 is harmless
-seven-harmless : (s : State) → Harmless (chosenAs 7) (shared s)
+seven_harmless : (s : State) → Harmless (chosen_as 7) (shared s)
 unfolding definitions
-seven-harmless s = record {
-  hasOwner = λ x c. refl;
-  notOwner = seven-owns-nothing s;
-  notGranted = seven-alters-nothing s;
+seven_harmless s = record {
+  has_owner = λ x c. refl;
+  not_owner = seven_owns_nothing s;
+  not_granted = seven_alters_nothing s;
 }
 
 -- the premise holds along a run in which the owner moves the state
-pub premise_holds : Along (next fresh) (Premise (chosenAs 7)) (just (shared RFPRO)) (
-    readRecord (received 0 (0x50 ∷ 0x40 ∷ 0x00 ∷ 0x05 ∷ 0x60 ∷ []) 1168) ∷ [])
+pub premise_holds : Along (next fresh) (Premise (chosen_as 7)) (just (shared RFPRO)) (
+    read_record (received 0 (0x50 ∷ 0x40 ∷ 0x00 ∷ 0x05 ∷ 0x60 ∷ []) 1168) ∷ [])
 unfolding definitions
-premise_holds = (seven-harmless RFPRO, seven-harmless RFNOP)
+premise_holds = (seven_harmless RFPRO, seven_harmless RFNOP)
 
 -- the owner is not
-pub owner-is-not : namesOwner (shared RFPRO) (Partner 5) ≡ true
+pub owner_is_not : names_owner (shared RFPRO) (Partner 5) ≡ true
 unfolding definitions
-owner-is-not = refl
+owner_is_not = refl

@@ -7,45 +7,45 @@ use Rattle.rules.specs.Record.{Request as ByteRequest}
 use Rattle.rules.specs.Defaults.{Defaults}
 use Rattle.rules.specs.Reading.{filled}
 use Rattle.rules.specs.Outcome.{Response as ByteResponse}
-use Rattle.rules.specs.Contracts.Results.{Result, result_of}
-use Rattle.rules.specs.Run.{replies, final, Along, kept, keptOf}
-use Rattle.rules.specs.Isolation.{isOthers as isOthersBytes}
+use Rattle.rules.specs.Promises.Results.{Result, result_of}
+use Rattle.rules.specs.Run.{replies, final, Along, kept, kept_of}
+use Rattle.rules.specs.Isolation.{is_others as isOthersBytes}
 use Rattle.rules_typed.specs.Lists.{Maybe, none, when}
 use Rattle.rules_typed.specs.Types.{Record, Tables, Response, Outcome}
-use Rattle.rules_typed.specs.Tables.{isBytes}
-use Rattle.rules_typed.specs.Writing.{replyBytes, written, writtenOutcome}
-use Rattle.rules_typed.specs.Reading.{tables_of, read_tables, readRecord, readFresh}
+use Rattle.rules_typed.specs.Tables.{is_bytes}
+use Rattle.rules_typed.specs.Writing.{reply_bytes, written, written_outcome}
+use Rattle.rules_typed.specs.Reading.{tables_of, read_tables, read_record, read_fresh}
 use Rattle.rules_typed.specs.Outcome.{outcome, respond, next}
-use Rattle.rules_typed.specs.Isolation.{Premise, isOthers, compared}
-use Rattle.rules_terminal.specs.Terminal.{Terminal, Transition, soundTerminal}
-use Rattle.rules_terminal.specs.Inputs.{Input, handIn, takeAt, direct}
-use Rattle.rules_runs.specs.Isolation.{requestsOf, allResponses}
+use Rattle.rules_typed.specs.Isolation.{Premise, is_others, compared}
+use Rattle.rules_terminal.specs.Terminal.{Terminal, Transition, sound_terminal}
+use Rattle.rules_terminal.specs.Inputs.{Input, hand_in, take_at, direct}
+use Rattle.rules_runs.specs.Isolation.{requests_of, all_responses}
 
 -- ---- demands 1 and 2, of one call
 
 -- the fresh tables of a build
 abbrev pub fresh_of : Defaults → Tables
-fresh_of d = readFresh d
+fresh_of d = read_fresh d
 
 -- the tables of a terminal; none also where the queue beside them is not sound
-unfoldable pub tablesIn : Terminal → Maybe Tables
-tablesIn x = when (soundTerminal x) (tables_of x.tables)
+unfoldable pub tables_in : Terminal → Maybe Tables
+tables_in x = when (sound_terminal x) (tables_of x.tables)
 
 -- the typed outcome of a record in a terminal
-abbrev pub judgedIn : Defaults → Terminal → ByteRequest → Outcome
-judgedIn d x q = outcome (fresh_of d) (tablesIn x) (readRecord q)
+abbrev pub judged_in : Defaults → Terminal → ByteRequest → Outcome
+judged_in d x q = outcome (fresh_of d) (tables_in x) (read_record q)
 
 -- what is reported is this outcome, written over the tables t, and the caller's buffer is filled with its reply
 pub record Tells (o : Outcome) (t : ByteTables) (s : Result) (lent buffer : List ℕ) : Type 0 where
-  pub says : s ≡ result_of (writtenOutcome t o)
-  pub fills : buffer ≡ filled lent (replyBytes o.response.reply)
+  pub says : s ≡ result_of (written_outcome t o)
+  pub fills : buffer ≡ filled lent (reply_bytes o.response.reply)
 
 -- ---- of a run
 
 -- these records, judged one after the other by the typed rules from the tables t, are told this and leave the tables t'
 pub record AsTyped (d : Defaults) (t : ByteTables) (qs : List ByteRequest) (told : List ByteResponse) (t' : ByteTables) : Type 0 where
-  pub responses-same : told ≡ map written (replies (respond (fresh_of d)) (next (fresh_of d)) (read_tables t) (map readRecord qs))
-  pub tables-same : read_tables t' ≡ final (next (fresh_of d)) (read_tables t) (map readRecord qs)
+  pub responses_same : told ≡ map written (replies (respond (fresh_of d)) (next (fresh_of d)) (read_tables t) (map read_record qs))
+  pub tables_same : read_tables t' ≡ final (next (fresh_of d)) (read_tables t) (map read_record qs)
   -- tables that are not sound stay, byte for byte
   pub unread : read_tables t ≡ none → t' ≡ t
 
@@ -54,17 +54,17 @@ pub record AsTyped (d : Defaults) (t : ByteTables) (qs : List ByteRequest) (told
 module _ (d : Defaults) (chosen : Sender → Bool) (x : Terminal) (is : List Input) (answers : List Transition) where
   -- what the book is fed: the others' records, as they were handed in or waited at the start
   abbrev pub fed : List Record
-  fed = kept (isOthers chosen) (map readRecord (requestsOf x is answers))
+  fed = kept (is_others chosen) (map read_record (requests_of x is answers))
 
   -- the premise, in the book's typed tables before its first record and after each; a terminal that is not sound needs none
   abbrev pub TypedPremise : Type 0
-  TypedPremise = soundTerminal x ≡ true → Along (next (fresh_of d)) (Premise chosen) (read_tables x.tables) fed
+  TypedPremise = sound_terminal x ≡ true → Along (next (fresh_of d)) (Premise chosen) (read_tables x.tables) fed
 
   -- the others get the book's responses, and the tables at the end are the book's except for the chosen partners' asserted roles
   pub record TypedIsolated (end : Terminal) : Type 0 where
-    pub responses-same : keptOf (isOthersBytes chosen) (requestsOf x is answers) (allResponses is answers)
+    pub responses_same : kept_of (isOthersBytes chosen) (requests_of x is answers) (all_responses is answers)
         ≡ map written (replies (respond (fresh_of d)) (next (fresh_of d)) (read_tables x.tables) fed)
-    pub tables-same : compared chosen (read_tables end.tables) ≡ compared chosen (final (next (fresh_of d)) (read_tables x.tables) fed)
+    pub tables_same : compared chosen (read_tables end.tables) ≡ compared chosen (final (next (fresh_of d)) (read_tables x.tables) fed)
     -- tables that are not sound stay, byte for byte
     pub unread : read_tables x.tables ≡ none → end.tables ≡ x.tables
 
@@ -72,6 +72,6 @@ module _ (d : Defaults) (chosen : Sender → Bool) (x : Terminal) (is : List Inp
 
 abbrev pub InputBytes : List Input → Type 0
 InputBytes [] = Unit {0}
-InputBytes (handIn r ∷ is) = (isBytes r ≡ true) × InputBytes is
-InputBytes (takeAt clock capacity ∷ is) = InputBytes is
-InputBytes (direct q ∷ is) = (isBytes q.bytes ≡ true) × InputBytes is
+InputBytes (hand_in r ∷ is) = (is_bytes r ≡ true) × InputBytes is
+InputBytes (take_at clock capacity ∷ is) = InputBytes is
+InputBytes (direct q ∷ is) = (is_bytes q.bytes ≡ true) × InputBytes is

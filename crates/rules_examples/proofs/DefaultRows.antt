@@ -3,48 +3,48 @@
 use Rattle.rows.proofs.Prelude.{◌≡◌, refl, [], ◌∷◌, ◌++◌, replicate}
 use Rattle.rules.specs.declared.Tables.{Tables}
 use Rattle.rules.specs.declared.Table.TheVariants.{Creds, Aces}
-use Rattle.rules.specs.Tables.{withRows, empty}
-use Rattle.rules.specs.Defaults.{Defaults, defaultRows, fresh}
-use Rattle.rules.specs.Outcome.{tablesAfter}
+use Rattle.rules.specs.Tables.{with_rows, empty}
+use Rattle.rules.specs.Defaults.{Defaults, default_rows, fresh}
+use Rattle.rules.specs.Outcome.{tables_after}
 use Rattle.rules.proofs.DeleteExamples.{several, deletes}
-use Rattle.rules.proofs.Samples.{samples, lent, uuid, credRow, withCreds, aceRow, weight, haulierRow}
+use Rattle.rules.proofs.Samples.{samples, lent, uuid, cred_row, with_creds, ace_row, weight, haulier_row}
 
 pub build : Defaults
-build = record { creds = credRow 5 ++ haulierRow 7; aces = aceRow 1 0 2 0 weight uuid }
+build = record { creds = cred_row 5 ++ haulier_row 7; aces = ace_row 1 0 2 0 weight uuid }
 
-pub good-lists : fresh build ≡ withRows Aces (withCreds empty (credRow 5 ∷ haulierRow 7 ∷ [])) (aceRow 1 0 2 0 weight uuid ∷ [])
+pub good_lists : fresh build ≡ with_rows Aces (with_creds empty (cred_row 5 ∷ haulier_row 7 ∷ [])) (ace_row 1 0 2 0 weight uuid ∷ [])
 unfolding samples build
-good-lists = refl
+good_lists = refl
 
 -- three rows; a number twice; a row that no body could store; half a row more
-pub bad-lists :
-    defaultRows Creds (credRow 1 ++ credRow 2 ++ credRow 3)
-    ∷ defaultRows Creds (credRow 1 ++ haulierRow 1)
-    ∷ defaultRows Creds (credRow 1 ++ replicate 23 0)
-    ∷ defaultRows Creds (credRow 1 ++ (0 ∷ 9 ∷ []))
+pub bad_lists :
+    default_rows Creds (cred_row 1 ++ cred_row 2 ++ cred_row 3)
+    ∷ default_rows Creds (cred_row 1 ++ haulier_row 1)
+    ∷ default_rows Creds (cred_row 1 ++ replicate 23 0)
+    ∷ default_rows Creds (cred_row 1 ++ (0 ∷ 9 ∷ []))
     ∷ []
     ≡ [] ∷ [] ∷ [] ∷ [] ∷ []
 unfolding samples
-bad-lists = refl
+bad_lists = refl
 
-pub one-bad-list : fresh (record { creds = credRow 1 ++ credRow 1; aces = aceRow 1 0 2 0 weight uuid }) ≡ withRows Aces empty (aceRow 1 0 2 0 weight uuid ∷ [])
+pub one_bad_list : fresh (record { creds = cred_row 1 ++ cred_row 1; aces = ace_row 1 0 2 0 weight uuid }) ≡ with_rows Aces empty (ace_row 1 0 2 0 weight uuid ∷ [])
 unfolding samples
-one-bad-list = refl
+one_bad_list = refl
 
 -- a row deleted, and then RESET by the owner: the build's rows are back
-pub reset-restores : tablesAfter build (tablesAfter build several (deletes (0x00 ∷ 0x03 ∷ []))) (lent (0x50 ∷ 0x40 ∷ 0x00 ∷ 0x05 ∷ 0x00 ∷ [])) ≡ fresh build
+pub reset_restores : tables_after build (tables_after build several (deletes (0x00 ∷ 0x03 ∷ []))) (lent (0x50 ∷ 0x40 ∷ 0x00 ∷ 0x05 ∷ 0x00 ∷ [])) ≡ fresh build
 unfolding samples build several deletes
-reset-restores = refl
+reset_restores = refl
 
 -- all rows deleted by whoever is at a terminal without an owner: the default rows are free too
 pub emptied : Tables
-emptied = tablesAfter build (tablesAfter build (fresh build) (lent (0x60 ∷ 0x80 ∷ 0x00 ∷ 0x00 ∷ []))) (lent (0x60 ∷ 0xc0 ∷ 0x00 ∷ 0x00 ∷ []))
+emptied = tables_after build (tables_after build (fresh build) (lent (0x60 ∷ 0x80 ∷ 0x00 ∷ 0x00 ∷ []))) (lent (0x60 ∷ 0xc0 ∷ 0x00 ∷ 0x00 ∷ []))
 
-pub defaults-deleted : emptied ≡ empty
+pub defaults_deleted : emptied ≡ empty
 unfolding samples emptied build
-defaults-deleted = refl
+defaults_deleted = refl
 
 -- until the next RESET
-pub defaults-back : tablesAfter build emptied (lent (0x40 ∷ 0x40 ∷ 0x00 ∷ 0x00 ∷ 0x00 ∷ [])) ≡ fresh build
+pub defaults_back : tables_after build emptied (lent (0x40 ∷ 0x40 ∷ 0x00 ∷ 0x00 ∷ 0x00 ∷ [])) ≡ fresh build
 unfolding samples emptied build
-defaults-back = refl
+defaults_back = refl

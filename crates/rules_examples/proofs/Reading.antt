@@ -4,16 +4,16 @@ use Rattle.rows.proofs.Prelude.{◌≡◌, refl, List, [], ◌∷◌, ◌++◌, 
 use Rattle.rules.specs.declared.Tables.{Tables}
 use Rattle.rules.specs.Record.{received}
 use Rattle.rules.specs.Bodies.{nil}
-use Rattle.rules.specs.Defaults.{noDefaults, fresh}
-use Rattle.rules.specs.Outcome.{responseTo}
-use Rattle.rules.proofs.Samples.{definitions, samples, answer, uuid, credRow, owned5, aceRow, none, connected, serving}
+use Rattle.rules.specs.Defaults.{no_defaults, fresh}
+use Rattle.rules.specs.Outcome.{response_to}
+use Rattle.rules.proofs.Samples.{definitions, samples, answer, uuid, cred_row, owned5, ace_row, none, connected, serving}
 
 -- ---- reading back (U1): the replies of the four security resources to the owner, and the length that just fits
 
 pub reply : ℕ → List ℕ → List ℕ
-reply capacity r = let o = responseTo noDefaults owned5 (received 0 r capacity) in o.answer ∷ o.contents
+reply capacity r = let o = response_to no_defaults owned5 (received 0 r capacity) in o.answer ∷ o.contents
 
-pub replies-read :
+pub replies_read :
     reply 33 (0x30 ∷ 0x00 ∷ 0x00 ∷ 0x05 ∷ [])
     ∷ reply 17 (0x30 ∷ 0x40 ∷ 0x00 ∷ 0x05 ∷ [])
     ∷ reply 39 (0x30 ∷ 0x80 ∷ 0x00 ∷ 0x05 ∷ [])
@@ -21,15 +21,15 @@ pub replies-read :
     ∷ reply 16 (0x30 ∷ 0xc0 ∷ 0x00 ∷ 0x05 ∷ [])
     ∷ reply 0 (0x90 ∷ 0xc0 ∷ 0x00 ∷ 0x05 ∷ [])
     ∷ []
-    ≡ (0 ∷ 0x80 ∷ (uuid ++ nil)) ∷ (0 ∷ 0x40 ∷ nil) ∷ (0 ∷ (nil ++ credRow 5)) ∷ (15 ∷ []) ∷ (0 ∷ nil) ∷ (0 ∷ []) ∷ []
+    ≡ (0 ∷ 0x80 ∷ (uuid ++ nil)) ∷ (0 ∷ 0x40 ∷ nil) ∷ (0 ∷ (nil ++ cred_row 5)) ∷ (15 ∷ []) ∷ (0 ∷ nil) ∷ (0 ∷ []) ∷ []
 unfolding samples reply
-replies-read = refl
+replies_read = refl
 
 -- ---- endpoints (U2): RETRIEVE of each application resource, 8 to 14 and 16, over connection 1 by the owner and over connection 0
 
 -- everybody may read all that a wildcard reaches
 pub broad : Tables
-broad = serving (aceRow 1 2 2 1 none (connected 0) ∷ aceRow 2 2 2 1 none (connected 1) ∷ [])
+broad = serving (ace_row 1 2 2 1 none (connected 0) ∷ ace_row 2 2 2 1 none (connected 1) ∷ [])
 
 pub header_of : ℕ → ℕ → ℕ → List ℕ
 header_of c n k = (0x20 + c * 16 + n / 4) ∷ (n % 4 * 64) ∷ 0x00 ∷ k ∷ []
@@ -37,15 +37,15 @@ header_of c n k = (0x20 + c * 16 + n / 4) ∷ (n % 4 * 64) ∷ 0x00 ∷ k ∷ []
 pub applications : List ℕ
 applications = 8 ∷ 9 ∷ 10 ∷ 11 ∷ 12 ∷ 13 ∷ 14 ∷ 16 ∷ []
 
-pub endpoints-secure : map (λ n. answer broad (header_of 1 n 5)) applications ≡ 0 ∷ 0 ∷ 0 ∷ 0 ∷ 0 ∷ 0 ∷ 16 ∷ 0 ∷ []
+pub endpoints_secure : map (λ n. answer broad (header_of 1 n 5)) applications ≡ 0 ∷ 0 ∷ 0 ∷ 0 ∷ 0 ∷ 0 ∷ 16 ∷ 0 ∷ []
 unfolding samples broad header_of applications
-endpoints-secure = refl
+endpoints_secure = refl
 
-pub endpoints-clear : map (λ n. answer broad (header_of 0 n 0)) applications ≡ 0 ∷ 16 ∷ 16 ∷ 16 ∷ 0 ∷ 16 ∷ 0 ∷ 16 ∷ []
+pub endpoints_clear : map (λ n. answer broad (header_of 0 n 0)) applications ≡ 0 ∷ 16 ∷ 16 ∷ 16 ∷ 0 ∷ 16 ∷ 0 ∷ 16 ∷ []
 unfolding samples broad header_of applications
-endpoints-clear = refl
+endpoints_clear = refl
 
 -- security resources are exempt: the five are read over connection 0 in fresh tables; and 16 comes before 8
-pub endpoints-exempt : map (λ n. answer (fresh noDefaults) (header_of 0 n 0)) (0 ∷ 1 ∷ 2 ∷ 3 ∷ 4 ∷ 9 ∷ 14 ∷ []) ≡ 0 ∷ 0 ∷ 0 ∷ 0 ∷ 0 ∷ 16 ∷ 8 ∷ []
+pub endpoints_exempt : map (λ n. answer (fresh no_defaults) (header_of 0 n 0)) (0 ∷ 1 ∷ 2 ∷ 3 ∷ 4 ∷ 9 ∷ 14 ∷ []) ≡ 0 ∷ 0 ∷ 0 ∷ 0 ∷ 0 ∷ 16 ∷ 8 ∷ []
 unfolding definitions header_of
-endpoints-exempt = refl
+endpoints_exempt = refl

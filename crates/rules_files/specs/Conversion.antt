@@ -5,7 +5,7 @@ use Rattle.rules.specs.Bits.{bit, bits}
 use Rattle.rules_typed.specs.Lists.{Maybe, none, just}
 use Rattle.rules_typed.specs.Types.{Bytes, Uuid, Permission, Resource, AnonClear, AuthCrypt, Subject, IsUuid, IsConnection, Access}
 use Rattle.rules_typed.specs.Directory.{number_of}
-use Rattle.rules_typed.specs.Reading.{ownerOf}
+use Rattle.rules_typed.specs.Reading.{owner_of}
 
 pub record OldRow : Type 0 where
   -- none: "*", anybody
@@ -13,8 +13,8 @@ pub record OldRow : Type 0 where
   pub permission : Permission
   pub resources : Resource → Bool
 
-abbrev pub oldRow : Bytes → OldRow
-oldRow w = record { subject = ownerOf (take 16 w); permission = bits w 128 5; resources = λ e. eqb (bit w (136 + number_of e)) 1 }
+abbrev pub old_row : Bytes → OldRow
+old_row w = record { subject = owner_of (take 16 w); permission = bits w 128 5; resources = λ e. eqb (bit w (136 + number_of e)) 1 }
 
 -- a "*" row becomes two, auth-crypt first
 abbrev pub subjects : Maybe Uuid → List Subject
@@ -22,8 +22,8 @@ subjects none = IsConnection AuthCrypt ∷ IsConnection AnonClear ∷ []
 subjects (just u) = IsUuid u ∷ []
 
 -- it holds for every second, without wildcards
-abbrev pub accessFor : OldRow → Subject → ℕ → Access
-accessFor o s n = record {
+abbrev pub access_for : OldRow → Subject → ℕ → Access
+access_for o s n = record {
   number = n;
   subject = s;
   permission = o.permission;
@@ -36,11 +36,11 @@ accessFor o s n = record {
 -- the rows without their numbers
 unfoldable pub made : List OldRow → List (ℕ → Access)
 made [] = []
-made (o ∷ os) = map (accessFor o) (subjects o.subject) ++ made os
+made (o ∷ os) = map (access_for o) (subjects o.subject) ++ made os
 
-unfoldable pub numberedFrom : ℕ → List (ℕ → Access) → List Access
-numberedFrom n [] = []
-numberedFrom n (a ∷ rest) = a n ∷ numberedFrom (n + 1) rest
+unfoldable pub numbered_from : ℕ → List (ℕ → Access) → List Access
+numbered_from n [] = []
+numbered_from n (a ∷ rest) = a n ∷ numbered_from (n + 1) rest
 
 unfoldable pub converted : List OldRow → List Access
-converted os = numberedFrom 1 (made os)
+converted os = numbered_from 1 (made os)

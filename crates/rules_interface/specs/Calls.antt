@@ -2,9 +2,9 @@
 -- `Promised` is what the C functions promise; the theorems over lists of calls suppose it and nothing else.
 use Rattle.std.specs.Prelude.{◌≡◌, List, [], ◌∷◌, length}
 use Rattle.rules.specs.Defaults.{Defaults}
-use Rattle.rules_terminal.specs.Inputs.{Input, handIn, takeAt, direct}
+use Rattle.rules_terminal.specs.Inputs.{Input, hand_in, take_at, direct}
 use Rattle.rules_power.specs.Kept.{Act, input, clear}
-use Rattle.rules_interface.specs.Memory.{Words, Memory, withQueue}
+use Rattle.rules_interface.specs.Memory.{Words, Memory, with_queue}
 use Rattle.rules_interface.specs.Interface.{HandsInAt, TakesAt, JudgesAt, ClearsAt}
 use Rattle.rules.specs.Types.{Bytes}
 
@@ -20,8 +20,8 @@ pub record CCall : Type 0 where
 
 -- what the input's C function promises on this memory. The length that it speaks of is that of the buffer, and a hand-in only reads the tables
 abbrev pub Promised : Defaults → Memory → Input → CCall → Type 0
-Promised d memory (handIn r) call = HandsInAt memory r call.words call.memory.queue × (call.memory ≡ withQueue memory call.memory.queue)
-Promised d memory (takeAt clock capacity) call =
+Promised d memory (hand_in r) call = HandsInAt memory r call.words call.memory.queue × (call.memory ≡ with_queue memory call.memory.queue)
+Promised d memory (take_at clock capacity) call =
     TakesAt d memory clock capacity call.words call.size call.bytes call.memory call.lent call.buffer × (length call.lent ≡ capacity)
 Promised d memory (direct q) call = JudgesAt d memory q call.words call.memory call.lent call.buffer × (length call.lent ≡ q.capacity)
 
@@ -39,11 +39,11 @@ CBuilt d memory (i ∷ is) (call ∷ calls) = Promised d memory i call × CBuilt
 
 -- ---- for contracts: a call of each function
 
-abbrev pub handInCall : Words → Memory → CCall
-handInCall words after = record { words = words; memory = after; lent = []; buffer = []; size = []; bytes = [] }
+abbrev pub hand_in_call : Words → Memory → CCall
+hand_in_call words after = record { words = words; memory = after; lent = []; buffer = []; size = []; bytes = [] }
 
-abbrev pub judgeCall : Words → Memory → Bytes → Bytes → CCall
-judgeCall words after lent buffer = record { words = words; memory = after; lent = lent; buffer = buffer; size = []; bytes = [] }
+abbrev pub judge_call : Words → Memory → Bytes → Bytes → CCall
+judge_call words after lent buffer = record { words = words; memory = after; lent = lent; buffer = buffer; size = []; bytes = [] }
 
-abbrev pub takeCall : Words → Words → Bytes → Memory → Bytes → Bytes → CCall
-takeCall words size bytes after lent buffer = record { words = words; memory = after; lent = lent; buffer = buffer; size = size; bytes = bytes }
+abbrev pub take_call : Words → Words → Bytes → Memory → Bytes → Bytes → CCall
+take_call words size bytes after lent buffer = record { words = words; memory = after; lent = lent; buffer = buffer; size = size; bytes = bytes }

@@ -5,13 +5,13 @@ use Rattle.rules.specs.Record.{Request}
 use Rattle.rules.specs.Defaults.{Defaults}
 use Rattle.rules.specs.Reading.{filled}
 use Rattle.rules.specs.Checks.{number_of}
-use Rattle.rules.specs.Contracts.Results.{Result}
+use Rattle.rules.specs.Promises.Results.{Result}
 use Rattle.rules_terminal.specs.Slots.{Queue, padded}
-use Rattle.rules_terminal.specs.Terminal.{Transition, soundTerminal, handedIn, taken, judged, transitionResult, freshTerminal, clearedTerminal}
-use Rattle.rules_office.specs.Office.{officeVerdict, officeReply}
-use Rattle.rules_lists.specs.Lists.{listTested}
-use Rattle.rules_legacy.specs.Conversion.{conversionVerdict, conversionReply}
-use Rattle.rules_interface.specs.Memory.{Words, Memory, terminalAt, memoryOf}
+use Rattle.rules_terminal.specs.Terminal.{Transition, sound_terminal, handed_in, taken, judged, transition_result, fresh_terminal, cleared_terminal}
+use Rattle.rules_office.specs.Office.{office_verdict, office_reply}
+use Rattle.rules_lists.specs.Lists.{list_tested}
+use Rattle.rules_legacy.specs.Conversion.{conversion_verdict, conversion_reply}
+use Rattle.rules_interface.specs.Memory.{Words, Memory, terminal_at, memory_of}
 use Rattle.rules.specs.Types.{Answer, Bit, Bytes, Clock, Offset, Size}
 
 -- ---- the result
@@ -35,56 +35,56 @@ words_in result =
     ∷ []
 
 abbrev pub words_of : Transition → Words
-words_of a = words_in (transitionResult a)
+words_of a = words_in (transition_result a)
 
 -- a number and nothing else
-abbrev pub numberWords : Answer → Words
-numberWords n = n ∷ 0 ∷ 0 ∷ 0 ∷ 0 ∷ 0 ∷ 0 ∷ 0 ∷ 0 ∷ []
+abbrev pub number_words : Answer → Words
+number_words n = n ∷ 0 ∷ 0 ∷ 0 ∷ 0 ∷ 0 ∷ 0 ∷ 0 ∷ 0 ∷ []
 
 -- ---- a terminal
 
 -- new, of any bytes
 abbrev pub FreshAt : Defaults → Memory → Type 0
-FreshAt d after = after ≡ memoryOf (freshTerminal d)
+FreshAt d after = after ≡ memory_of (fresh_terminal d)
 
 -- the clear button
 abbrev pub ClearsAt : Defaults → Memory → Memory → Type 0
-ClearsAt d memory after = after ≡ memoryOf (clearedTerminal d (terminalAt memory))
+ClearsAt d memory after = after ≡ memory_of (cleared_terminal d (terminal_at memory))
 
 -- 1 where it is sound, else 0
 pub record IsSoundAt (m : Memory) (told : Bit) : Type 0 where
-  pub says : told ≡ cond (soundTerminal (terminalAt m)) 1 0
+  pub says : told ≡ cond (sound_terminal (terminal_at m)) 1 0
 
 -- ---- records
 
 -- a record is handed in; the tables are passed in to be read
 pub record HandsInAt (m : Memory) (r : Bytes) (words : Words) (queue : Queue) : Type 0 where
-  pub says : words ≡ words_of (handedIn (terminalAt m) r)
-  pub keeps : queue ≡ (handedIn (terminalAt m) r).terminal.queue
+  pub says : words ≡ words_of (handed_in (terminal_at m) r)
+  pub keeps : queue ≡ (handed_in (terminal_at m) r).terminal.queue
 
 -- a record is judged directly
 pub record JudgesAt (d : Defaults) (m : Memory) (q : Request) (words : Words) (after : Memory) (lent buffer : Bytes) : Type 0 where
-  pub says : words ≡ words_of (judged d (terminalAt m) q)
-  pub keeps : after ≡ memoryOf (judged d (terminalAt m) q).terminal
-  pub fills : buffer ≡ filled lent (judged d (terminalAt m) q).response.contents
+  pub says : words ≡ words_of (judged d (terminal_at m) q)
+  pub keeps : after ≡ memory_of (judged d (terminal_at m) q).terminal
+  pub fills : buffer ≡ filled lent (judged d (terminal_at m) q).response.contents
 
 -- a take, at a clock, with a buffer of a length: also the record's length, and the record with zeros after it
 pub record TakesAt (d : Defaults) (m : Memory) (clock : Clock) (capacity : Size) (words size : Words) (bytes : Bytes) (after : Memory) (lent buffer : Bytes) : Type 0 where
-  pub says : words ≡ words_of (taken d (terminalAt m) clock capacity)
-  pub sized : size ≡ length (taken d (terminalAt m) clock capacity).bytes ∷ []
-  pub hands : bytes ≡ padded (taken d (terminalAt m) clock capacity).bytes
-  pub keeps : after ≡ memoryOf (taken d (terminalAt m) clock capacity).terminal
-  pub fills : buffer ≡ filled lent (taken d (terminalAt m) clock capacity).response.contents
+  pub says : words ≡ words_of (taken d (terminal_at m) clock capacity)
+  pub sized : size ≡ length (taken d (terminal_at m) clock capacity).bytes ∷ []
+  pub hands : bytes ≡ padded (taken d (terminal_at m) clock capacity).bytes
+  pub keeps : after ≡ memory_of (taken d (terminal_at m) clock capacity).terminal
+  pub fills : buffer ≡ filled lent (taken d (terminal_at m) clock capacity).response.contents
 
 -- ---- lists: an answer, and a row or a length
 
 pub record ListsAt (m : Memory) (words : Words) (lent buffer : Bytes) : Type 0 where
-  pub says : words ≡ number_of (officeVerdict (terminalAt m) (length lent)) ∷ length (officeReply (terminalAt m) (length lent)) ∷ []
-  pub fills : buffer ≡ filled lent (officeReply (terminalAt m) (length lent))
+  pub says : words ≡ number_of (office_verdict (terminal_at m) (length lent)) ∷ length (office_reply (terminal_at m) (length lent)) ∷ []
+  pub fills : buffer ≡ filled lent (office_reply (terminal_at m) (length lent))
 
 abbrev pub TestsAt : Bytes → Words → Type 0
-TestsAt rows words = words ≡ (listTested rows).answer ∷ (listTested rows).row ∷ []
+TestsAt rows words = words ≡ (list_tested rows).answer ∷ (list_tested rows).row ∷ []
 
 pub record ConvertsAt (file : Bytes) (words : Words) (lent buffer : Bytes) : Type 0 where
-  pub says : words ≡ number_of (conversionVerdict file (length lent)) ∷ length (conversionReply file (length lent)) ∷ []
-  pub fills : buffer ≡ filled lent (conversionReply file (length lent))
+  pub says : words ≡ number_of (conversion_verdict file (length lent)) ∷ length (conversion_reply file (length lent)) ∷ []
+  pub fills : buffer ≡ filled lent (conversion_reply file (length lent))

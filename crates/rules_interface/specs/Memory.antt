@@ -4,7 +4,7 @@ use Rattle.std.specs.Prelude.{ℕ, ◌≡◌, List, [], ◌∷◌, length, get_o
 use Rattle.rules.specs.declared.Tables.{Tables}
 use Rattle.rules.specs.declared.Head.{Head}
 use Rattle.rules.specs.Tables.{tables_of, head_of}
-use Rattle.rules.specs.Contracts.Words.{Lent, was, became}
+use Rattle.rules.specs.Promises.Words.{Lent, was, became}
 use Rattle.rules_terminal.specs.Terminal.{Terminal, terminal}
 use Rattle.rules.specs.Types.{Bytes}
 use Rattle.rules_terminal.specs.Slots.{Queue}
@@ -24,8 +24,8 @@ pub record Memory : Type 0 where
 
 -- ---- read
 
-abbrev pub headAt : Bytes → Bytes → Bytes → Head
-headAt counts devowner rowners = record {
+abbrev pub head_at : Bytes → Bytes → Bytes → Head
+head_at counts devowner rowners = record {
   state = get_or counts 0 0;
   owned = get_or counts 1 0;
   ncreds = get_or counts 2 0;
@@ -34,20 +34,20 @@ headAt counts devowner rowners = record {
   rowners = rowners;
 }
 
-abbrev pub tablesAt : Bytes → Bytes → Bytes → Bytes → Bytes → Tables
-tablesAt counts devowner rowners creds aces = tables_of (headAt counts devowner rowners) creds aces
+abbrev pub tables_at : Bytes → Bytes → Bytes → Bytes → Bytes → Tables
+tables_at counts devowner rowners creds aces = tables_of (head_at counts devowner rowners) creds aces
 
-abbrev pub terminalAt : Memory → Terminal
-terminalAt memory = terminal (tablesAt memory.counts memory.devowner memory.rowners memory.creds memory.aces) memory.queue
+abbrev pub terminal_at : Memory → Terminal
+terminal_at memory = terminal (tables_at memory.counts memory.devowner memory.rowners memory.creds memory.aces) memory.queue
 
 -- ---- written
 
-abbrev pub countsOf : Head → Bytes
-countsOf head = head.state ∷ head.owned ∷ head.ncreds ∷ head.naces ∷ []
+abbrev pub counts_of : Head → Bytes
+counts_of head = head.state ∷ head.owned ∷ head.ncreds ∷ head.naces ∷ []
 
-abbrev pub memoryOf : Terminal → Memory
-memoryOf x = record {
-  counts = countsOf (head_of x.tables);
+abbrev pub memory_of : Terminal → Memory
+memory_of x = record {
+  counts = counts_of (head_of x.tables);
   devowner = x.tables.devowner;
   rowners = x.tables.rowners;
   creds = x.tables.creds;
@@ -56,8 +56,8 @@ memoryOf x = record {
 }
 
 -- the same tables with another queue
-abbrev pub withQueue : Memory → Queue → Memory
-withQueue memory queue = record {
+abbrev pub with_queue : Memory → Queue → Memory
+with_queue memory queue = record {
   counts = memory.counts;
   devowner = memory.devowner;
   rowners = memory.rowners;
@@ -68,8 +68,8 @@ withQueue memory queue = record {
 
 -- ---- for contracts: what is passed in, before a call and after it
 
-abbrev pub memoryBefore : Lent → Lent → Lent → Lent → Lent → Lent → Memory
-memoryBefore counts devowner rowners creds aces queue = record {
+abbrev pub memory_before : Lent → Lent → Lent → Lent → Lent → Lent → Memory
+memory_before counts devowner rowners creds aces queue = record {
   counts = was counts;
   devowner = was devowner;
   rowners = was rowners;
@@ -78,8 +78,8 @@ memoryBefore counts devowner rowners creds aces queue = record {
   queue = was queue;
 }
 
-abbrev pub memoryAfter : Lent → Lent → Lent → Lent → Lent → Lent → Memory
-memoryAfter counts devowner rowners creds aces queue = record {
+abbrev pub memory_after : Lent → Lent → Lent → Lent → Lent → Lent → Memory
+memory_after counts devowner rowners creds aces queue = record {
   counts = became counts;
   devowner = became devowner;
   rowners = became rowners;

@@ -9,17 +9,17 @@ use Rattle.rules.specs.declared.Sender.{Sender}
 use Rattle.rules.specs.declared.Sender.TheVariants.{Partner}
 use Rattle.rules.specs.Record.{Request, update, verb, resource, body}
 use Rattle.rules.specs.Directory.{acl2}
-use Rattle.rules.specs.Bodies.{rowNumber}
+use Rattle.rules.specs.Bodies.{row_number}
 use Rattle.rules.specs.Tables.{row_of}
 use Rattle.rules.specs.Action.{action}
 use Rattle.rules.specs.States.{reset}
 use Rattle.rules.specs.Outcome.{Response}
 use Rattle.rules.specs.Run.{kept}
-use Rattle.rules.specs.Isolation.{rowAlters}
+use Rattle.rules.specs.Isolation.{row_alters}
 use Rattle.rules_terminal.specs.Terminal.{Terminal, Transition}
-use Rattle.rules_terminal.specs.Inputs.{Input, Turn, bytes_of, turnResponse, othersTurn}
-use Rattle.rules_runs.specs.Events.{requests, recordsAfter, eventOf, responsesOf}
-use Rattle.rules_runs.specs.Isolation.{requestsOf, allResponses}
+use Rattle.rules_terminal.specs.Inputs.{Input, Turn, bytes_of, turn_response, others_turn}
+use Rattle.rules_runs.specs.Events.{requests, records_after, event_of, responses_of}
+use Rattle.rules_runs.specs.Isolation.{requests_of, all_responses}
 use Rattle.rules.specs.Types.{Bytes}
 
 -- by the action, with the body b: an owner is set, the terminal is cleared, a credential row with a chosen partner's
@@ -30,32 +30,32 @@ endangers chosen b Read = false
 endangers chosen b (SetRowOwner n) = true
 endangers chosen b (SetOwner owned) = true
 endangers chosen b (SetState target) = eqb target reset
-endangers chosen b (Store Creds) = chosen (Partner (rowNumber (row_of Creds b)))
-endangers chosen b (Store Aces) = rowAlters (row_of Aces b)
+endangers chosen b (Store Creds) = chosen (Partner (row_number (row_of Creds b)))
+endangers chosen b (Store Aces) = row_alters (row_of Aces b)
 endangers chosen b (Remove table key) = false
 endangers chosen b (Assert connection) = false
 endangers chosen b Malformed = false
 
 -- ---- a record that was judged, and several
 
-abbrev pub wasPermitted : Turn → Bool
-wasPermitted turn = eqb (turnResponse turn).answer 0
+abbrev pub was_permitted : Turn → Bool
+was_permitted turn = eqb (turn_response turn).answer 0
 
 unfoldable pub endangering : (Sender → Bool) → Turn → Bool
-endangering chosen turn = wasPermitted turn && endangers chosen (body (bytes_of turn)) (action (bytes_of turn))
+endangering chosen turn = was_permitted turn && endangers chosen (body (bytes_of turn)) (action (bytes_of turn))
 
 -- so much of it is in the header: a permitted UPDATE of doxm, pstat, cred or acl2
 unfoldable pub updating : Turn → Bool
-updating turn = wasPermitted turn && eqb (verb (bytes_of turn)) update && leb (resource (bytes_of turn)) acl2
+updating turn = was_permitted turn && eqb (verb (bytes_of turn)) update && leb (resource (bytes_of turn)) acl2
 
 -- some of these passes the test
-abbrev pub someTurn : (Turn → Bool) → List Turn → Bool
-someTurn passes [] = false
-someTurn passes (turn ∷ turns) = passes turn || someTurn passes turns
+abbrev pub some_turn : (Turn → Bool) → List Turn → Bool
+some_turn passes [] = false
+some_turn passes (turn ∷ turns) = passes turn || some_turn passes turns
 
 -- somebody else endangers the chosen
-abbrev pub othersEndanger : (Sender → Bool) → List Turn → Bool
-othersEndanger chosen turns = someTurn (endangering chosen) (kept (othersTurn chosen) turns)
+abbrev pub others_endanger : (Sender → Bool) → List Turn → Bool
+others_endanger chosen turns = some_turn (endangering chosen) (kept (others_turn chosen) turns)
 
 -- ---- a run, of inputs and their answers. The bytes of the records are those of the hand-ins and of the queue at the start
 
@@ -66,8 +66,8 @@ paired (q ∷ qs) [] = []
 paired (q ∷ qs) (y ∷ ys) = record { request = q; response = y } ∷ paired qs ys
 
 -- the records judged, from the terminal x on
-abbrev pub turnsHanded : Terminal → List Input → List Transition → List Turn
-turnsHanded x is answers = paired (requestsOf x is answers) (allResponses is answers)
+abbrev pub turns_handed : Terminal → List Input → List Transition → List Turn
+turns_handed x is answers = paired (requests_of x is answers) (all_responses is answers)
 
 -- after each answer by which somebody else endangers the chosen, the tables are such (as: the question is answered 'isolated' again);
 -- `rs` are the records that wait at the start
@@ -75,8 +75,8 @@ abbrev pub Again : (Sender → Bool) → (Tables → Type 0) → List Bytes → 
 Again chosen Such rs [] answers = Unit {0}
 Again chosen Such rs (i ∷ is) [] = Unit {0}
 Again chosen Such rs (i ∷ is) (a ∷ answers) =
-    (othersEndanger chosen (paired (requests rs (eventOf i a)) (responsesOf i a)) ≡ true → Such a.terminal.tables)
-    × Again chosen Such (recordsAfter rs (eventOf i a)) is answers
+    (others_endanger chosen (paired (requests rs (event_of i a)) (responses_of i a)) ≡ true → Such a.terminal.tables)
+    × Again chosen Such (records_after rs (event_of i a)) is answers
 
 -- each sender of the part is chosen
 abbrev pub Within : (Sender → Bool) → (Sender → Bool) → Type 0

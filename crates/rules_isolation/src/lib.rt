@@ -1,7 +1,9 @@
 // The question whether senders are isolated from all others: the answers, here; the definitions in specs/, the theorems in proofs/.
 // The crate `isolation` answers it.
+#![tactic(auto)]
+
 ghost use Rattle.std.specs.Prelude.{◌≡◌};
-ghost use Rattle.rules_isolation.specs.Question.{reportOf};
+ghost use Rattle.rules_isolation.specs.Question.{report_of};
 
 // Whether the senders of a list are isolated, or the first reason why they may not be.
 // Entries of the list and access rows are counted from 1.
@@ -32,7 +34,7 @@ pub struct IsolationReport {
 impl Isolation {
     // Rules out: a reason that is reported as isolated; the row instead of the entry.
     pub fn report(self) -> IsolationReport
-        ensures { result ≡ reportOf self }
+        ensures { result ≡ report_of self }
     {
         match self {
             Isolation::Isolated => IsolationReport {

@@ -9,19 +9,19 @@ use Rattle.rules.specs.declared.Table.TheVariants.{Aces}
 use Rattle.rules.specs.declared.Check.{Check}
 use Rattle.rules.specs.declared.Check.TheVariants.{Pass, Refuse}
 use Rattle.rules.specs.Lookup.{lookup}
-use Rattle.rules.specs.Bodies.{rowNumber, aceKind, acePermission, acePlus, aceMinus, aceStar, in_set}
-use Rattle.rules.specs.Bodies.{aceSubject, aceAuthority, aceRole, aceConnection, aceFirst, aceLast}
+use Rattle.rules.specs.Bodies.{row_number, ace_kind, ace_permission, ace_plus, ace_minus, ace_star, in_set}
+use Rattle.rules.specs.Bodies.{ace_subject, ace_authority, ace_role, ace_connection, ace_first, ace_last}
 use Rattle.rules.specs.Directory.{doxm, pstat, cred, acl2, roles, yard}
 use Rattle.rules.specs.Tables.{rows}
 use Rattle.rules.specs.Checks.{verdict}
-use Rattle.rules_terminal.specs.Terminal.{Terminal, soundTerminal}
+use Rattle.rules_terminal.specs.Terminal.{Terminal, sound_terminal}
 use Rattle.rules.specs.Types.{Bytes, Checklist, Index, ResourceNumber, Size, Uuid}
 
 -- ---- a UUID: lower case, 8-4-4-4-12
 
 -- 48 is 0 and 97 is a
-unfoldable pub hexDigit : ℕ → ℕ
-hexDigit digit = cond (ltb digit 10) (48 + digit) (87 + digit)
+unfoldable pub hex_digit : ℕ → ℕ
+hex_digit digit = cond (ltb digit 10) (48 + digit) (87 + digit)
 
 -- there is a dash before the byte at this index
 unfoldable pub dashed : Index → Bool
@@ -31,16 +31,16 @@ unfoldable pub dash : Index → Text
 dash index = cond (dashed index) (ascii "-") []
 
 -- the byte of a UUID at this index
-unfoldable pub hexByte : Index → ℕ → Text
-hexByte index byte = dash index ++ (hexDigit (byte / 16) ∷ hexDigit (byte % 16) ∷ [])
+unfoldable pub hex_byte : Index → ℕ → Text
+hex_byte index byte = dash index ++ (hex_digit (byte / 16) ∷ hex_digit (byte % 16) ∷ [])
 
 -- from this index on
-abbrev pub uuidFrom : Index → Bytes → Text
-uuidFrom index [] = []
-uuidFrom index (byte ∷ bytes) = hexByte index byte ++ uuidFrom (suc index) bytes
+abbrev pub uuid_from : Index → Bytes → Text
+uuid_from index [] = []
+uuid_from index (byte ∷ bytes) = hex_byte index byte ++ uuid_from (suc index) bytes
 
-unfoldable pub uuidText : Uuid → Text
-uuidText uuid = uuidFrom 0 uuid
+unfoldable pub uuid_text : Uuid → Text
+uuid_text uuid = uuid_from 0 uuid
 
 -- ---- an array: a comma before each element but the first
 
@@ -53,17 +53,17 @@ separated first (text ∷ texts) = (comma first ++ text) ++ separated false text
 
 -- ---- a subject
 
-unfoldable pub uuidSubject : Row → Text
-uuidSubject ace = joined (ascii "{\"uuid\":\"" ∷ uuidText (aceSubject ace) ∷ ascii "\"}" ∷ [])
+unfoldable pub uuid_subject : Row → Text
+uuid_subject ace = joined (ascii "{\"uuid\":\"" ∷ uuid_text (ace_subject ace) ∷ ascii "\"}" ∷ [])
 
-unfoldable pub roleSubject : Row → Text
-roleSubject ace = joined (ascii "{\"authority\":\"" ∷ decimal (aceAuthority ace) ∷ ascii "\",\"role\":\"" ∷ decimal (aceRole ace) ∷ ascii "\"}" ∷ [])
+unfoldable pub role_subject : Row → Text
+role_subject ace = joined (ascii "{\"authority\":\"" ∷ decimal (ace_authority ace) ∷ ascii "\",\"role\":\"" ∷ decimal (ace_role ace) ∷ ascii "\"}" ∷ [])
 
-unfoldable pub connectionSubject : Row → Text
-connectionSubject ace = cond (eqb (aceConnection ace) 1) (ascii "{\"conntype\":\"auth-crypt\"}") (ascii "{\"conntype\":\"anon-clear\"}")
+unfoldable pub connection_subject : Row → Text
+connection_subject ace = cond (eqb (ace_connection ace) 1) (ascii "{\"conntype\":\"auth-crypt\"}") (ascii "{\"conntype\":\"anon-clear\"}")
 
-unfoldable pub subjectText : Row → Text
-subjectText ace = lookup (aceKind ace) ((0, uuidSubject ace) ∷ (1, roleSubject ace) ∷ (2, connectionSubject ace) ∷ []) []
+unfoldable pub subject_text : Row → Text
+subject_text ace = lookup (ace_kind ace) ((0, uuid_subject ace) ∷ (1, role_subject ace) ∷ (2, connection_subject ace) ∷ []) []
 
 -- ---- resources: each known one by rising number, then the wildcards
 
@@ -83,7 +83,7 @@ choices = map (λ e. href e.1) names ++ (ascii "\"wc\":\"+\"" ∷ ascii "\"wc\":
 
 -- which of them the row does name
 unfoldable pub chosen : Row → List Bool
-chosen ace = map (λ e. in_set ace e.0) names ++ (acePlus ace ∷ aceMinus ace ∷ aceStar ace ∷ [])
+chosen ace = map (λ e. in_set ace e.0) names ++ (ace_plus ace ∷ ace_minus ace ∷ ace_star ace ∷ [])
 
 -- the elements whose flag is set
 abbrev pub picked : {A : Type 0} → List Bool → List A → List A
@@ -94,56 +94,56 @@ picked (b ∷ bs) (x ∷ xs) = cond b (x ∷ picked bs xs) (picked bs xs)
 unfoldable pub braced : Text → Text
 braced text = joined (ascii "{" ∷ text ∷ ascii "}" ∷ [])
 
-unfoldable pub resourcesText : Row → Text
-resourcesText ace = separated true (map braced (picked (chosen ace) choices))
+unfoldable pub resources_text : Row → Text
+resources_text ace = separated true (map braced (picked (chosen ace) choices))
 
 -- ---- a row, and the list
 
-unfoldable pub rowText : Row → Text
-rowText ace =
-    joined (ascii "{\"aceid\":" ∷ decimal (rowNumber ace)
+unfoldable pub row_text : Row → Text
+row_text ace =
+    joined (ascii "{\"aceid\":" ∷ decimal (row_number ace)
     ∷ ascii ",\"subject\":"
-    ∷ subjectText ace
+    ∷ subject_text ace
     ∷ ascii ",\"resources\":["
-    ∷ resourcesText ace
+    ∷ resources_text ace
     ∷ ascii "],\"permission\":"
-    ∷ decimal (acePermission ace)
+    ∷ decimal (ace_permission ace)
     ∷ ascii "}"
     ∷ [])
 
-unfoldable pub rowsText : List Row → Text
-rowsText aces = separated true (map rowText aces)
+unfoldable pub rows_text : List Row → Text
+rows_text aces = separated true (map row_text aces)
 
-unfoldable pub listText : List Row → Text
-listText aces = joined (ascii "{\"aclist2\":[" ∷ rowsText aces ∷ ascii "]}" ∷ [])
+unfoldable pub list_text : List Row → Text
+list_text aces = joined (ascii "{\"aclist2\":[" ∷ rows_text aces ∷ ascii "]}" ∷ [])
 
 -- the row holds for every second (U8)
 unfoldable pub always : Row → Bool
-always ace = eqb (aceFirst ace) 0 && eqb (aceLast ace) 4294967295
+always ace = eqb (ace_first ace) 0 && eqb (ace_last ace) 4294967295
 
 unfoldable pub seasonal : Row → Bool
 seasonal ace = not (always ace)
 
 -- rows of a shorter period are left out
-abbrev pub rowsWritten : List Row → List Row
-rowsWritten aces = without seasonal aces
+abbrev pub rows_written : List Row → List Row
+rows_written aces = without seasonal aces
 
-abbrev pub officeText : Tables → Text
-officeText t = listText (rowsWritten (rows Aces t))
+abbrev pub office_text : Tables → Text
+office_text t = list_text (rows_written (rows Aces t))
 
 -- ---- the answer, the length and the caller's buffer afterwards
 
 -- 17 covers the queue too, as check 1 does (U13)
-abbrev pub officeChecks : Terminal → Size → Checklist
-officeChecks x capacity = (17, not (soundTerminal x)) ∷ (18, ltb capacity (length (officeText x.tables))) ∷ []
+abbrev pub office_checks : Terminal → Size → Checklist
+office_checks x capacity = (17, not (sound_terminal x)) ∷ (18, ltb capacity (length (office_text x.tables))) ∷ []
 
 -- the text that is given after a verdict
 abbrev pub given : Terminal → Check → Text
-given x Pass = officeText x.tables
+given x Pass = office_text x.tables
 given x (Refuse n) = []
 
-unfoldable pub officeVerdict : Terminal → Size → Check
-officeVerdict x capacity = verdict (officeChecks x capacity)
+unfoldable pub office_verdict : Terminal → Size → Check
+office_verdict x capacity = verdict (office_checks x capacity)
 
-unfoldable pub officeReply : Terminal → Size → Text
-officeReply x capacity = given x (officeVerdict x capacity)
+unfoldable pub office_reply : Terminal → Size → Text
+office_reply x capacity = given x (office_verdict x capacity)

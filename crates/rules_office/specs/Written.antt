@@ -1,7 +1,7 @@
 -- Rows whose text in the office's list tells them apart: rows of bytes that a body could store, for every second.
 use Rattle.std.specs.Prelude.{Bool, ◌&&◌, true, List, [], ◌∷◌, ℕ, ltb}
 use Rattle.rows.specs.Rows.{Row}
-use Rattle.rules.specs.Bodies.{aceStorable}
+use Rattle.rules.specs.Bodies.{ace_storable}
 use Rattle.rules_office.specs.Office.{always}
 
 -- every element passes the test, and some element does
@@ -14,5 +14,5 @@ abbrev pub is_byte : ℕ → Bool
 is_byte b = ltb b 256
 
 -- a row of bytes that a body could store, for every second
-unfoldable pub storedRow : Row → Bool
-storedRow w = aceStorable w && all is_byte w && always w
+unfoldable pub stored_row : Row → Bool
+stored_row w = ace_storable w && all is_byte w && always w

@@ -6,23 +6,23 @@ use Rattle.rows.specs.Rows.{Row, packed, every}
 use Rattle.rows.proofs.Laws.{kept}
 use Rattle.rules.specs.declared.Tables.{Tables}
 use Rattle.rules.specs.declared.Table.TheVariants.{Creds, Aces}
-use Rattle.rules.specs.Tables.{storable, rows, withRows, sound, tableSize, SoundRows}
+use Rattle.rules.specs.Tables.{storable, rows, with_rows, sound, table_size, SoundRows}
 use Rattle.rules.specs.Defaults.{Defaults}
 use Rattle.rules.specs.Run.{replies, final}
-use Rattle.rules.proofs.Answers.{table-parts, rows_are, rows-count}
-use Rattle.rules.proofs.TableLaws.{aces-are, table_is, few-rows, rows-with}
-use Rattle.rules.proofs.SoundKept.{sound-with}
+use Rattle.rules.proofs.Answers.{table_parts, rows_are, rows_count}
+use Rattle.rules.proofs.TableLaws.{aces_are, table_is, few_rows, rows_with}
+use Rattle.rules.proofs.SoundKept.{sound_with}
 use Rattle.rules_terminal.specs.Slots.{waiting}
 use Rattle.rules_terminal.specs.Round.{seats}
-use Rattle.rules_terminal.specs.Terminal.{Terminal, terminal, slotSound, queueSound, soundTerminal}
+use Rattle.rules_terminal.specs.Terminal.{Terminal, terminal, slot_sound, queue_sound, sound_terminal}
 use Rattle.rules_terminal.specs.Inputs.{Input, transition, next}
-use Rattle.rules_terminal.proofs.Sound.{terminal-parts, terminal-whole, every-same}
+use Rattle.rules_terminal.proofs.Sound.{terminal_parts, terminal_whole, every_same}
 use Rattle.rules_order.specs.Reorder.{Reordered, sorted}
-use Rattle.rules_order.specs.Order.{InStep, withAccess, SameAnswer, InPairs, none, more, StepInRelation}
-use Rattle.rules_order.proofs.ReorderLaws.{order-length, order-every, order-distinct, order-sorted}
+use Rattle.rules_order.specs.Order.{InStep, with_access, SameAnswer, InPairs, none, more, StepInRelation}
+use Rattle.rules_order.proofs.ReorderLaws.{order_length, order_every, order_distinct, order_sorted}
 use Rattle.rules_order.proofs.OneRecord.{order_is}
-use Rattle.rules_order.proofs.OneInput.{owners-next, input-step}
-use Rattle.rules.specs.Sizes.{aceRowSize}
+use Rattle.rules_order.proofs.OneInput.{owners_next, input_step}
+use Rattle.rules.specs.Sizes.{ace_row_size}
 
 -- ---- two runs over the same inputs, with a relation between their states, and one between what is reported
 
@@ -43,10 +43,10 @@ record Together (x y : Terminal) : Type 0 where
   step : InStep x y
   owners : length x.tables.rowners ≡ 64
 
-together-step : (d : Defaults) → StepInRelation (transition d) (next d) Together SameAnswer
-together-step d x y i s =
-    let both = input-step d x y i s.step s.owners in
-    (both.0, record { step = both.1; owners = owners-next d x i s.owners })
+together_step : (d : Defaults) → StepInRelation (transition d) (next d) Together SameAnswer
+together_step d x y i s =
+    let both = input_step d x y i s.step s.owners in
+    (both.0, record { step = both.1; owners = owners_next d x i s.owners })
 
 -- at each input the same record given out, the same answer, permission, payload, links and, except for the order, reply; places that differ for acl2 only;
 -- at the end sound terminals in which the same waits and whose tables differ at most in the order
@@ -56,56 +56,56 @@ pub any_order :
     → InPairs SameAnswer is (replies (transition d) (next d) x is) (replies (transition d) (next d) y is)
     × InStep (final (next d) x is) (final (next d) y is)
 any_order d x y is s l =
-    let both = two_runs (transition d) (next d) Together SameAnswer (together-step d) x y is (record { step = s; owners = l }) in
+    let both = two_runs (transition d) (next d) Together SameAnswer (together_step d) x y is (record { step = s; owners = l }) in
     (both.0, both.1.step)
 
 -- ---- what the relation says: nothing else differs, byte for byte
 
 -- the second terminal is the first with the access rows of the second
-pub order-whole : (x y : Terminal) → InStep x y → length y.tables.aces ≡ tableSize Aces → y ≡ withAccess x (rows Aces y.tables)
-order-whole x y s l =
+pub order_whole : (x y : Terminal) → InStep x y → length y.tables.aces ≡ table_size Aces → y ≡ with_access x (rows Aces y.tables)
+order_whole x y s l =
     let u = y.tables in
-    let h = (terminal-parts y s.soundRight).tables in
-    let stands : u.aces ≡ packed (tableSize Aces) (rows Aces u) = kept aceRowSize u.naces u.aces (table_is Aces u h l) ∙ ap₂ packed l (sym (rows_are Aces u h)) in
+    let h = (terminal_parts y s.sound_right).tables in
+    let stands : u.aces ≡ packed (table_size Aces) (rows Aces u) = kept ace_row_size u.naces u.aces (table_is Aces u h l) ∙ ap₂ packed l (sym (rows_are Aces u h)) in
     ap₂ terminal
     (order_is x.tables u s.tables
-    ∙ aces-are x.tables (rows Aces u) x.tables.naces (tableSize Aces) u.aces (s.tables.counted ∙ sym (rows-count Aces u h)) stands refl)
+    ∙ aces_are x.tables (rows Aces u) x.tables.naces (table_size Aces) u.aces (s.tables.counted ∙ sym (rows_count Aces u h)) stands refl)
     (sym s.queue)
 
 -- ---- the office's question: a sound terminal whose access rows are put in any order is sound, and in step with it
 
-reordered-rows : (t : Tables) (ws : List Row) → sound t ≡ true → Reordered (rows Aces t) ws → SoundRows Aces ws
-reordered-rows t ws h o =
-    let p = table-parts Aces t h in
+reordered_rows : (t : Tables) (ws : List Row) → sound t ≡ true → Reordered (rows Aces t) ws → SoundRows Aces ws
+reordered_rows t ws h o =
+    let p = table_parts Aces t h in
     record {
-      few = rw (← order-length o) (few-rows Aces t h);
-      stores = sym (order-every (storable Aces) o) ∙ p.stores;
-      distinct = sym (order-distinct o) ∙ p.distinct;
+      few = rw (← order_length o) (few_rows Aces t h);
+      stores = sym (order_every (storable Aces) o) ∙ p.stores;
+      distinct = sym (order_distinct o) ∙ p.distinct;
     }
 
 -- the queue is sound with any tables with the same seats
-beside : (t u : Tables) (m : List ℕ) → seats u ≡ seats t → every (slotSound (rows Creds t)) (waiting m) ≡ true → queueSound (rows Creds t) m ≡ true → queueSound (rows Creds u) m ≡ true
-unfolding queueSound
-beside t u m e keeps h = rw (every-same t u (waiting m) e keeps) (rw keeps at h)
+beside : (t u : Tables) (m : List ℕ) → seats u ≡ seats t → every (slot_sound (rows Creds t)) (waiting m) ≡ true → queue_sound (rows Creds t) m ≡ true → queue_sound (rows Creds u) m ≡ true
+unfolding queue_sound
+beside t u m e keeps h = rw (every_same t u (waiting m) e keeps) (rw keeps at h)
 
-pub reordered-in-step : (x : Terminal) (ws : List Row) → soundTerminal x ≡ true → Reordered (rows Aces x.tables) ws → InStep x (withAccess x ws)
+pub reordered_in_step : (x : Terminal) (ws : List Row) → sound_terminal x ≡ true → Reordered (rows Aces x.tables) ws → InStep x (with_access x ws)
 unfolding seats
-reordered-in-step x ws h o =
-    let s = terminal-parts x h in
+reordered_in_step x ws h o =
+    let s = terminal_parts x h in
     let t = x.tables in
-    let r = reordered-rows t ws s.tables o in
+    let r = reordered_rows t ws s.tables o in
     record {
-      soundLeft = h;
-      soundRight = terminal-whole (withAccess x ws) (sound-with Aces t ws s.tables r)
-          (beside t (withRows Aces t ws) x.queue refl s.keeps s.queue);
+      sound_left = h;
+      sound_right = terminal_whole (with_access x ws) (sound_with Aces t ws s.tables r)
+          (beside t (with_rows Aces t ws) x.queue refl s.keeps s.queue);
       queue = refl;
       tables = record {
         others = refl;
-        counted = sym (rows-count Aces t s.tables) ∙ order-length o;
-        order = rw (rows-with Aces t ws r.few r.stores) o;
+        counted = sym (rows_count Aces t s.tables) ∙ order_length o;
+        order = rw (rows_with Aces t ws r.few r.stores) o;
       };
     }
 
 -- sorted by any test of two rows
-pub sorted-in-step : (before : Row → Row → Bool) (x : Terminal) → soundTerminal x ≡ true → InStep x (withAccess x (sorted before (rows Aces x.tables)))
-sorted-in-step before x h = reordered-in-step x (sorted before (rows Aces x.tables)) h (order-sorted before (rows Aces x.tables))
+pub sorted_in_step : (before : Row → Row → Bool) (x : Terminal) → sound_terminal x ≡ true → InStep x (with_access x (sorted before (rows Aces x.tables)))
+sorted_in_step before x h = reordered_in_step x (sorted before (rows Aces x.tables)) h (order_sorted before (rows Aces x.tables))

@@ -1,19 +1,19 @@
 -- A worked example: a machine of one byte, which keeps its last input and answers with the one before.
 use Rattle.rows.proofs.Prelude.{◌≡◌, refl, List, [], ◌∷◌, ℕ, get_or, set}
 use Rattle.rows.specs.Rows.{same}
-use Rattle.rules_store.specs.Store.{imageAt, marks, sum, counter, evenCounter, currentAt, spareAt, current, spare, mismatch, mismatchFrom, toCopy}
-use Rattle.rules_store.specs.Store.{markAt, raised, raise, writeAt, write, fits, settled, next}
+use Rattle.rules_store.specs.Store.{image_at, marks, sum, counter, even_counter, current_at, spare_at, current, spare, mismatch, mismatch_from, to_copy}
+use Rattle.rules_store.specs.Store.{mark_at, raised, raise, write_at, write, fits, settled, next}
 use Rattle.rules_store.specs.Cuts.{Attempt, stops, tries}
-use Rattle.rules_store.proofs.Parts.{torn-byte}
+use Rattle.rules_store.proofs.Parts.{torn_byte}
 use Rattle.rules_power.specs.Day as day
 use Rattle.rules_power.specs.Day.{Machine, replied, cut, idle, found, Day, Run, SeenOf}
 
 layout : Unit {0}
-unfolding imageAt marks sum counter evenCounter currentAt spareAt current spare
+unfolding image_at marks sum counter even_counter current_at spare_at current spare
 layout = tt
 
 step : Unit {0}
-unfolding same mismatch mismatchFrom toCopy markAt raised raise writeAt write fits settled next
+unfolding same mismatch mismatch_from to_copy mark_at raised raise write_at write fits settled next
 step = tt
 
 abbrev cell : Machine ℕ ℕ ℕ
@@ -43,23 +43,23 @@ night = 5 ∷ 9 ∷ 1 ∷ 1 ∷ 0 ∷ 0 ∷ 0 ∷ 0 ∷ 0 ∷ 0 ∷ []
 
 first : Attempt (9 ∷ []) morning noon
 unfolding layout step
-first = tries 0 1 9 refl (torn-byte 1 1 morning 9) (tries 2 2 1 refl (torn-byte 1 2 (set morning 1 9) 1) stops)
+first = tries 0 1 9 refl (torn_byte 1 1 morning 9) (tries 2 2 1 refl (torn_byte 1 2 (set morning 1 9) 1) stops)
 
 second : Attempt (5 ∷ []) noon dusk
 unfolding layout step
-second = tries 0 0 5 refl (torn-byte 1 0 noon 77) stops
+second = tries 0 0 5 refl (torn_byte 1 0 noon 77) stops
 
 third : Attempt (5 ∷ []) dusk night
 unfolding layout step
-third = tries 0 0 5 refl (torn-byte 1 0 dusk 5) (tries 1 3 1 refl (torn-byte 1 3 (set dusk 0 5) 1) stops)
+third = tries 0 0 5 refl (torn_byte 1 0 dusk 5) (tries 1 3 1 refl (torn_byte 1 3 (set dusk 0 5) 1) stops)
 
-pub a-day : Day cell 7 morning (replied 9 7 ∷ cut 5 ∷ idle ∷ cut 5 ∷ []) 5 night
+pub a_day : Day cell 7 morning (replied 9 7 ∷ cut 5 ∷ idle ∷ cut 5 ∷ []) 5 night
 unfolding layout step found
-a-day = day.answers 9 7 (refl, refl) first 3 refl (day.cuts 5 9 (refl, refl) second (day.idles (day.cuts 5 9 (refl, refl) third day.ends)))
+a_day = day.answers 9 7 (refl, refl) first 3 refl (day.cuts 5 9 (refl, refl) second (day.idles (day.cuts 5 9 (refl, refl) third day.ends)))
 
 -- the run without power cuts has 9, and 5 once
-pub its-run : Run cell 7 (9 ∷ 5 ∷ []) (7 ∷ 9 ∷ []) 5
-its-run = day.more 9 7 (refl, refl) (day.more 5 9 (refl, refl) day.none)
+pub its_run : Run cell 7 (9 ∷ 5 ∷ []) (7 ∷ 9 ∷ []) 5
+its_run = day.more 9 7 (refl, refl) (day.more 5 9 (refl, refl) day.none)
 
-pub its-events : SeenOf {Input = ℕ} {Answer = ℕ} (9 ∷ 5 ∷ []) (7 ∷ 9 ∷ []) (replied 9 7 ∷ cut 5 ∷ idle ∷ cut 5 ∷ [])
-its-events = day.transition 9 7 (day.left_out 5 (day.unseen (day.counted 5 9 day.none)))
+pub its_events : SeenOf {Input = ℕ} {Answer = ℕ} (9 ∷ 5 ∷ []) (7 ∷ 9 ∷ []) (replied 9 7 ∷ cut 5 ∷ idle ∷ cut 5 ∷ [])
+its_events = day.transition 9 7 (day.left_out 5 (day.unseen (day.counted 5 9 day.none)))

@@ -44,7 +44,7 @@ module _ {State Input Answer : Type 0} (m : Machine State Input Answer) where
     answers : {x y z : State} {es : List (Event Input Answer)} (i : Input) (a : Answer) → m.Gives x i a y → Restarts y es z → Restarts x (replied i a ∷ es) z
     counts : {x y z : State} {es : List (Event Input Answer)} (i : Input) (a : Answer) → m.Gives x i a y → Restarts (m.restart y) es z
         → Restarts x (cut i ∷ es) z
-    leaves-out : {x z : State} {es : List (Event Input Answer)} (i : Input) → Restarts (m.restart x) es z → Restarts x (cut i ∷ es) z
+    leaves_out : {x z : State} {es : List (Event Input Answer)} (i : Input) → Restarts (m.restart x) es z → Restarts x (cut i ∷ es) z
     idles : {x z : State} {es : List (Event Input Answer)} → Restarts (m.restart x) es z → Restarts x (idle ∷ es) z
 
   -- a run: each input meets the state that the one before left
@@ -78,8 +78,8 @@ pub record Kept {State Input Answer : Type 0} (m : Machine State Input Answer) (
 
 -- ---- several inputs are stored together, and then answered
 
-abbrev pub inRounds : {State Input Answer : Type 0} → Machine State Input Answer → Machine State (List Input) (List Answer)
-inRounds m = record { Gives = Run m; size = m.size; image = m.image; load = m.load; restart = m.restart }
+abbrev pub in_rounds : {State Input Answer : Type 0} → Machine State Input Answer → Machine State (List Input) (List Answer)
+in_rounds m = record { Gives = Run m; size = m.size; image = m.image; load = m.load; restart = m.restart }
 
 -- ---- machines whose states have images
 
@@ -94,26 +94,26 @@ pub record Keeps {State Input Answer : Type 0} (m : Machine State Input Answer) 
 -- ---- what is seen of a day
 
 -- every input is answered
-abbrev pub allAnswered : {Input Answer : Type 0} → List (Event Input Answer) → Bool
-allAnswered [] = true
-allAnswered (replied i a ∷ es) = allAnswered es
-allAnswered (cut i ∷ es) = false
-allAnswered (idle ∷ es) = false
+abbrev pub all_answered : {Input Answer : Type 0} → List (Event Input Answer) → Bool
+all_answered [] = true
+all_answered (replied i a ∷ es) = all_answered es
+all_answered (cut i ∷ es) = false
+all_answered (idle ∷ es) = false
 
 -- the same event with another answer
-abbrev pub eventOf : {Input Answer Other : Type 0} → (Input → Answer → Other) → Event Input Answer → Event Input Other
-eventOf f (replied i a) = replied i (f i a)
-eventOf f (cut i) = cut i
-eventOf f idle = idle
+abbrev pub event_of : {Input Answer Other : Type 0} → (Input → Answer → Other) → Event Input Answer → Event Input Other
+event_of f (replied i a) = replied i (f i a)
+event_of f (cut i) = cut i
+event_of f idle = idle
 
 -- each input with its answer
-abbrev pub allResponses : {Input Answer : Type 0} → List Input → List Answer → List (Event Input Answer)
-allResponses [] bs = []
-allResponses (i ∷ is) [] = []
-allResponses (i ∷ is) (a ∷ bs) = replied i a ∷ allResponses is bs
+abbrev pub all_responses : {Input Answer : Type 0} → List Input → List Answer → List (Event Input Answer)
+all_responses [] bs = []
+all_responses (i ∷ is) [] = []
+all_responses (i ∷ is) (a ∷ bs) = replied i a ∷ all_responses is bs
 
 -- a day on which each input is stored to the end
 pub record Uncut {State Input Answer : Type 0} (m : Machine State Input Answer) (x : State) (s : List ℕ) (is : List Input) (bs : List Answer) (z : State)
     : Type 0 where
   pub end : List ℕ
-  pub seen : Day m x s (allResponses is bs) z end
+  pub seen : Day m x s (all_responses is bs) z end

@@ -12,67 +12,67 @@ use Rattle.rules.specs.declared.Check.TheVariants.{Pass}
 use Rattle.rules.specs.Action.{action}
 use Rattle.rules.specs.Checks.{verdict as verdictBytes}
 use Rattle.rules.specs.Defaults.{Defaults}
-use Rattle.rules.specs.Outcome.{Outcome as ByteOutcome, Response as ByteResponse, responseTo, tablesAfter}
+use Rattle.rules.specs.Outcome.{Outcome as ByteOutcome, Response as ByteResponse, response_to, tables_after}
 use Rattle.rules.specs.Permission.{permission}
 use Rattle.rules.specs.Record.{Request as ByteRequest, body}
-use Rattle.rules.proofs.Refusals.{permitted-passes}
+use Rattle.rules.proofs.Refusals.{permitted_passes}
 use Rattle.rules_typed.specs.Lists.{Maybe, just, holds, without, when}
 use Rattle.rules_typed.specs.Types.{Tables, Request, Outcome}
-use Rattle.rules_typed.specs.Tables.{isBytes}
+use Rattle.rules_typed.specs.Tables.{is_bytes}
 use Rattle.rules_typed.specs.Struct.{Given, DefaultBytes}
-use Rattle.rules_typed.specs.Reading.{target_of, tables_of, read_tables, readRecord, readFresh}
+use Rattle.rules_typed.specs.Reading.{target_of, tables_of, read_tables, read_record, read_fresh}
 use Rattle.rules_typed.specs.Writing.{written}
-use Rattle.rules_typed.specs.Bodies.{requestOf}
+use Rattle.rules_typed.specs.Bodies.{request_of}
 use Rattle.rules_typed.specs.Outcome.{outcome, next}
-use Rattle.rules_typed.proofs.ListLaws.{Each, without-read}
-use Rattle.rules_typed.proofs.RowsRead.{each-without}
-use Rattle.rules_typed.proofs.ActionAs.{actionAs}
-use Rattle.rules_typed.proofs.ChecksRead.{fromSeven}
-use Rattle.rules_typed.proofs.LinksRead.{form, two-parts}
-use Rattle.rules_typed.proofs.HeaderRead.{is-request}
-use Rattle.rules_typed.proofs.StructKept.{given-kept}
+use Rattle.rules_typed.proofs.ListLaws.{Each, without_read}
+use Rattle.rules_typed.proofs.RowsRead.{each_without}
+use Rattle.rules_typed.proofs.ActionAs.{action_as}
+use Rattle.rules_typed.proofs.ChecksRead.{from_seven}
+use Rattle.rules_typed.proofs.LinksRead.{form, two_parts}
+use Rattle.rules_typed.proofs.HeaderRead.{is_request}
+use Rattle.rules_typed.proofs.StructKept.{given_kept}
 use Rattle.rules_typed.proofs.SoundExact.{read_is}
-use Rattle.rules_typed.proofs.TablesBack.{tables-back}
-use Rattle.rules_typed.proofs.Whole.{outcome-written, next-read}
-use Rattle.rules_terminal.specs.Round.{seats, orphaned, sameSeats}
-use Rattle.rules_terminal.specs.Terminal.{Terminal as ByteTerminal, terminal, soundTerminal, isReset as isResetBytes, clears as clearsBytes}
-use Rattle.rules_terminal.specs.Terminal.{queueAfter, terminalAfter}
-use Rattle.rules_terminal.proofs.Sound.{fresh-is}
-use Rattle.rules_queue.specs.Queue.{Round, Anew, After, Queue, Terminal, leaving, isPlace, places, validRound, emptyQueue, isReset, clears}
-use Rattle.rules_queue.specs.Queue.{roundIn, samePlaces, settled}
-use Rattle.rules_queue.specs.QueueBytes.{waitingAs, writtenTerminal, readTerminal}
-use Rattle.rules_queue.proofs.PlacesRead.{seatRound, seats-read, same-places, round-in}
-use Rattle.rules_queue.proofs.SlotsRead.{Slot, front-passes, held-read}
-use Rattle.rules_queue.proofs.QueueExact.{Held, held-written, held_bytes, read_held}
+use Rattle.rules_typed.proofs.TablesBack.{tables_back}
+use Rattle.rules_typed.proofs.Whole.{outcome_written, next_read}
+use Rattle.rules_terminal.specs.Round.{seats, orphaned, same_seats}
+use Rattle.rules_terminal.specs.Terminal.{Terminal as ByteTerminal, terminal, sound_terminal, is_reset as isResetBytes, clears as clearsBytes}
+use Rattle.rules_terminal.specs.Terminal.{queue_after, terminal_after}
+use Rattle.rules_terminal.proofs.Sound.{fresh_is}
+use Rattle.rules_queue.specs.Queue.{Round, Anew, After, Queue, Terminal, leaving, is_place, places, valid_round, empty_queue, is_reset, clears}
+use Rattle.rules_queue.specs.Queue.{round_in, same_places, settled}
+use Rattle.rules_queue.specs.QueueBytes.{waiting_as, written_terminal, read_terminal}
+use Rattle.rules_queue.proofs.PlacesRead.{seat_round, seats_read, same_places_lem, round_in_lem}
+use Rattle.rules_queue.proofs.SlotsRead.{Slot, front_passes, held_read}
+use Rattle.rules_queue.proofs.QueueExact.{Held, held_written, held_bytes, read_held}
 
 -- ---- RESET
 
-target-reset : (b : List ℕ) (s : ℕ) → holds (actionAs b (SetState s)) isReset ≡ eqb s 0
+target_reset : (b : List ℕ) (s : ℕ) → holds (action_as b (SetState s)) is_reset ≡ eqb s 0
 unfolding target_of
-target-reset b s = bool_cases (eqb s 0) (λ e. rw e) (λ e. rw e)
+target_reset b s = bool_cases (eqb s 0) (λ e. rw e) (λ e. rw e)
 
-reset-read : (b : List ℕ) (a : ByteAction) → holds (actionAs b a) isReset ≡ isResetBytes a
-reset-read b Serve = refl
-reset-read b Read = refl
-reset-read b (SetRowOwner n) = refl
-reset-read b (SetOwner o) = refl
-reset-read b (SetState s) = target-reset b s
-reset-read b (Store Creds) = refl
-reset-read b (Store Aces) = refl
-reset-read b (Remove Creds AllKey) = refl
-reset-read b (Remove Creds Number) = refl
-reset-read b (Remove Creds Subject) = refl
-reset-read b (Remove Aces AllKey) = refl
-reset-read b (Remove Aces Number) = refl
-reset-read b (Remove Aces Subject) = refl
-reset-read b (Assert c) = refl
-reset-read b Malformed = refl
+reset_read : (b : List ℕ) (a : ByteAction) → holds (action_as b a) is_reset ≡ isResetBytes a
+reset_read b Serve = refl
+reset_read b Read = refl
+reset_read b (SetRowOwner n) = refl
+reset_read b (SetOwner o) = refl
+reset_read b (SetState s) = target_reset b s
+reset_read b (Store Creds) = refl
+reset_read b (Store Aces) = refl
+reset_read b (Remove Creds AllKey) = refl
+reset_read b (Remove Creds Number) = refl
+reset_read b (Remove Creds Subject) = refl
+reset_read b (Remove Aces AllKey) = refl
+reset_read b (Remove Aces Number) = refl
+reset_read b (Remove Aces Subject) = refl
+reset_read b (Assert c) = refl
+reset_read b Malformed = refl
 
-round-valid : (t : Tables) (k : Round) → validRound k ≡ true → validRound (roundIn t k) ≡ true
-round-valid t Anew v = refl
-round-valid t (After s) v = bool_cases (isPlace t s) (λ e. rw e v) (λ e. rw e)
+round_valid : (t : Tables) (k : Round) → valid_round k ≡ true → valid_round (round_in t k) ≡ true
+round_valid t Anew v = refl
+round_valid t (After s) v = bool_cases (is_place t s) (λ e. rw e v) (λ e. rw e)
 
-module _ (d : Defaults) (e : DefaultBytes d) (t : ByteTables) (g : Given t) (q : ByteRequest) (h : isBytes q.bytes ≡ true) where
+module _ (d : Defaults) (e : DefaultBytes d) (t : ByteTables) (g : Given t) (q : ByteRequest) (h : is_bytes q.bytes ≡ true) where
   abbrev r : List ℕ
   r = q.bytes
 
@@ -80,101 +80,101 @@ module _ (d : Defaults) (e : DefaultBytes d) (t : ByteTables) (g : Given t) (q :
   T = tables_of t
 
   abbrev t' : ByteTables
-  t' = tablesAfter d t q
+  t' = tables_after d t q
 
-  pub kept-given : Given t'
-  kept-given = given-kept d e t g q h
+  pub kept_given : Given t'
+  kept_given = given_kept d e t g q h
 
   abbrev pub o : Outcome
-  o = outcome (readFresh d) (just T) (readRecord q)
+  o = outcome (read_fresh d) (just T) (read_record q)
 
-  read-just : read_tables t ≡ just T
+  read_just : read_tables t ≡ just T
   unfolding when
-  read-just = rw (read_is t g.struct, g.isSound)
+  read_just = rw (read_is t g.struct, g.is_sound)
 
-  pub response-written : written o.response ≡ responseTo d t q
-  response-written =
-      sym (ap (λ (y : ByteOutcome). y.response) (outcome-written d e t g.struct q h)
-      ∙ ap (λ (m : Maybe Tables). written (outcome (readFresh d) m (readRecord q)).response) read-just)
+  pub response_written : written o.response ≡ response_to d t q
+  response_written =
+      sym (ap (λ (y : ByteOutcome). y.response) (outcome_written d e t g.struct q h)
+      ∙ ap (λ (m : Maybe Tables). written (outcome (read_fresh d) m (read_record q)).response) read_just)
 
-  pub tables-read : o.tables ≡ just (tables_of t')
+  pub tables_read : o.tables ≡ just (tables_of t')
   unfolding when
-  tables-read =
-      ap (λ (m : Maybe Tables). next (readFresh d) m (readRecord q)) (sym read-just)
-      ∙ sym (next-read d e t g.struct q h)
-      ∙ read_is t' kept-given.struct ∙ rw kept-given.isSound
+  tables_read =
+      ap (λ (m : Maybe Tables). next (read_fresh d) m (read_record q)) (sym read_just)
+      ∙ sym (next_read d e t g.struct q h)
+      ∙ read_is t' kept_given.struct ∙ rw kept_given.is_sound
 
   -- a permitted record has a request
-  form-passes : (responseTo d t q).answer ≡ 0 → verdictBytes (form r) ≡ Pass
-  form-passes z =
+  form_passes : (response_to d t q).answer ≡ 0 → verdictBytes (form r) ≡ Pass
+  form_passes z =
       let p = permission q.clock t r in
-      front-passes (form r) (fromSeven t p q) (sym (two-parts t g p q) ∙ permitted-passes d t q z)
+      front_passes (form r) (from_seven t p q) (sym (two_parts t g p q) ∙ permitted_passes d t q z)
 
-  asked-reset : (responseTo d t q).answer ≡ 0 → holds (requestOf (readRecord q)) (λ a. holds a.action isReset) ≡ isResetBytes (action r)
-  asked-reset z =
-      let k = is-request q h (form-passes z) in
-      ap (λ (m : Maybe Request). holds m (λ a. holds a.action isReset)) k.read ∙ reset-read (body r) (action r)
+  asked_reset : (response_to d t q).answer ≡ 0 → holds (request_of (read_record q)) (λ a. holds a.action is_reset) ≡ isResetBytes (action r)
+  asked_reset z =
+      let k = is_request q h (form_passes z) in
+      ap (λ (m : Maybe Request). holds m (λ a. holds a.action is_reset)) k.read ∙ reset_read (body r) (action r)
 
   -- the tables are cleared
-  pub clears-read : clears (readRecord q) o ≡ clearsBytes d t q
+  pub clears_read : clears (read_record q) o ≡ clearsBytes d t q
   unfolding clearsBytes
-  clears-read =
-      let answer : o.response.answer ≡ (responseTo d t q).answer = ap (λ (y : ByteResponse). y.answer) response-written in
+  clears_read =
+      let answer : o.response.answer ≡ (response_to d t q).answer = ap (λ (y : ByteResponse). y.answer) response_written in
       rw answer
-      (bool_cases (eqb (responseTo d t q).answer 0)
-      (λ z. rw z (asked-reset (eqb-true _ _ z)))
+      (bool_cases (eqb (response_to d t q).answer 0)
+      (λ z. rw z (asked_reset (eqb-true _ _ z)))
       (λ z. rw z))
 
   -- ---- the queue
 
-  module _ (k : Round) (valid : validRound k ≡ true) (ws : List Row) (good : Each (Slot t) ws) (few : length ws ≤ 25) where
+  module _ (k : Round) (valid : valid_round k ≡ true) (ws : List Row) (good : Each (Slot t) ws) (few : length ws ≤ 25) where
     abbrev Q : Queue
-    Q = record { waiting = map waitingAs ws; round = k }
+    Q = record { waiting = map waiting_as ws; round = k }
 
-    staying : without (λ w. not (isPlace (tables_of t') w.sender)) (map waitingAs ws) ≡ map waitingAs (withoutRows (orphaned (seats t')) ws)
+    staying : without (λ w. not (is_place (tables_of t') w.sender)) (map waiting_as ws) ≡ map waiting_as (withoutRows (orphaned (seats t')) ws)
     unfolding orphaned
     staying =
-        without-read waitingAs (Slot t) (orphaned (seats t')) (λ w. not (isPlace (tables_of t') w.sender))
-        (λ w s. ap not (held-read t w s t' kept-given)) ws good
+        without_read waiting_as (Slot t) (orphaned (seats t')) (λ w. not (is_place (tables_of t') w.sender))
+        (λ w s. ap not (held_read t w s t' kept_given)) ws good
 
-    same_read : sameSeats (seats t) (seats t') ≡ samePlaces (places T) (places (tables_of t'))
-    same_read = rw (seats-read t g, seats-read t' kept-given) (same-places (places T) (places (tables_of t')))
+    same_read : same_seats (seats t) (seats t') ≡ same_places (places T) (places (tables_of t'))
+    same_read = rw (seats_read t g, seats_read t' kept_given) (same_places_lem (places T) (places (tables_of t')))
 
     abbrev Q' : Queue
-    Q' = cond (clearsBytes d t q) emptyQueue (settled T (tables_of t') Q)
+    Q' = cond (clearsBytes d t q) empty_queue (settled T (tables_of t') Q)
 
-    pub after-held : Held t (queueAfter d t q (seatRound k) ws) Q'
-    unfolding queueAfter settled
-    after-held =
+    pub after_held : Held t (queue_after d t q (seat_round k) ws) Q'
+    unfolding queue_after settled
+    after_held =
         bool_cases (clearsBytes d t q)
-        (λ c. rw c (record { slots = []; good = tt; few = omega arith; valid = refl; reads = refl; is = sym fresh-is }))
+        (λ c. rw c (record { slots = []; good = tt; few = omega arith; valid = refl; reads = refl; is = sym fresh_is }))
         (λ c. rw (c, same_read)
-        (bool_cases (samePlaces (places T) (places (tables_of t')))
+        (bool_cases (same_places (places T) (places (tables_of t')))
         (λ s. rw s (record { slots = ws; good = good; few = few; valid = valid; reads = refl; is = refl }))
         (λ s. rw s (record {
           slots = withoutRows (orphaned (seats t')) ws;
-          good = each-without (Slot t) (orphaned (seats t')) ws good;
+          good = each_without (Slot t) (orphaned (seats t')) ws good;
           few = le_trans (length_without (orphaned (seats t')) ws) few;
-          valid = round-valid (tables_of t') (roundIn T k) (round-valid T k valid);
+          valid = round_valid (tables_of t') (round_in T k) (round_valid T k valid);
           reads = staying;
-          is = rw (round-in t g k, round-in t' kept-given (roundIn T k));
+          is = rw (round_in_lem t g k, round_in_lem t' kept_given (round_in T k));
         }))))
 
     -- the terminal that is left
     abbrev pub x' : ByteTerminal
-    x' = terminalAfter d t q (seatRound k) ws
+    x' = terminal_after d t q (seat_round k) ws
 
     abbrev pub y' : Terminal
     y' = record { tables = tables_of t'; queue = Q' }
 
-    pub left_is : leaving (record { tables = T; queue = Q }) (clears (readRecord q) o) o.tables ≡ just y'
-    left_is = rw (clears-read, tables-read)
+    pub left_is : leaving (record { tables = T; queue = Q }) (clears (read_record q) o) o.tables ≡ just y'
+    left_is = rw (clears_read, tables_read)
 
-    pub left-written : writtenTerminal y' ≡ x'
-    left-written = ap₂ terminal (tables-back t' kept-given) (held-written t x'.queue Q' after-held)
+    pub left_written : written_terminal y' ≡ x'
+    left_written = ap₂ terminal (tables_back t' kept_given) (held_written t x'.queue Q' after_held)
 
-    pub left-bytes : isBytes x'.queue ≡ true
-    left-bytes = held_bytes t x'.queue Q' after-held
+    pub left_bytes : is_bytes x'.queue ≡ true
+    left_bytes = held_bytes t x'.queue Q' after_held
 
-    pub left-read : soundTerminal x' ≡ true → readTerminal x' ≡ just y'
-    left-read s = read_held t x' kept-given.struct s y' refl after-held
+    pub left_read : sound_terminal x' ≡ true → read_terminal x' ≡ just y'
+    left_read s = read_held t x' kept_given.struct s y' refl after_held

@@ -9,58 +9,58 @@ use Rattle.rules.specs.Bits.{bits, be16}
 use Rattle.rules.specs.Record.{received}
 use Rattle.rules.specs.Checks.{verdict as verdictBytes}
 use Rattle.rules.proofs.Answers.{passed}
-use Rattle.rules.proofs.BitLaws.{bits-split, bits_small}
+use Rattle.rules.proofs.BitLaws.{bits_split, bits_small}
 use Rattle.rules_typed.specs.Lists.{Maybe, none, just, is_none}
 use Rattle.rules_typed.specs.Types.{Record, Connection, AnonClear, AuthCrypt, Verb, Create, Retrieve, Update, Delete, Observe, Resource, Security}
 use Rattle.rules_typed.specs.Types.{Application}
 use Rattle.rules_typed.specs.Types.{Doxm, Pstat, Cred, Acl2, Roles, Weight, Tare, Zero, Ticket, Lamp, Calib, Display, Yard}
-use Rattle.rules_typed.specs.Directory.{number_of, resourceOf}
-use Rattle.rules_typed.specs.Permission.{connectionOf}
-use Rattle.rules_typed.specs.Tables.{isBytes, is_number}
-use Rattle.rules_typed.specs.Bodies.{senderOf, senderOver}
-use Rattle.rules_typed.specs.Checks.{agree, headerChecks}
-use Rattle.rules_typed.specs.Reading.{verbOf, connectionAs, readRecord}
-use Rattle.rules_typed.specs.Writing.{verbNumber, connectionNumber}
-use Rattle.rules_typed.proofs.DirectoryRead.{Found, known, unknown, found, resource-read}
+use Rattle.rules_typed.specs.Directory.{number_of, resource_of}
+use Rattle.rules_typed.specs.Permission.{connection_of}
+use Rattle.rules_typed.specs.Tables.{is_bytes, is_number}
+use Rattle.rules_typed.specs.Bodies.{sender_of, sender_over}
+use Rattle.rules_typed.specs.Checks.{agree, header_checks}
+use Rattle.rules_typed.specs.Reading.{verb_of, connection_as, read_record}
+use Rattle.rules_typed.specs.Writing.{verb_number, connection_number}
+use Rattle.rules_typed.proofs.DirectoryRead.{Found, known, unknown, found, resource_read}
 use Rattle.rules_typed.proofs.WriteBack.{two_at}
-use Rattle.rules_typed.proofs.RowsRead.{bytes-join}
-use Rattle.rules_typed.proofs.RowWritten.{two-small, word_read, number_small}
-use Rattle.rules_typed.proofs.StateRead.{is-verb, no-verb-read}
-use Rattle.rules_queue.specs.Queue.{Waiting, senderNumber, validSender, recordAt}
-use Rattle.rules_queue.specs.QueueBytes.{recordBytes, or_else, waitingFrom}
+use Rattle.rules_typed.proofs.RowsRead.{bytes_join}
+use Rattle.rules_typed.proofs.RowWritten.{two_small, word_read, number_small}
+use Rattle.rules_typed.proofs.StateRead.{is_verb, no_verb_read}
+use Rattle.rules_queue.specs.Queue.{Waiting, sender_number, valid_sender, record_at}
+use Rattle.rules_queue.specs.QueueBytes.{record_bytes, or_else, waiting_from}
 
 -- ---- read
 
-just-is : {A : Type 0} (m : Maybe A) (x : A) → is_none m ≡ false → m ≡ just (or_else m x)
-just-is none x e = contradiction refl e
-just-is (just y) x e = refl
+just_is : {A : Type 0} (m : Maybe A) (x : A) → is_none m ≡ false → m ≡ just (or_else m x)
+just_is none x e = contradiction refl e
+just_is (just y) x e = refl
 
 pub record Fits (c : Connection) (n : ℕ) : Type 0 where
-  pub connects : connectionOf (senderOver c n) ≡ c
-  pub numbers : senderNumber (senderOver c n) ≡ n
+  pub connects : connection_of (sender_over c n) ≡ c
+  pub numbers : sender_number (sender_over c n) ≡ n
 
 fits : (c : Connection) (n : ℕ) → agree c n ≡ true → Fits c n
 fits AnonClear n a = record { connects = refl; numbers = sym (eqb-true n 0 a) }
 fits AuthCrypt n a = record { connects = refl; numbers = refl }
 
-module _ (x : Record) (p : verdictBytes (headerChecks x) ≡ Pass) where
+module _ (x : Record) (p : verdictBytes (header_checks x) ≡ Pass) where
   pub four : 4 ≤ x.size
-  four = ltb-false x.size 4 (or_left (ltb x.size 4) _ (passed (headerChecks x) p 2))
+  four = ltb-false x.size 4 (or_left (ltb x.size 4) _ (passed (header_checks x) p 2))
 
-  pub sender-over : senderOf x ≡ senderOver x.connection x.credential
-  unfolding senderOf
-  sender-over = rw (le-leb 4 x.size four)
+  pub sender_over_lem : sender_of x ≡ sender_over x.connection x.credential
+  unfolding sender_of
+  sender_over_lem = rw (le-leb 4 x.size four)
 
-  pub sender-fits : Fits x.connection x.credential
-  sender-fits = fits x.connection x.credential (not-false _ (passed (headerChecks x) p 5))
+  pub sender_fits : Fits x.connection x.credential
+  sender_fits = fits x.connection x.credential (not-false _ (passed (header_checks x) p 5))
 
-  pub at-is : x.size ≡ 4 + length x.body → x ≡ recordAt x.clock x.capacity (waitingFrom x)
-  at-is l =
-      let verb = just-is x.verb Observe (passed (headerChecks x) p 3) in
-      let resource = just-is x.resource (Security Roles) (passed (headerChecks x) p 6) in
-      let zeros = eqb-true x.zeros 0 (not-false _ (passed (headerChecks x) p 4)) in
-      let connection = sym sender-fits.connects ∙ ap connectionOf (sym sender-over) in
-      let number = sym sender-fits.numbers ∙ ap senderNumber (sym sender-over) in
+  pub at_is : x.size ≡ 4 + length x.body → x ≡ record_at x.clock x.capacity (waiting_from x)
+  at_is l =
+      let verb = just_is x.verb Observe (passed (header_checks x) p 3) in
+      let resource = just_is x.resource (Security Roles) (passed (header_checks x) p 6) in
+      let zeros = eqb-true x.zeros 0 (not-false _ (passed (header_checks x) p 4)) in
+      let connection = sym sender_fits.connects ∙ ap connection_of (sym sender_over_lem) in
+      let number = sym sender_fits.numbers ∙ ap sender_number (sym sender_over_lem) in
       λ i. record {
         clock = x.clock;
         capacity = x.capacity;
@@ -74,42 +74,42 @@ module _ (x : Record) (p : verdictBytes (headerChecks x) ≡ Pass) where
       }
 
 -- numbers of what is read
-verb-number : (v : ℕ) → is_none (verbOf v) ≡ false → verbNumber (or_else (verbOf v) Observe) ≡ v
-verb-number v e =
-    let k = is-verb v (ltb-false 4 v (sym (no-verb-read v) ∙ e)) in
-    ap (λ (m : Maybe Verb). verbNumber (or_else m Observe)) k.read ∙ sym k.number
+verb_number_lem : (v : ℕ) → is_none (verb_of v) ≡ false → verb_number (or_else (verb_of v) Observe) ≡ v
+verb_number_lem v e =
+    let k = is_verb v (ltb-false 4 v (sym (no_verb_read v) ∙ e)) in
+    ap (λ (m : Maybe Verb). verb_number (or_else m Observe)) k.read ∙ sym k.number
 
-resource-number : (n : ℕ) → Found n → is_none (resourceOf n) ≡ false → number_of (or_else (resourceOf n) (Security Roles)) ≡ n
-resource-number n (known e) h = rw (resource-read e)
-resource-number n (unknown u f) h = contradiction refl (rw f at h)
+resource_number : (n : ℕ) → Found n → is_none (resource_of n) ≡ false → number_of (or_else (resource_of n) (Security Roles)) ≡ n
+resource_number n (known e) h = rw (resource_read e)
+resource_number n (unknown u f) h = contradiction refl (rw f at h)
 
-connection-number : (c : ℕ) → c < 2 → connectionNumber (connectionAs c) ≡ c
-unfolding connectionAs
-connection-number c l = bool_cases (eqb c 1) (λ e. rw (e, eqb-true c 1 e)) (λ e. rw e (omega (arith, eqb-false c 1 e)))
+connection_number_lem : (c : ℕ) → c < 2 → connection_number (connection_as c) ≡ c
+unfolding connection_as
+connection_number_lem c l = bool_cases (eqb c 1) (λ e. rw (e, eqb-true c 1 e)) (λ e. rw e (omega (arith, eqb-false c 1 e)))
 
 -- of bytes
 module _ (clock capacity : ℕ) (r : List ℕ) where
   abbrev x : Record
-  x = readRecord (received clock r capacity)
+  x = read_record (received clock r capacity)
 
-  module _ (p : verdictBytes (headerChecks x) ≡ Pass) where
-    pub record-at : x ≡ recordAt clock capacity (waitingFrom (readRecord (received 0 r 0)))
-    unfolding senderOf
-    record-at = at-is x p (omega (arith, four x p, length-drop 4 r))
+  module _ (p : verdictBytes (header_checks x) ≡ Pass) where
+    pub record_at_lem : x ≡ record_at clock capacity (waiting_from (read_record (received 0 r 0)))
+    unfolding sender_of
+    record_at_lem = at_is x p (omega (arith, four x p, length-drop 4 r))
 
     -- written, it is its bytes
-    pub record-back : isBytes r ≡ true → recordBytes (waitingFrom x) ≡ r
-    unfolding recordBytes
-    record-back h =
+    pub record_back : is_bytes r ≡ true → record_bytes (waiting_from x) ≡ r
+    unfolding record_bytes
+    record_back h =
         let l : 4 ≤ length r = four x p in
-        let verb = verb-number (bits r 0 3) (passed (headerChecks x) p 3) in
-        let resource = resource-number (bits r 4 6) (found (bits r 4 6)) (passed (headerChecks x) p 6) in
-        let zeros : bits r 10 6 ≡ 0 = eqb-true (bits r 10 6) 0 (not-false _ (passed (headerChecks x) p 4)) in
-        let connection = ap (λ (s : Sender). connectionNumber (connectionOf s)) (sender-over x p) ∙ ap connectionNumber (sender-fits x p).connects
-        ∙ connection-number (bits r 3 1) (bits_small r 3 1) in
-        let number = ap senderNumber (sender-over x p) ∙ (sender-fits x p).numbers in
+        let verb = verb_number_lem (bits r 0 3) (passed (header_checks x) p 3) in
+        let resource = resource_number (bits r 4 6) (found (bits r 4 6)) (passed (header_checks x) p 6) in
+        let zeros : bits r 10 6 ≡ 0 = eqb-true (bits r 10 6) 0 (not-false _ (passed (header_checks x) p 4)) in
+        let connection = ap (λ (s : Sender). connection_number (connection_of s)) (sender_over_lem x p) ∙ ap connection_number (sender_fits x p).connects
+        ∙ connection_number_lem (bits r 3 1) (bits_small r 3 1) in
+        let number = ap sender_number (sender_over_lem x p) ∙ (sender_fits x p).numbers in
         let word : bits r 0 3 * 8192 + bits r 3 1 * 4096 + bits r 4 6 * 64 ≡ bits r 0 16 =
-        omega (arith, bits-split r 0 3 13, bits-split r 3 1 12, bits-split r 4 6 6) in
+        omega (arith, bits_split r 0 3 13, bits_split r 3 1 12, bits_split r 4 6 6) in
         rw (verb, resource, connection, number, word, two_at r h 0 (omega arith), two_at r h 2 (omega arith), ← drop-drop 2 2 r)
         (ap (λ (b : List ℕ). take 2 r ++ b) (take-append-drop 2 (drop 2 r)) ∙ take-append-drop 2 r)
 
@@ -123,9 +123,9 @@ record Header (r : List ℕ) (v c e : ℕ) : Type 0 where
 
 header : (r : List ℕ) (v c e : ℕ) → c < 2 → e < 64 → bits r 0 16 ≡ v * 8192 + c * 4096 + e * 64 → Header r v c e
 header r v c e lc le w =
-    let s = bits-split r 0 3 13 in
-    let t = bits-split r 3 1 12 in
-    let u = bits-split r 4 6 6 in
+    let s = bits_split r 0 3 13 in
+    let t = bits_split r 3 1 12 in
+    let u = bits_split r 4 6 6 in
     record {
       verb = omega (arith, w, s, t, u, bits_small r 3 1, bits_small r 4 6, bits_small r 10 6);
       connection = omega (arith, w, s, t, u, bits_small r 3 1, bits_small r 4 6, bits_small r 10 6);
@@ -133,84 +133,84 @@ header r v c e lc le w =
       zeros = omega (arith, w, s, t, u, bits_small r 3 1, bits_small r 4 6, bits_small r 10 6);
     }
 
-verb-again : (v : Verb) → verbOf (verbNumber v) ≡ just v
-unfolding verbOf
-verb-again Create = refl
-verb-again Retrieve = refl
-verb-again Update = refl
-verb-again Delete = refl
-verb-again Observe = refl
+verb_again : (v : Verb) → verb_of (verb_number v) ≡ just v
+unfolding verb_of
+verb_again Create = refl
+verb_again Retrieve = refl
+verb_again Update = refl
+verb_again Delete = refl
+verb_again Observe = refl
 
-connection-again : (s : Sender) → connectionAs (connectionNumber (connectionOf s)) ≡ connectionOf s
-unfolding connectionAs
-connection-again Unauthenticated = refl
-connection-again (Partner n) = refl
+connection_again : (s : Sender) → connection_as (connection_number (connection_of s)) ≡ connection_of s
+unfolding connection_as
+connection_again Unauthenticated = refl
+connection_again (Partner n) = refl
 
-verb-small : (v : Verb) → verbNumber v < 8
-verb-small Create = omega arith
-verb-small Retrieve = omega arith
-verb-small Update = omega arith
-verb-small Delete = omega arith
-verb-small Observe = omega arith
+verb_small : (v : Verb) → verb_number v < 8
+verb_small Create = omega arith
+verb_small Retrieve = omega arith
+verb_small Update = omega arith
+verb_small Delete = omega arith
+verb_small Observe = omega arith
 
-connection-small : (s : Sender) → connectionNumber (connectionOf s) < 2
-connection-small Unauthenticated = omega arith
-connection-small (Partner n) = omega arith
+connection_small : (s : Sender) → connection_number (connection_of s) < 2
+connection_small Unauthenticated = omega arith
+connection_small (Partner n) = omega arith
 
-resource-small : (e : Resource) → number_of e < 64
-resource-small (Security Doxm) = omega arith
-resource-small (Security Pstat) = omega arith
-resource-small (Security Cred) = omega arith
-resource-small (Security Acl2) = omega arith
-resource-small (Security Roles) = omega arith
-resource-small (Application Weight) = omega arith
-resource-small (Application Tare) = omega arith
-resource-small (Application Zero) = omega arith
-resource-small (Application Ticket) = omega arith
-resource-small (Application Lamp) = omega arith
-resource-small (Application Calib) = omega arith
-resource-small (Application Display) = omega arith
-resource-small (Application Yard) = omega arith
+resource_small : (e : Resource) → number_of e < 64
+resource_small (Security Doxm) = omega arith
+resource_small (Security Pstat) = omega arith
+resource_small (Security Cred) = omega arith
+resource_small (Security Acl2) = omega arith
+resource_small (Security Roles) = omega arith
+resource_small (Application Weight) = omega arith
+resource_small (Application Tare) = omega arith
+resource_small (Application Zero) = omega arith
+resource_small (Application Ticket) = omega arith
+resource_small (Application Lamp) = omega arith
+resource_small (Application Calib) = omega arith
+resource_small (Application Display) = omega arith
+resource_small (Application Yard) = omega arith
 
-pub sender-small : (s : Sender) → validSender s ≡ true → senderNumber s < 65536
-sender-small Unauthenticated v = omega arith
-sender-small (Partner n) v = number_small n v
+pub sender_small : (s : Sender) → valid_sender s ≡ true → sender_number s < 65536
+sender_small Unauthenticated v = omega arith
+sender_small (Partner n) v = number_small n v
 
-over-again : (s : Sender) → senderOver (connectionOf s) (senderNumber s) ≡ s
-over-again Unauthenticated = refl
-over-again (Partner n) = refl
+over_again : (s : Sender) → sender_over (connection_of s) (sender_number s) ≡ s
+over_again Unauthenticated = refl
+over_again (Partner n) = refl
 
-agree-again : (s : Sender) → validSender s ≡ true → agree (connectionOf s) (senderNumber s) ≡ true
+agree_again : (s : Sender) → valid_sender s ≡ true → agree (connection_of s) (sender_number s) ≡ true
 unfolding is_number
-agree-again Unauthenticated v = refl
-agree-again (Partner n) v = and_left _ _ v
+agree_again Unauthenticated v = refl
+agree_again (Partner n) v = and_left _ _ v
 
-module _ (w : Waiting) (v : validSender w.sender ≡ true) (b : isBytes w.body ≡ true) where
+module _ (w : Waiting) (v : valid_sender w.sender ≡ true) (b : is_bytes w.body ≡ true) where
   abbrev first : ℕ
-  first = verbNumber w.verb * 8192 + connectionNumber (connectionOf w.sender) * 4096 + number_of w.resource * 64
+  first = verb_number w.verb * 8192 + connection_number (connection_of w.sender) * 4096 + number_of w.resource * 64
 
-  pub record-bytes : isBytes (recordBytes w) ≡ true
-  unfolding recordBytes
-  record-bytes =
-      bytes-join (be16 first) _ (two-small first (omega (arith, verb-small w.verb, connection-small w.sender, resource-small w.resource)))
-      (bytes-join (be16 (senderNumber w.sender)) w.body (two-small (senderNumber w.sender) (sender-small w.sender v)) b)
+  pub record_bytes_lem : is_bytes (record_bytes w) ≡ true
+  unfolding record_bytes
+  record_bytes_lem =
+      bytes_join (be16 first) _ (two_small first (omega (arith, verb_small w.verb, connection_small w.sender, resource_small w.resource)))
+      (bytes_join (be16 (sender_number w.sender)) w.body (two_small (sender_number w.sender) (sender_small w.sender v)) b)
 
-  pub record-long : length (recordBytes w) ≡ 4 + length w.body
-  unfolding recordBytes be16
-  record-long = omega arith
+  pub record_long : length (record_bytes w) ≡ 4 + length w.body
+  unfolding record_bytes be16
+  record_long = omega arith
 
-  pub record-again : (clock capacity : ℕ) → readRecord (received clock (recordBytes w) capacity) ≡ recordAt clock capacity w
-  unfolding recordBytes be16
-  record-again clock capacity =
-      let r = recordBytes w in
-      let word : bits r 0 16 ≡ first = word_read r record-bytes 0 first (omega (arith, record-long)) refl in
-      let h = header r (verbNumber w.verb) (connectionNumber (connectionOf w.sender)) (number_of w.resource) (connection-small w.sender)
-      (resource-small w.resource) word in
-      let number : bits r 16 16 ≡ senderNumber w.sender = word_read r record-bytes 2 (senderNumber w.sender) (omega (arith, record-long)) refl in
-      let size = record-long in
-      let verb = ap verbOf h.verb ∙ verb-again w.verb in
-      let connection = ap connectionAs h.connection ∙ connection-again w.sender in
-      let resource = ap resourceOf h.resource ∙ resource-read w.resource in
+  pub record_again : (clock capacity : ℕ) → read_record (received clock (record_bytes w) capacity) ≡ record_at clock capacity w
+  unfolding record_bytes be16
+  record_again clock capacity =
+      let r = record_bytes w in
+      let word : bits r 0 16 ≡ first = word_read r record_bytes_lem 0 first (omega (arith, record_long)) refl in
+      let h = header r (verb_number w.verb) (connection_number (connection_of w.sender)) (number_of w.resource) (connection_small w.sender)
+      (resource_small w.resource) word in
+      let number : bits r 16 16 ≡ sender_number w.sender = word_read r record_bytes_lem 2 (sender_number w.sender) (omega (arith, record_long)) refl in
+      let size = record_long in
+      let verb = ap verb_of h.verb ∙ verb_again w.verb in
+      let connection = ap connection_as h.connection ∙ connection_again w.sender in
+      let resource = ap resource_of h.resource ∙ resource_read w.resource in
       let zeros = h.zeros in
       λ i. record {
         clock = clock;
@@ -225,11 +225,11 @@ module _ (w : Waiting) (v : validSender w.sender ≡ true) (b : isBytes w.body �
       }
 
   -- it is the record that waits
-  pub waiting-again : (clock capacity : ℕ) → waitingFrom (recordAt clock capacity w) ≡ w
-  unfolding senderOf
-  waiting-again clock capacity = rw (le-leb 4 (4 + length w.body) (omega arith), over-again w.sender)
+  pub waiting_again : (clock capacity : ℕ) → waiting_from (record_at clock capacity w) ≡ w
+  unfolding sender_of
+  waiting_again clock capacity = rw (le-leb 4 (4 + length w.body) (omega arith), over_again w.sender)
 
-  pub passes-again : (clock capacity : ℕ) → length w.body ≤ 252 → verdictBytes (headerChecks (recordAt clock capacity w)) ≡ Pass
+  pub passes_again : (clock capacity : ℕ) → length w.body ≤ 252 → verdictBytes (header_checks (record_at clock capacity w)) ≡ Pass
   unfolding verdictBytes
-  passes-again clock capacity l =
-      rw (le-ltb (4 + length w.body) 4 (omega arith), le-ltb 256 (4 + length w.body) (omega arith), agree-again w.sender v)
+  passes_again clock capacity l =
+      rw (le-ltb (4 + length w.body) 4 (omega arith), le-ltb 256 (4 + length w.body) (omega arith), agree_again w.sender v)

@@ -2,245 +2,245 @@
 use Rattle.rows.proofs.Prelude.{◌≡◌, refl, sym, ap, ap₂, ◌∙◌, Bool, true, false, List, [], ◌∷◌, ◌++◌, map, ℕ, ◌-◌, ◌≤◌, ◌<◌, arith, length}
 use Rattle.rows.proofs.Prelude.{take, drop, eqb, eqb-true, bool_cases, contradiction, and_left, and_right, and_both, not-false, lt-ltb, le-leb}
 use Rattle.rows.proofs.Prelude.{length-drop, leb-true, not-true, replicate}
-use Rattle.rows.specs.Rows.{Row, same, has_key, numberedAs, some, firstRow}
+use Rattle.rows.specs.Rows.{Row, same, has_key, numbered_as, some, first_row}
 use Rattle.rules.specs.declared.Sender.{Sender}
 use Rattle.rules.specs.declared.Tables.{Tables as ByteTables}
 use Rattle.rules.specs.declared.Table.TheVariants.{Creds}
 use Rattle.rules.specs.declared.Check.TheVariants.{Pass}
 use Rattle.rules.specs.Bits.{bits, be16}
-use Rattle.rules.specs.Bodies.{rowNumber}
-use Rattle.rules.specs.Checks.{verdict as verdictBytes, noCredential as noCredentialBytes}
-use Rattle.rules.specs.Record.{received, credential, headerOf}
+use Rattle.rules.specs.Bodies.{row_number}
+use Rattle.rules.specs.Checks.{verdict as verdictBytes, no_credential as noCredentialBytes}
+use Rattle.rules.specs.Record.{received, credential, header_of}
 use Rattle.rules.specs.Tables.{rows}
-use Rattle.rules.specs.Contracts.Groups.{senderChecks}
+use Rattle.rules.specs.Promises.Groups.{sender_checks}
 use Rattle.rules.proofs.Answers.{passed}
 use Rattle.rules.proofs.BitLaws.{bits_small}
 use Rattle.rules.proofs.OwnRow.{first_passes}
 use Rattle.rules_typed.specs.Lists.{none, just, any, find}
 use Rattle.rules_typed.specs.Types.{Record, Connection, AnonClear, AuthCrypt}
-use Rattle.rules_typed.specs.Tables.{isBytes, is_number}
+use Rattle.rules_typed.specs.Tables.{is_bytes, is_number}
 use Rattle.rules_typed.specs.Struct.{Given}
-use Rattle.rules_typed.specs.Reading.{tables_of, readRecord}
-use Rattle.rules_typed.specs.Bodies.{senderOf, senderOver}
-use Rattle.rules_typed.specs.Checks.{agree, headerChecks}
-use Rattle.rules_typed.proofs.ListLaws.{Each, any-read, find-read}
-use Rattle.rules_typed.proofs.ByteLaws.{Good, bytes_take, bytes_drop, numbered-read, number_read}
+use Rattle.rules_typed.specs.Reading.{tables_of, read_record}
+use Rattle.rules_typed.specs.Bodies.{sender_of, sender_over}
+use Rattle.rules_typed.specs.Checks.{agree, header_checks}
+use Rattle.rules_typed.proofs.ListLaws.{Each, any_read, find_read}
+use Rattle.rules_typed.proofs.ByteLaws.{Good, bytes_take, bytes_drop, numbered_read, number_read}
 use Rattle.rules_typed.proofs.LinksRead.{form}
-use Rattle.rules_typed.proofs.HeaderRead.{form-read}
-use Rattle.rules_typed.proofs.RowWritten.{word_read, two-small}
-use Rattle.rules_typed.proofs.RowsRead.{bytes-join, zero-bytes}
-use Rattle.rules_terminal.specs.Slots.{recordOf, seatOf, slot_of, padded}
-use Rattle.rules_terminal.specs.Round.{seats, isSeat, occupied}
-use Rattle.rules_terminal.specs.Terminal.{slotSound}
-use Rattle.rules_terminal.proofs.SlotLaws.{slot-parts, slot-length, slot-key, short-record, slot-made, record-back as slot-record}
-use Rattle.rules_terminal.proofs.Held.{slot_held, held-is}
-use Rattle.rules_queue.specs.Queue.{Waiting, senderNumber, isPlace, waitsIn, validSender, validWaiting, sameWaiting, first_of, recordAt}
-use Rattle.rules_queue.specs.QueueBytes.{recordBytes, slotBytes, waitingFrom, waitingAs}
-use Rattle.rules_queue.proofs.RecordRead.{sender-over, sender-fits, record-back, record-again, waiting-again, passes-again, record-bytes}
-use Rattle.rules_queue.proofs.RecordRead.{record-long, sender-small}
-use Rattle.rules_queue.proofs.PlacesRead.{seatBytes, allSeats, place_read}
+use Rattle.rules_typed.proofs.HeaderRead.{form_read}
+use Rattle.rules_typed.proofs.RowWritten.{word_read, two_small}
+use Rattle.rules_typed.proofs.RowsRead.{bytes_join, zero_bytes}
+use Rattle.rules_terminal.specs.Slots.{record_of, seat_of, slot_of, padded}
+use Rattle.rules_terminal.specs.Round.{seats, is_seat, occupied}
+use Rattle.rules_terminal.specs.Terminal.{slot_sound}
+use Rattle.rules_terminal.proofs.SlotLaws.{slot_parts, slot_length, slot_key, short_record, slot_made, record_back as slot-record}
+use Rattle.rules_terminal.proofs.Held.{slot_held, held_is}
+use Rattle.rules_queue.specs.Queue.{Waiting, sender_number, is_place, waits_in, valid_sender, valid_waiting, same_waiting, first_of, record_at}
+use Rattle.rules_queue.specs.QueueBytes.{record_bytes, slot_bytes, waiting_from, waiting_as}
+use Rattle.rules_queue.proofs.RecordRead.{sender_over_lem, sender_fits, record_back, record_again, waiting_again, passes_again, record_bytes_lem}
+use Rattle.rules_queue.proofs.RecordRead.{record_long, sender_small}
+use Rattle.rules_queue.proofs.PlacesRead.{seat_bytes, all_seats, place_read}
 
 -- a list of checks that passes, passes at its start
-pub front-passes : (xs ys : List (ℕ × Bool)) → verdictBytes (xs ++ ys) ≡ Pass → verdictBytes xs ≡ Pass
+pub front_passes : (xs ys : List (ℕ × Bool)) → verdictBytes (xs ++ ys) ≡ Pass → verdictBytes xs ≡ Pass
 unfolding verdictBytes
-front-passes [] ys p = refl
-front-passes ((n, true) ∷ xs) ys p = p
-front-passes ((n, false) ∷ xs) ys p = front-passes xs ys p
+front_passes [] ys p = refl
+front_passes ((n, true) ∷ xs) ys p = p
+front_passes ((n, false) ∷ xs) ys p = front_passes xs ys p
 
-valid-over : (c : Connection) (n : ℕ) → n < 65536 → agree c n ≡ true → validSender (senderOver c n) ≡ true
+valid_over : (c : Connection) (n : ℕ) → n < 65536 → agree c n ≡ true → valid_sender (sender_over c n) ≡ true
 unfolding is_number
-valid-over AnonClear n l a = refl
-valid-over AuthCrypt n l a = and_both _ _ a (lt-ltb n 65536 l)
+valid_over AnonClear n l a = refl
+valid_over AuthCrypt n l a = and_both _ _ a (lt-ltb n 65536 l)
 
 -- ---- a record of bytes that passes 2 to 6
 
 module _ (r : List ℕ) (p : verdictBytes (form r) ≡ Pass) where
   abbrev x : Record
-  x = readRecord (received 0 r 0)
+  x = read_record (received 0 r 0)
 
-  pub form-passes : verdictBytes (headerChecks x) ≡ Pass
-  form-passes = ap verdictBytes (sym (form-read (received 0 r 0))) ∙ p
+  pub form_passes : verdictBytes (header_checks x) ≡ Pass
+  form_passes = ap verdictBytes (sym (form_read (received 0 r 0))) ∙ p
 
-  pub number_is : senderNumber (senderOf x) ≡ credential r
-  number_is = ap senderNumber (sender-over x form-passes) ∙ (sender-fits x form-passes).numbers
+  pub number_is : sender_number (sender_of x) ≡ credential r
+  number_is = ap sender_number (sender_over_lem x form_passes) ∙ (sender_fits x form_passes).numbers
 
-  pub sender-valid : validSender (senderOf x) ≡ true
-  sender-valid =
-      ap validSender (sender-over x form-passes)
-      ∙ valid-over x.connection x.credential (bits_small r 16 16) (not-false _ (passed (headerChecks x) form-passes 5))
+  pub sender_valid : valid_sender (sender_of x) ≡ true
+  sender_valid =
+      ap valid_sender (sender_over_lem x form_passes)
+      ∙ valid_over x.connection x.credential (bits_small r 16 16) (not-false _ (passed (header_checks x) form_passes 5))
 
-  pub seat-is : seatOf r ≡ seatBytes (senderOf x)
-  unfolding seatOf
-  seat-is = ap be16 (sym number_is)
+  pub seat_is : seat_of r ≡ seat_bytes (sender_of x)
+  unfolding seat_of
+  seat_is = ap be16 (sym number_is)
 
 -- ---- a sound slot of bytes
 
 module _ (t : ByteTables) where
   abbrev pub Slot : Row → Type 0
-  Slot w = Good (slotSound (rows Creds t)) w
+  Slot w = Good (slot_sound (rows Creds t)) w
 
   module _ (w : Row) (g : Slot w) where
     abbrev r : List ℕ
-    r = recordOf w
+    r = record_of w
 
-    pub slot-passes : verdictBytes (senderChecks (rows Creds t) r) ≡ Pass
-    slot-passes = (slot-parts t w g.0).passes
+    pub slot_passes : verdictBytes (sender_checks (rows Creds t) r) ≡ Pass
+    slot_passes = (slot_parts t w g.0).passes
 
-    pub slot-form : verdictBytes (form r) ≡ Pass
-    slot-form = front-passes (form r) _ slot-passes
+    pub slot_form : verdictBytes (form r) ≡ Pass
+    slot_form = front_passes (form r) _ slot_passes
 
-    pub slot-bytes : isBytes r ≡ true
-    unfolding recordOf
-    slot-bytes = bytes_take (bits (drop 2 w) 0 16) (drop 4 w) (bytes_drop 4 w g.1)
+    pub slot_bytes_lem : is_bytes r ≡ true
+    unfolding record_of
+    slot_bytes_lem = bytes_take (bits (drop 2 w) 0 16) (drop 4 w) (bytes_drop 4 w g.1)
 
-    pub slot-two : 2 ≤ length w
-    slot-two = omega (arith, slot-length t w g.0)
+    pub slot_two : 2 ≤ length w
+    slot_two = omega (arith, slot_length t w g.0)
 
-    pub slot-sender : take 2 w ≡ seatBytes (waitingAs w).sender
-    unfolding waitingAs
-    slot-sender = slot-key t w g.0 ∙ seat-is r slot-form
+    pub slot_sender : take 2 w ≡ seat_bytes (waiting_as w).sender
+    unfolding waiting_as
+    slot_sender = slot_key t w g.0 ∙ seat_is r slot_form
 
-    pub slot-number : rowNumber w ≡ senderNumber (waitingAs w).sender
-    slot-number = word_read w g.1 0 (senderNumber (waitingAs w).sender) (omega (arith, slot-two)) slot-sender
+    pub slot_number : row_number w ≡ sender_number (waiting_as w).sender
+    slot_number = word_read w g.1 0 (sender_number (waiting_as w).sender) (omega (arith, slot_two)) slot_sender
 
-    pub slot-valid : validSender (waitingAs w).sender ≡ true
-    unfolding waitingAs
-    slot-valid = sender-valid r slot-form
+    pub slot_valid : valid_sender (waiting_as w).sender ≡ true
+    unfolding waiting_as
+    slot_valid = sender_valid r slot_form
 
     -- written, it is the slot
-    pub slot-back : slotBytes (waitingAs w) ≡ w
-    unfolding slotBytes waitingAs slot_of padded
-    slot-back =
-        rw (record-back 0 0 r (form-passes r slot-form) slot-bytes, ← seat-is r slot-form) (sym (slot-parts t w g.0).is)
+    pub slot_back : slot_bytes (waiting_as w) ≡ w
+    unfolding slot_bytes waiting_as slot_of padded
+    slot_back =
+        rw (record_back 0 0 r (form_passes r slot_form) slot_bytes_lem, ← seat_is r slot_form) (sym (slot_parts t w g.0).is)
 
-    pub waits-read : (s : Sender) → waitsIn s (waitingAs w) ≡ has_key 0 (seatBytes s) w
-    waits-read s = sym (numbered-read w g.1 slot-two (senderNumber s) ∙ ap (λ (n : ℕ). eqb n (senderNumber s)) slot-number)
+    pub waits_read : (s : Sender) → waits_in s (waiting_as w) ≡ has_key 0 (seat_bytes s) w
+    waits_read s = sym (numbered_read w g.1 slot_two (sender_number s) ∙ ap (λ (n : ℕ). eqb n (sender_number s)) slot_number)
 
     -- of any tables, whether its sender has a place there
-    pub held-read : (u : ByteTables) → Given u → isPlace (tables_of u) (waitingAs w).sender ≡ isSeat (seats u) (take 2 w)
-    held-read u k = sym (ap (isSeat (seats u)) slot-sender ∙ place_read u k (waitingAs w).sender)
+    pub held_read : (u : ByteTables) → Given u → is_place (tables_of u) (waiting_as w).sender ≡ is_seat (seats u) (take 2 w)
+    held_read u k = sym (ap (is_seat (seats u)) slot_sender ∙ place_read u k (waiting_as w).sender)
 
-    pub slot-is-valid : Given t → validWaiting (tables_of t) (waitingAs w) ≡ true
-    unfolding validWaiting waitingAs
-    slot-is-valid k =
-        let short = short-record (rows Creds t) r slot-passes in
+    pub slot_is_valid : Given t → valid_waiting (tables_of t) (waiting_as w) ≡ true
+    unfolding valid_waiting waiting_as
+    slot_is_valid k =
+        let short = short_record (rows Creds t) r slot_passes in
         and_both _ _
-        (and_both _ _ (and_both _ _ slot-valid (le-leb (length (drop 4 r)) 252 (omega (arith, length-drop 4 r)))) (bytes_drop 4 r slot-bytes))
-        (held-read t k ∙ slot_held t w g.0)
+        (and_both _ _ (and_both _ _ slot_valid (le-leb (length (drop 4 r)) 252 (omega (arith, length-drop 4 r)))) (bytes_drop 4 r slot_bytes_lem))
+        (held_read t k ∙ slot_held t w g.0)
 
-  pub same-waiting : (v w : Row) → Slot v → Slot w → sameWaiting (waitingAs v) (waitingAs w) ≡ numberedAs v w
-  same-waiting v w g h = sym (number_read w h.1 (slot-two w h) v g.1 (slot-two v g) ∙ ap₂ eqb (slot-number w h) (slot-number v g))
+  pub same_waiting_lem : (v w : Row) → Slot v → Slot w → same_waiting (waiting_as v) (waiting_as w) ≡ numbered_as v w
+  same_waiting_lem v w g h = sym (number_read w h.1 (slot_two w h) v g.1 (slot_two v g) ∙ ap₂ eqb (slot_number w h) (slot_number v g))
 
   -- ---- whose turn it is
 
-  pub occupied-read : (ws : List Row) → Each Slot ws → (s : Sender) → any (waitsIn s) (map waitingAs ws) ≡ occupied ws (seatBytes s)
+  pub occupied_read : (ws : List Row) → Each Slot ws → (s : Sender) → any (waits_in s) (map waiting_as ws) ≡ occupied ws (seat_bytes s)
   unfolding occupied
-  occupied-read ws q s = any-read waitingAs Slot (has_key 0 (seatBytes s)) (waitsIn s) (λ w g. waits-read w g s) ws q
+  occupied_read ws q s = any_read waiting_as Slot (has_key 0 (seat_bytes s)) (waits_in s) (λ w g. waits_read w g s) ws q
 
   -- the slot that is due, of these places
-  abbrev dueSlot : List Row → List Sender → Row
-  dueSlot ws ss = firstRow (has_key 0 (firstRow (occupied ws) (allSeats ss))) ws
+  abbrev due_slot : List Row → List Sender → Row
+  due_slot ws ss = first_row (has_key 0 (first_row (occupied ws) (all_seats ss))) ws
 
-  each_first : (Q : Row → Type 0) (p : Row → Bool) (ws : List Row) → Each Q ws → some p ws ≡ true → Q (firstRow p ws)
-  unfolding some firstRow
+  each_first : (Q : Row → Type 0) (p : Row → Bool) (ws : List Row) → Each Q ws → some p ws ≡ true → Q (first_row p ws)
+  unfolding some first_row
   each_first Q p [] q h = contradiction h refl
   each_first Q p (w ∷ ws) q h = bool_cases (p w) (λ e. rw e q.0) (λ e. rw e (each_first Q p ws q.1 (rw e at h)))
 
   pub record Due (ws : List Row) (ss : List Sender) : Type 0 where
-    pub slot : Slot (dueSlot ws ss)
-    pub first : first_of (map waitingAs ws) ss ≡ just (waitingAs (dueSlot ws ss))
-    pub seat : firstRow (occupied ws) (allSeats ss) ≡ seatBytes (waitingAs (dueSlot ws ss)).sender
+    pub slot : Slot (due_slot ws ss)
+    pub first : first_of (map waiting_as ws) ss ≡ just (waiting_as (due_slot ws ss))
+    pub seat : first_row (occupied ws) (all_seats ss) ≡ seat_bytes (waiting_as (due_slot ws ss)).sender
 
-  due-here : (ws : List Row) → Each Slot ws → (s : Sender) (ss : List Sender) → occupied ws (seatBytes s) ≡ true → Due ws (s ∷ ss)
-  unfolding firstRow first_of occupied
-  due-here ws q s ss e =
-      let p : Row → Bool = has_key 0 (seatBytes s) in
-      let turn : firstRow (occupied ws) (allSeats (s ∷ ss)) ≡ seatBytes s = rw e in
+  due_here : (ws : List Row) → Each Slot ws → (s : Sender) (ss : List Sender) → occupied ws (seat_bytes s) ≡ true → Due ws (s ∷ ss)
+  unfolding first_row first_of occupied
+  due_here ws q s ss e =
+      let p : Row → Bool = has_key 0 (seat_bytes s) in
+      let turn : first_row (occupied ws) (all_seats (s ∷ ss)) ≡ seat_bytes s = rw e in
       let slot = each_first Slot p ws q e in
-      let found : find (waitsIn s) (map waitingAs ws) ≡ just (waitingAs (firstRow p ws)) =
-      find-read waitingAs Slot p (waitsIn s) (λ w g. waits-read w g s) ws q ∙ rw e in
-      let number = eqb-true _ _ (waits-read (firstRow p ws) slot s ∙ first_passes p ws e) in
+      let found : find (waits_in s) (map waiting_as ws) ≡ just (waiting_as (first_row p ws)) =
+      find_read waiting_as Slot p (waits_in s) (λ w g. waits_read w g s) ws q ∙ rw e in
+      let number = eqb-true _ _ (waits_read (first_row p ws) slot s ∙ first_passes p ws e) in
       record {
         slot = rw turn slot;
-        first = rw (turn, occupied-read ws q s, e) found;
+        first = rw (turn, occupied_read ws q s, e) found;
         seat = rw turn (ap be16 (sym number));
       }
 
-  pub due-read : (ws : List Row) → Each Slot ws → (ss : List Sender) → some (occupied ws) (allSeats ss) ≡ true → Due ws ss
-  unfolding some firstRow first_of
-  due-read ws q [] h = contradiction h refl
-  due-read ws q (s ∷ ss) h =
-      bool_cases (occupied ws (seatBytes s))
-      (due-here ws q s ss)
-      (λ e. let more = due-read ws q ss (rw e at h) in
-      let same : firstRow (occupied ws) (allSeats (s ∷ ss)) ≡ firstRow (occupied ws) (allSeats ss) = rw e in
-      record { slot = rw same more.slot; first = rw (same, occupied-read ws q s, e) more.first; seat = rw same more.seat })
+  pub due_read : (ws : List Row) → Each Slot ws → (ss : List Sender) → some (occupied ws) (all_seats ss) ≡ true → Due ws ss
+  unfolding some first_row first_of
+  due_read ws q [] h = contradiction h refl
+  due_read ws q (s ∷ ss) h =
+      bool_cases (occupied ws (seat_bytes s))
+      (due_here ws q s ss)
+      (λ e. let more = due_read ws q ss (rw e at h) in
+      let same : first_row (occupied ws) (all_seats (s ∷ ss)) ≡ first_row (occupied ws) (all_seats ss) = rw e in
+      record { slot = rw same more.slot; first = rw (same, occupied_read ws q s, e) more.first; seat = rw same more.seat })
 
   -- nothing is due where nothing waits
-  pub none-due : (ss : List Sender) → first_of [] ss ≡ none
+  pub none_due : (ss : List Sender) → first_of [] ss ≡ none
   unfolding first_of any
-  none-due [] = refl
-  none-due (s ∷ ss) = none-due ss
+  none_due [] = refl
+  none_due (s ∷ ss) = none_due ss
 
 -- ---- a valid record, written as a slot
 
-module _ (t : ByteTables) (k : Given t) (w : Waiting) (v : validWaiting (tables_of t) w ≡ true) where
-  valid-sender : validSender w.sender ≡ true
-  unfolding validWaiting
-  valid-sender = search (and_left, and_right)
+module _ (t : ByteTables) (k : Given t) (w : Waiting) (v : valid_waiting (tables_of t) w ≡ true) where
+  valid_sender_lem : valid_sender w.sender ≡ true
+  unfolding valid_waiting
+  valid_sender_lem = search (and_left, and_right)
 
-  valid-body : isBytes w.body ≡ true
-  unfolding validWaiting
-  valid-body = search (and_left, and_right)
+  valid_body : is_bytes w.body ≡ true
+  unfolding valid_waiting
+  valid_body = search (and_left, and_right)
 
-  valid-short : length w.body ≤ 252
-  unfolding validWaiting
-  valid-short = leb-true (length w.body) 252 (search (and_left, and_right))
+  valid_short : length w.body ≤ 252
+  unfolding valid_waiting
+  valid_short = leb-true (length w.body) 252 (search (and_left, and_right))
 
-  valid-place : isPlace (tables_of t) w.sender ≡ true
-  unfolding validWaiting
-  valid-place = search (and_left, and_right)
+  valid_place : is_place (tables_of t) w.sender ≡ true
+  unfolding valid_waiting
+  valid_place = search (and_left, and_right)
 
   abbrev b : List ℕ
-  b = recordBytes w
+  b = record_bytes w
 
-  is_at : readRecord (received 0 b 0) ≡ recordAt 0 0 w
-  is_at = record-again w valid-sender valid-body 0 0
+  is_at : read_record (received 0 b 0) ≡ record_at 0 0 w
+  is_at = record_again w valid_sender_lem valid_body 0 0
 
-  passes-form : verdictBytes (form b) ≡ Pass
-  passes-form = ap verdictBytes (form-read (received 0 b 0) ∙ ap headerChecks is_at) ∙ passes-again w valid-sender valid-body 0 0 valid-short
+  passes_form : verdictBytes (form b) ≡ Pass
+  passes_form = ap verdictBytes (form_read (received 0 b 0) ∙ ap header_checks is_at) ∙ passes_again w valid_sender_lem valid_body 0 0 valid_short
 
-  seat-written : seatOf b ≡ seatBytes w.sender
-  unfolding seatOf
-  seat-written = ap (λ (x : Record). be16 x.credential) is_at
+  seat_written : seat_of b ≡ seat_bytes w.sender
+  unfolding seat_of
+  seat_written = ap (λ (x : Record). be16 x.credential) is_at
 
-  passes-written : verdictBytes (senderChecks (rows Creds t) b) ≡ Pass
+  passes_written : verdictBytes (sender_checks (rows Creds t) b) ≡ Pass
   unfolding verdictBytes
-  passes-written =
-      let by = passed (form b) passes-form in
-      let held = held-is t b (omega (arith, record-long w valid-sender valid-body)) (by 5) in
-      let there : noCredentialBytes (rows Creds t) (headerOf b) ≡ false =
-      not-true _ (sym held ∙ ap (isSeat (seats t)) seat-written ∙ place_read t k w.sender ∙ valid-place) in
+  passes_written =
+      let by = passed (form b) passes_form in
+      let held = held_is t b (omega (arith, record_long w valid_sender_lem valid_body)) (by 5) in
+      let there : noCredentialBytes (rows Creds t) (header_of b) ≡ false =
+      not-true _ (sym held ∙ ap (is_seat (seats t)) seat_written ∙ place_read t k w.sender ∙ valid_place) in
       rw (by 2, by 3, by 4, by 5, by 6, there)
 
-  is-slot : slotBytes w ≡ slot_of b
-  unfolding slotBytes slot_of padded
-  is-slot = rw seat-written
+  is_slot : slot_bytes w ≡ slot_of b
+  unfolding slot_bytes slot_of padded
+  is_slot = rw seat_written
 
-  slot-good : isBytes (slotBytes w) ≡ true
-  unfolding slotBytes
-  slot-good =
-      let long = record-long w valid-sender valid-body in
-      bytes-join (be16 (senderNumber w.sender)) _ (two-small (senderNumber w.sender) (sender-small w.sender valid-sender))
-      (bytes-join (be16 (length b)) _ (two-small (length b) (omega (arith, valid-short)))
-      (bytes-join b (replicate (256 - length b) 0) (record-bytes w valid-sender valid-body) (zero-bytes (256 - length b))))
+  slot_good : is_bytes (slot_bytes w) ≡ true
+  unfolding slot_bytes
+  slot_good =
+      let long = record_long w valid_sender_lem valid_body in
+      bytes_join (be16 (sender_number w.sender)) _ (two_small (sender_number w.sender) (sender_small w.sender valid_sender_lem))
+      (bytes_join (be16 (length b)) _ (two_small (length b) (omega (arith, valid_short)))
+      (bytes_join b (replicate (256 - length b) 0) (record_bytes_lem w valid_sender_lem valid_body) (zero_bytes (256 - length b))))
 
-  pub slot-written : Slot t (slotBytes w)
-  slot-written = (ap (slotSound (rows Creds t)) is-slot ∙ slot-made t b passes-written, slot-good)
+  pub slot_written : Slot t (slot_bytes w)
+  slot_written = (ap (slot_sound (rows Creds t)) is_slot ∙ slot_made t b passes_written, slot_good)
 
-  pub slot-again : waitingAs (slotBytes w) ≡ w
-  unfolding waitingAs
-  slot-again =
-      ap (λ (x : Row). waitingFrom (readRecord (received 0 (recordOf x) 0))) is-slot
-      ∙ ap (λ (x : List ℕ). waitingFrom (readRecord (received 0 x 0))) (slot-record b (short-record (rows Creds t) b passes-written))
-      ∙ ap waitingFrom is_at ∙ waiting-again w valid-sender valid-body 0 0
+  pub slot_again : waiting_as (slot_bytes w) ≡ w
+  unfolding waiting_as
+  slot_again =
+      ap (λ (x : Row). waiting_from (read_record (received 0 (record_of x) 0))) is_slot
+      ∙ ap (λ (x : List ℕ). waiting_from (read_record (received 0 x 0))) (slot-record b (short_record (rows Creds t) b passes_written))
+      ∙ ap waiting_from is_at ∙ waiting_again w valid_sender_lem valid_body 0 0

@@ -8,10 +8,10 @@ use Rattle.rules_typed.specs.Types.{Bytes, Clock, Answer, Resource, Verb, Record
 use Rattle.rules_typed.specs.Types.{Outcome}
 use Rattle.rules_typed.specs.Types.{Action, Serve, Read, SetRowOwner, SetOwner, Move, StoreCredential, StoreAccess, DeleteCredentials, DeleteSubject}
 use Rattle.rules_typed.specs.Types.{DeleteAccesses, AssertRole}
-use Rattle.rules_typed.specs.Permission.{connectionOf}
-use Rattle.rules_typed.specs.Tables.{isBytes, is_number, sound}
-use Rattle.rules_typed.specs.Bodies.{senderOf, requestOf}
-use Rattle.rules_typed.specs.Checks.{noCredential, headerChecks, verdict, answer_of}
+use Rattle.rules_typed.specs.Permission.{connection_of}
+use Rattle.rules_typed.specs.Tables.{is_bytes, is_number, sound}
+use Rattle.rules_typed.specs.Bodies.{sender_of, request_of}
+use Rattle.rules_typed.specs.Checks.{no_credential, header_checks, verdict, answer_of}
 use Rattle.rules_typed.specs.Outcome.{numberAlone, outcome}
 
 -- ---- words
@@ -47,128 +47,128 @@ pub record Transition : Type 0 where
 -- ---- places
 
 -- the number of its credential row; unauthenticated senders have 0
-abbrev pub senderNumber : Sender → ℕ
-senderNumber Unauthenticated = 0
-senderNumber (Partner n) = n
+abbrev pub sender_number : Sender → ℕ
+sender_number Unauthenticated = 0
+sender_number (Partner n) = n
 
-abbrev pub sameSender : Sender → Sender → Bool
-sameSender s other = eqb (senderNumber s) (senderNumber other)
+abbrev pub same_sender : Sender → Sender → Bool
+same_sender s other = eqb (sender_number s) (sender_number other)
 
 -- that of unauthenticated senders, then one for each credential row
 abbrev pub places : Tables → List Sender
 places t = Unauthenticated ∷ map (λ c. Partner c.number) t.credentials
 
 -- the sender has a place
-abbrev pub isPlace : Tables → Sender → Bool
-isPlace t s = any (sameSender s) (places t)
+abbrev pub is_place : Tables → Sender → Bool
+is_place t s = any (same_sender s) (places t)
 
 -- the record waits in this place
-abbrev pub waitsIn : Sender → Waiting → Bool
-waitsIn s w = sameSender w.sender s
+abbrev pub waits_in : Sender → Waiting → Bool
+waits_in s w = same_sender w.sender s
 
 -- ---- a sound queue: one record for a place, each one that passes 2 to 7 for its place
 
 -- a number of 16 bits, not 0
-abbrev pub validSender : Sender → Bool
-validSender Unauthenticated = true
-validSender (Partner n) = is_number n
+abbrev pub valid_sender : Sender → Bool
+valid_sender Unauthenticated = true
+valid_sender (Partner n) = is_number n
 
 -- at most 256 bytes with the header, and the sender has a place in these tables
-unfoldable pub validWaiting : Tables → Waiting → Bool
-validWaiting t w = validSender w.sender && leb (length w.body) 252 && isBytes w.body && isPlace t w.sender
+unfoldable pub valid_waiting : Tables → Waiting → Bool
+valid_waiting t w = valid_sender w.sender && leb (length w.body) 252 && is_bytes w.body && is_place t w.sender
 
 -- both wait in one place
-abbrev pub sameWaiting : Waiting → Waiting → Bool
-sameWaiting w other = sameSender other.sender w.sender
+abbrev pub same_waiting : Waiting → Waiting → Bool
+same_waiting w other = same_sender other.sender w.sender
 
-abbrev pub validRound : Round → Bool
-validRound Anew = true
-validRound (After s) = validSender s
+abbrev pub valid_round : Round → Bool
+valid_round Anew = true
+valid_round (After s) = valid_sender s
 
-unfoldable pub soundQueue : Tables → Queue → Bool
-soundQueue t q = all (validWaiting t) q.waiting && distinct sameWaiting q.waiting && validRound q.round
+unfoldable pub sound_queue : Tables → Queue → Bool
+sound_queue t q = all (valid_waiting t) q.waiting && distinct same_waiting q.waiting && valid_round q.round
 
-abbrev pub emptyQueue : Queue
-emptyQueue = record { waiting = []; round = Anew }
+abbrev pub empty_queue : Queue
+empty_queue = record { waiting = []; round = Anew }
 
 -- the clear button takes a terminal of any content, and gives the fresh tables, which hold no waiting record
 abbrev pub cleared : Tables → Maybe Terminal → Terminal
-cleared fresh terminal = record { tables = fresh; queue = emptyQueue }
+cleared fresh terminal = record { tables = fresh; queue = empty_queue }
 
 -- ---- a hand-in: 1 to 7, then 26, the sender's place is occupied
 
-abbrev pub handInChecks : Maybe Terminal → Record → List (Answer × Bool)
-handInChecks terminal r =
+abbrev pub hand_in_checks : Maybe Terminal → Record → List (Answer × Bool)
+hand_in_checks terminal r =
     (1, is_none terminal)
-    ∷ headerChecks r
-    ++ list_of terminal (λ x. (7, noCredential x.tables (senderOf r)) ∷ (26, any (waitsIn (senderOf r)) x.queue.waiting) ∷ [])
+    ∷ header_checks r
+    ++ list_of terminal (λ x. (7, no_credential x.tables (sender_of r)) ∷ (26, any (waits_in (sender_of r)) x.queue.waiting) ∷ [])
 
 -- without its clock and its buffer, which the take brings
-abbrev pub waitingOf : Request → Waiting
-waitingOf q = record { sender = q.sender; verb = q.verb; resource = q.resource; body = q.body }
+abbrev pub waiting_of : Request → Waiting
+waiting_of q = record { sender = q.sender; verb = q.verb; resource = q.resource; body = q.body }
 
 -- the record waits after the others
 abbrev pub keeping : Request → Terminal → Terminal
-keeping q x = record { tables = x.tables; queue = record { waiting = x.queue.waiting ++ waitingOf q ∷ []; round = x.queue.round } }
+keeping q x = record { tables = x.tables; queue = record { waiting = x.queue.waiting ++ waiting_of q ∷ []; round = x.queue.round } }
 
 -- the answer's number, with permission 0
 abbrev pub told : Answer → Maybe Terminal → Transition
 told n terminal = record { given = none; response = numberAlone n; terminal = terminal }
 
 -- without a terminal, or without a request, one of 1 to 6 is the answer
-abbrev pub handInOf : Maybe Terminal → Maybe Request → Verdict → Transition
-handInOf none q v = told (answer_of v) none
-handInOf (just x) none v = told (answer_of v) (just x)
-handInOf (just x) (just q) (Refused n) = told n (just x)
-handInOf (just x) (just q) Permitted = told 0 (just (keeping q x))
+abbrev pub hand_in_of : Maybe Terminal → Maybe Request → Verdict → Transition
+hand_in_of none q v = told (answer_of v) none
+hand_in_of (just x) none v = told (answer_of v) (just x)
+hand_in_of (just x) (just q) (Refused n) = told n (just x)
+hand_in_of (just x) (just q) Permitted = told 0 (just (keeping q x))
 
-unfoldable pub handedIn : Maybe Terminal → Record → Transition
-handedIn terminal r = handInOf terminal (requestOf r) (verdict (handInChecks terminal r))
+unfoldable pub handed_in : Maybe Terminal → Record → Transition
+handed_in terminal r = hand_in_of terminal (request_of r) (verdict (hand_in_checks terminal r))
 
 -- ---- what a judged record leaves of the queue
 
 -- entering RESET gives the fresh tables, which hold no waiting record
-abbrev pub isReset : Action → Bool
-isReset Serve = false
-isReset Read = false
-isReset (SetRowOwner s owner) = false
-isReset (SetOwner owner) = false
-isReset (Move Reset) = true
-isReset (Move (To s)) = false
-isReset (StoreCredential c) = false
-isReset (StoreAccess a) = false
-isReset (DeleteCredentials which) = false
-isReset (DeleteSubject u) = false
-isReset (DeleteAccesses which) = false
-isReset (AssertRole r) = false
+abbrev pub is_reset : Action → Bool
+is_reset Serve = false
+is_reset Read = false
+is_reset (SetRowOwner s owner) = false
+is_reset (SetOwner owner) = false
+is_reset (Move Reset) = true
+is_reset (Move (To s)) = false
+is_reset (StoreCredential c) = false
+is_reset (StoreAccess a) = false
+is_reset (DeleteCredentials which) = false
+is_reset (DeleteSubject u) = false
+is_reset (DeleteAccesses which) = false
+is_reset (AssertRole r) = false
 
 -- the record was permitted, and cleared the tables
 abbrev pub clears : Record → Outcome → Bool
-clears r o = eqb o.response.answer 0 && holds (requestOf r) (λ q. holds q.action isReset)
+clears r o = eqb o.response.answer 0 && holds (request_of r) (λ q. holds q.action is_reset)
 
 -- the round begins anew if the row of the place taken last is not held
-abbrev pub roundIn : Tables → Round → Round
-roundIn t Anew = Anew
-roundIn t (After s) = cond (isPlace t s) (After s) Anew
+abbrev pub round_in : Tables → Round → Round
+round_in t Anew = Anew
+round_in t (After s) = cond (is_place t s) (After s) Anew
 
 -- no credential row was added, and none removed
-abbrev pub samePlaces : List Sender → List Sender → Bool
-samePlaces [] [] = true
-samePlaces [] (o ∷ os) = false
-samePlaces (s ∷ ss) [] = false
-samePlaces (s ∷ ss) (o ∷ os) = sameSender s o && samePlaces ss os
+abbrev pub same_places : List Sender → List Sender → Bool
+same_places [] [] = true
+same_places [] (o ∷ os) = false
+same_places (s ∷ ss) [] = false
+same_places (s ∷ ss) (o ∷ os) = same_sender s o && same_places ss os
 
 -- from the tables t to the tables t'. The queue stays while no credential row is added or removed; replacing a row keeps its record.
 -- Deleting a row drops its record, and the round begins anew once that row is deleted, or where the tables did not hold it
 unfoldable pub settled : Tables → Tables → Queue → Queue
 settled t t' q =
-    cond (samePlaces (places t) (places t')) q
-    (record { waiting = without (λ w. not (isPlace t' w.sender)) q.waiting; round = roundIn t' (roundIn t q.round) })
+    cond (same_places (places t) (places t')) q
+    (record { waiting = without (λ w. not (is_place t' w.sender)) q.waiting; round = round_in t' (round_in t q.round) })
 
 -- the terminal with the tables that a record leaves, and whether it cleared them
 abbrev pub leaving : Terminal → Bool → Maybe Tables → Maybe Terminal
 leaving x cleared none = none
-leaving x cleared (just t) = just (record { tables = t; queue = cond cleared emptyQueue (settled x.tables t x.queue) })
+leaving x cleared (just t) = just (record { tables = t; queue = cond cleared empty_queue (settled x.tables t x.queue) })
 
 -- ---- a record that is judged at once; 1 where there is no terminal
 
@@ -194,12 +194,12 @@ module _ {A : Type 0} (passes : A → Bool) where
 -- the places in the order of their turns; where the place taken last is gone, from the first on
 abbrev pub in_turn : Round → List Sender → List Sender
 in_turn Anew ss = ss
-in_turn (After s) ss = behind (sameSender s) ss ++ up_to (sameSender s) ss
+in_turn (After s) ss = behind (same_sender s) ss ++ up_to (same_sender s) ss
 
 -- the record of the first of these places in which one waits
 unfoldable pub first_of : List Waiting → List Sender → Maybe Waiting
 first_of ws [] = none
-first_of ws (s ∷ ss) = cond (any (waitsIn s) ws) (find (waitsIn s) ws) (first_of ws ss)
+first_of ws (s ∷ ss) = cond (any (waits_in s) ws) (find (waits_in s) ws) (first_of ws ss)
 
 -- the record whose turn it is; none if nothing waits
 abbrev pub due : Terminal → Maybe Waiting
@@ -210,19 +210,19 @@ due x = first_of x.queue.waiting (in_turn x.queue.round (places x.tables))
 -- the record's place is emptied, and the round goes on after it
 abbrev pub emptying : Waiting → Terminal → Terminal
 emptying w x =
-    record { tables = x.tables; queue = record { waiting = without (waitsIn w.sender) x.queue.waiting; round = After w.sender } }
+    record { tables = x.tables; queue = record { waiting = without (waits_in w.sender) x.queue.waiting; round = After w.sender } }
 
 -- the record at the take's clock, with the take's buffer
-abbrev pub recordAt : Clock → ℕ → Waiting → Record
-recordAt clock capacity w = record {
+abbrev pub record_at : Clock → ℕ → Waiting → Record
+record_at clock capacity w = record {
   clock = clock;
   capacity = capacity;
   size = 4 + length w.body;
   verb = just w.verb;
-  connection = connectionOf w.sender;
+  connection = connection_of w.sender;
   resource = just w.resource;
   zeros = 0;
-  credential = senderNumber w.sender;
+  credential = sender_number w.sender;
   body = w.body;
 }
 
@@ -233,7 +233,7 @@ giving w a = record { given = just w; response = a.response; terminal = a.termin
 -- whatever the record's answer, its place is empty
 abbrev pub take_of : Tables → Terminal → Clock → ℕ → Maybe Waiting → Transition
 take_of fresh x clock capacity none = told 27 (just x)
-take_of fresh x clock capacity (just w) = giving w (judged fresh (just (emptying w x)) (recordAt clock capacity w))
+take_of fresh x clock capacity (just w) = giving w (judged fresh (just (emptying w x)) (record_at clock capacity w))
 
 abbrev pub taken : Tables → Maybe Terminal → Clock → ℕ → Transition
 taken fresh none clock capacity = told 1 none
@@ -248,7 +248,7 @@ pub data Input : Type 0 where
   Judge : Record → Input
 
 abbrev pub step : Tables → Maybe Terminal → Input → Transition
-step fresh terminal (HandIn r) = handedIn terminal r
+step fresh terminal (HandIn r) = handed_in terminal r
 step fresh terminal (Take clock capacity) = taken fresh terminal clock capacity
 step fresh terminal (Judge r) = judged fresh terminal r
 

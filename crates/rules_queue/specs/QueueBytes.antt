@@ -9,57 +9,57 @@ use Rattle.rules.specs.Record.{received}
 use Rattle.rules_typed.specs.Lists.{Maybe, none, just, when}
 use Rattle.rules_typed.specs.Types.{Bytes, Observe, Security, Roles, Record}
 use Rattle.rules_typed.specs.Directory.{number_of}
-use Rattle.rules_typed.specs.Permission.{connectionOf}
-use Rattle.rules_typed.specs.Tables.{isBytes, sound}
+use Rattle.rules_typed.specs.Permission.{connection_of}
+use Rattle.rules_typed.specs.Tables.{is_bytes, sound}
 use Rattle.rules_typed.specs.Struct.{IsStruct}
-use Rattle.rules_typed.specs.Bodies.{senderOf}
-use Rattle.rules_typed.specs.Writing.{verbNumber, connectionNumber, writtenTables, written}
-use Rattle.rules_typed.specs.Reading.{tables_of, sameTables, readRecord}
-use Rattle.rules_terminal.specs.Slots.{recordOf, roundOf, waiting, anew, afterSeat, Round as ByteRound}
+use Rattle.rules_typed.specs.Bodies.{sender_of}
+use Rattle.rules_typed.specs.Writing.{verb_number, connection_number, written_tables, written}
+use Rattle.rules_typed.specs.Reading.{tables_of, same_tables, read_record}
+use Rattle.rules_terminal.specs.Slots.{record_of, round_of, waiting, anew, after_seat, Round as ByteRound}
 use Rattle.rules_terminal.specs.Terminal.{Terminal as ByteTerminal, Transition as ByteTransition}
-use Rattle.rules_terminal.specs.Inputs.{Input as ByteInput, handIn, takeAt, direct}
-use Rattle.rules_queue.specs.Queue.{Waiting, Round, Anew, After, Queue, Terminal, Transition, senderNumber, soundQueue, Input, HandIn, Take}
+use Rattle.rules_terminal.specs.Inputs.{Input as ByteInput, hand_in, take_at, direct}
+use Rattle.rules_queue.specs.Queue.{Waiting, Round, Anew, After, Queue, Terminal, Transition, sender_number, sound_queue, Input, HandIn, Take}
 use Rattle.rules_queue.specs.Queue.{Judge}
 
 -- ---- written
 
 -- verb (3), connection (1), resource (6), zeros (6), credential number (16), body
-unfoldable pub recordBytes : Waiting → Bytes
-recordBytes w =
-    be16 (verbNumber w.verb * 8192 + connectionNumber (connectionOf w.sender) * 4096 + number_of w.resource * 64)
-    ++ (be16 (senderNumber w.sender) ++ w.body)
+unfoldable pub record_bytes : Waiting → Bytes
+record_bytes w =
+    be16 (verb_number w.verb * 8192 + connection_number (connection_of w.sender) * 4096 + number_of w.resource * 64)
+    ++ (be16 (sender_number w.sender) ++ w.body)
 
 -- 260 bytes: the place's credential number (16), the record's length (16), the record, zeros
-unfoldable pub slotBytes : Waiting → Bytes
-slotBytes w =
-    let r = recordBytes w in
-    be16 (senderNumber w.sender) ++ (be16 (length r) ++ (r ++ replicate (256 - length r) 0))
+unfoldable pub slot_bytes : Waiting → Bytes
+slot_bytes w =
+    let r = record_bytes w in
+    be16 (sender_number w.sender) ++ (be16 (length r) ++ (r ++ replicate (256 - length r) 0))
 
 -- 3 bytes: anew, or the place that was taken last
-abbrev pub roundBytes : Round → Bytes
-roundBytes Anew = 0 ∷ 0 ∷ 0 ∷ []
-roundBytes (After s) = 1 ∷ be16 (senderNumber s)
+abbrev pub round_bytes : Round → Bytes
+round_bytes Anew = 0 ∷ 0 ∷ 0 ∷ []
+round_bytes (After s) = 1 ∷ be16 (sender_number s)
 
 -- how many wait, the round, and 25 slots
-unfoldable pub queueBytes : Queue → Bytes
-queueBytes q = length q.waiting ∷ (roundBytes q.round ++ packed 6500 (map slotBytes q.waiting))
+unfoldable pub queue_bytes : Queue → Bytes
+queue_bytes q = length q.waiting ∷ (round_bytes q.round ++ packed 6500 (map slot_bytes q.waiting))
 
-abbrev pub writtenTerminal : Terminal → ByteTerminal
-writtenTerminal x = record { tables = writtenTables x.tables; queue = queueBytes x.queue }
+abbrev pub written_terminal : Terminal → ByteTerminal
+written_terminal x = record { tables = written_tables x.tables; queue = queue_bytes x.queue }
 
 -- bytes that are no terminal stay as they were
-abbrev pub terminalOr : ByteTerminal → Maybe Terminal → ByteTerminal
-terminalOr bytes none = bytes
-terminalOr bytes (just x) = writtenTerminal x
+abbrev pub terminal_or : ByteTerminal → Maybe Terminal → ByteTerminal
+terminal_or bytes none = bytes
+terminal_or bytes (just x) = written_terminal x
 
 -- the record that a take gives out; none is no bytes
-abbrev pub givenBytes : Maybe Waiting → Bytes
-givenBytes none = []
-givenBytes (just w) = recordBytes w
+abbrev pub given_bytes : Maybe Waiting → Bytes
+given_bytes none = []
+given_bytes (just w) = record_bytes w
 
-abbrev pub writtenTransition : ByteTerminal → Transition → ByteTransition
-writtenTransition bytes a =
-    record { bytes = givenBytes a.given; response = written a.response; terminal = terminalOr bytes a.terminal }
+abbrev pub written_transition : ByteTerminal → Transition → ByteTransition
+written_transition bytes a =
+    record { bytes = given_bytes a.given; response = written a.response; terminal = terminal_or bytes a.terminal }
 
 -- ---- read
 
@@ -69,49 +69,49 @@ or_else none x = x
 or_else (just y) x = y
 
 -- of a record without a verb or a known resource some other one, whose bytes differ
-abbrev pub waitingFrom : Record → Waiting
-waitingFrom r = record { sender = senderOf r; verb = or_else r.verb Observe; resource = or_else r.resource (Security Roles); body = r.body }
+abbrev pub waiting_from : Record → Waiting
+waiting_from r = record { sender = sender_of r; verb = or_else r.verb Observe; resource = or_else r.resource (Security Roles); body = r.body }
 
 -- the record that a slot keeps
-unfoldable pub waitingAs : Row → Waiting
-waitingAs slot = waitingFrom (readRecord (received 0 (recordOf slot) 0))
+unfoldable pub waiting_as : Row → Waiting
+waiting_as slot = waiting_from (read_record (received 0 (record_of slot) 0))
 
 -- 0 is the unauthenticated senders'
-abbrev pub senderAt : ℕ → Sender
-senderAt n = cond (eqb n 0) Unauthenticated (Partner n)
+abbrev pub sender_at : ℕ → Sender
+sender_at n = cond (eqb n 0) Unauthenticated (Partner n)
 
-abbrev pub roundAs : ByteRound → Round
-roundAs anew = Anew
-roundAs (afterSeat seat) = After (senderAt (bits seat 0 16))
+abbrev pub round_as : ByteRound → Round
+round_as anew = Anew
+round_as (after_seat seat) = After (sender_at (bits seat 0 16))
 
-abbrev pub queueAs : Bytes → Queue
-queueAs b = record { waiting = map waitingAs (waiting b); round = roundAs (roundOf b) }
+abbrev pub queue_as : Bytes → Queue
+queue_as b = record { waiting = map waiting_as (waiting b); round = round_as (round_of b) }
 
-abbrev pub terminalAs : ByteTerminal → Terminal
-terminalAs x = record { tables = tables_of x.tables; queue = queueAs x.queue }
+abbrev pub terminal_as : ByteTerminal → Terminal
+terminal_as x = record { tables = tables_of x.tables; queue = queue_as x.queue }
 
-abbrev pub sameTerminal : ByteTerminal → ByteTerminal → Bool
-sameTerminal x y = sameTables x.tables y.tables && same x.queue y.queue
+abbrev pub same_terminal : ByteTerminal → ByteTerminal → Bool
+same_terminal x y = same_tables x.tables y.tables && same x.queue y.queue
 
 -- none: the bytes are no terminal (check 1)
-unfoldable pub readTerminal : ByteTerminal → Maybe Terminal
-readTerminal x =
-    let y = terminalAs x in
-    when (sound y.tables && soundQueue y.tables y.queue && sameTerminal (writtenTerminal y) x) y
+unfoldable pub read_terminal : ByteTerminal → Maybe Terminal
+read_terminal x =
+    let y = terminal_as x in
+    when (sound y.tables && sound_queue y.tables y.queue && same_terminal (written_terminal y) x) y
 
 -- a record that is handed in has no clock and no buffer yet
 abbrev pub read_input : ByteInput → Input
-read_input (handIn r) = HandIn (readRecord (received 0 r 0))
-read_input (takeAt clock capacity) = Take clock capacity
-read_input (direct q) = Judge (readRecord q)
+read_input (hand_in r) = HandIn (read_record (received 0 r 0))
+read_input (take_at clock capacity) = Take clock capacity
+read_input (direct q) = Judge (read_record q)
 
 -- ---- for theorems
 
 -- the records of inputs are bytes
 abbrev pub IsInput : ByteInput → Type 0
-IsInput (handIn r) = isBytes r ≡ true
-IsInput (takeAt clock capacity) = Unit {0}
-IsInput (direct q) = isBytes q.bytes ≡ true
+IsInput (hand_in r) = is_bytes r ≡ true
+IsInput (take_at clock capacity) = Unit {0}
+IsInput (direct q) = is_bytes q.bytes ≡ true
 
 abbrev pub InputBytes : List ByteInput → Type 0
 InputBytes [] = Unit {0}
@@ -119,7 +119,7 @@ InputBytes (i ∷ is) = IsInput i × InputBytes is
 
 -- what the terminal x of bytes gives is the typed transition, written; what it leaves is bytes, and is read as the typed terminal
 pub record Follows (x : ByteTerminal) (a : ByteTransition) (b : Transition) : Type 0 where
-  pub is-written : a ≡ writtenTransition x b
-  pub is_read : readTerminal a.terminal ≡ b.terminal
+  pub is_written : a ≡ written_transition x b
+  pub is_read : read_terminal a.terminal ≡ b.terminal
   pub struct : IsStruct a.terminal.tables
-  pub bytes : isBytes a.terminal.queue ≡ true
+  pub bytes : is_bytes a.terminal.queue ≡ true

@@ -2,31 +2,31 @@
 -- They show that the theorems of calls are not empty.
 use Rattle.std.specs.Prelude.{length, replicate, take, List, [], ◌∷◌}
 use Rattle.rules.specs.Defaults.{Defaults}
-use Rattle.rules.specs.Contracts.Results.{payloadPart}
+use Rattle.rules.specs.Promises.Results.{payload_part}
 use Rattle.rules.specs.Reading.{filled}
 use Rattle.rules_terminal.specs.CallRun.{Call}
-use Rattle.rules_terminal.specs.Inputs.{Input, direct, handIn, next, takeAt, transition}
+use Rattle.rules_terminal.specs.Inputs.{Input, direct, hand_in, next, take_at, transition}
 use Rattle.rules_terminal.specs.Slots.{padded}
-use Rattle.rules_terminal.specs.Terminal.{Terminal, Transition, transitionResult}
+use Rattle.rules_terminal.specs.Terminal.{Terminal, Transition, transition_result}
 use Rattle.rules.specs.Types.{Bytes, Size}
 
 -- a call that gives this answer to the record r, with a buffer of this length
-abbrev pub callFor : Transition → Size → Bytes → Call
-callFor a capacity r = record {
-  judgement = transitionResult a;
+abbrev pub call_for : Transition → Size → Bytes → Call
+call_for a capacity r = record {
+  judgement = transition_result a;
   queue = a.terminal.queue;
   lent = replicate capacity 0;
   buffer = filled (replicate capacity 0) a.response.contents;
-  payload = payloadPart (length a.response.payload) r;
+  payload = payload_part (length a.response.payload) r;
   size = length a.bytes;
   bytes = padded a.bytes;
 }
 
 abbrev pub call_at : Defaults → Terminal → Input → Call
-call_at d x (handIn r) = callFor (transition d x (handIn r)) 0 []
-call_at d x (takeAt clock capacity) =
-    let a = transition d x (takeAt clock capacity) in callFor a capacity (take (length a.bytes) (padded a.bytes))
-call_at d x (direct q) = callFor (transition d x (direct q)) q.capacity q.bytes
+call_at d x (hand_in r) = call_for (transition d x (hand_in r)) 0 []
+call_at d x (take_at clock capacity) =
+    let a = transition d x (take_at clock capacity) in call_for a capacity (take (length a.bytes) (padded a.bytes))
+call_at d x (direct q) = call_for (transition d x (direct q)) q.capacity q.bytes
 
 abbrev pub calls_at : Defaults → Terminal → List Input → List Call
 calls_at d x [] = []

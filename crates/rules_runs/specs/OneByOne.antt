@@ -8,16 +8,16 @@ use Rattle.rules.specs.Record.{Request}
 use Rattle.rules.specs.Tables.{rows}
 use Rattle.rules.specs.Defaults.{Defaults}
 use Rattle.rules.specs.Checks.{verdict}
-use Rattle.rules.specs.Contracts.Groups.{senderChecks}
-use Rattle.rules.specs.Outcome.{tablesAfter}
-use Rattle.rules_terminal.specs.Inputs.{Input, handIn, takeAt}
+use Rattle.rules.specs.Promises.Groups.{sender_checks}
+use Rattle.rules.specs.Outcome.{tables_after}
+use Rattle.rules_terminal.specs.Inputs.{Input, hand_in, take_at}
 
 -- each request has its record handed in, and taken at its clock with a buffer of its length
-abbrev pub oneByOne : List Request → List Input
-oneByOne [] = []
-oneByOne (q ∷ qs) = handIn q.bytes ∷ takeAt q.clock q.capacity ∷ oneByOne qs
+abbrev pub one_by_one_lem : List Request → List Input
+one_by_one_lem [] = []
+one_by_one_lem (q ∷ qs) = hand_in q.bytes ∷ take_at q.clock q.capacity ∷ one_by_one_lem qs
 
 -- each record passes 2 to 7 in the tables that it meets
 abbrev pub AllPass : Defaults → Tables → List Request → Type 0
 AllPass d t [] = Unit {0}
-AllPass d t (q ∷ qs) = (verdict (senderChecks (rows Creds t) q.bytes) ≡ Pass) × AllPass d (tablesAfter d t q) qs
+AllPass d t (q ∷ qs) = (verdict (sender_checks (rows Creds t) q.bytes) ≡ Pass) × AllPass d (tables_after d t q) qs

@@ -5,43 +5,43 @@ use Rattle.rows.proofs.Kept.{same_true, same_refl}
 use Rattle.rows.specs.Rows.{same}
 use Rattle.rules_store.specs.declared.Step.{Step}
 use Rattle.rules_store.specs.declared.Step.TheVariants.{Write, Done}
-use Rattle.rules_store.specs.Store.{markCount, size_for, counter, current, spare, spareAt, markAt, raised, raise, settled, next}
+use Rattle.rules_store.specs.Store.{mark_count, size_for, counter, current, spare, spare_at, mark_at, raised, raise, settled, next}
 use Rattle.rules_store.specs.Run.{writes, written, position, stored, differences, plan, differing, rising}
-use Rattle.rules_store.proofs.Parts.{spare-at-most, length-spare, mark-after}
-use Rattle.rules_store.proofs.Steps.{is-done}
+use Rattle.rules_store.proofs.Parts.{spare_at_most, length_spare, mark_after}
+use Rattle.rules_store.proofs.Steps.{is_done}
 use Rattle.rules_store.proofs.Run.{no_more, Ends, ending}
 
 -- ---- the plan
 
-position-last : (from : ℕ) (at byte : ℕ) (a : ℕ) (old new : List ℕ) → position from (differences a old new ++ (Write at byte ∷ [])) ≡ at + 1
+position_last : (from : ℕ) (at byte : ℕ) (a : ℕ) (old new : List ℕ) → position from (differences a old new ++ (Write at byte ∷ [])) ≡ at + 1
 unfolding position differences
-position-last from at byte a [] new = refl
-position-last from at byte a (x ∷ old) [] = refl
-position-last from at byte a (x ∷ old) (y ∷ new) =
-    bool_cases (eqb x y) (λ q. rw q (position-last from at byte (suc a) old new)) (λ q. rw q (position-last (a + 1) at byte (suc a) old new))
+position_last from at byte a [] new = refl
+position_last from at byte a (x ∷ old) [] = refl
+position_last from at byte a (x ∷ old) (y ∷ new) =
+    bool_cases (eqb x y) (λ q. rw q (position_last from at byte (suc a) old new)) (λ q. rw q (position_last (a + 1) at byte (suc a) old new))
 
-rising-last : (from at byte a : ℕ) (old new : List ℕ) → from ≤ a → a + length new ≤ at → rising from (differences a old new ++ (Write at byte ∷ [])) ≡ true
+rising_last : (from at byte a : ℕ) (old new : List ℕ) → from ≤ a → a + length new ≤ at → rising from (differences a old new ++ (Write at byte ∷ [])) ≡ true
 unfolding rising differences
-rising-last from at byte a [] new h l = rw (le-leb from at (omega arith))
-rising-last from at byte a (x ∷ old) [] h l = rw (le-leb from at (omega arith))
-rising-last from at byte a (x ∷ old) (y ∷ new) h l =
+rising_last from at byte a [] new h l = rw (le-leb from at (omega arith))
+rising_last from at byte a (x ∷ old) [] h l = rw (le-leb from at (omega arith))
+rising_last from at byte a (x ∷ old) (y ∷ new) h l =
     bool_cases (eqb x y)
-    (λ q. rw q (rising-last from at byte (suc a) old new (omega arith) (omega arith)))
-    (λ q. rw (q, le-leb from a h) (rising-last (suc a) at byte (suc a) old new (omega arith) (omega arith)))
+    (λ q. rw q (rising_last from at byte (suc a) old new (omega arith) (omega arith)))
+    (λ q. rw (q, le-leb from a h) (rising_last (suc a) at byte (suc a) old new (omega arith) (omega arith)))
 
-length-differences : (a : ℕ) (old new : List ℕ) → length (differences a old new) ≡ differing old new
+length_differences : (a : ℕ) (old new : List ℕ) → length (differences a old new) ≡ differing old new
 unfolding differences differing
-length-differences a [] new = refl
-length-differences a (x ∷ old) [] = refl
-length-differences a (x ∷ old) (y ∷ new) =
-    bool_cases (eqb x y) (λ q. rw q (length-differences (suc a) old new)) (λ q. rw q (ap suc (length-differences (suc a) old new)))
+length_differences a [] new = refl
+length_differences a (x ∷ old) [] = refl
+length_differences a (x ∷ old) (y ∷ new) =
+    bool_cases (eqb x y) (λ q. rw q (length_differences (suc a) old new)) (λ q. rw q (ap suc (length_differences (suc a) old new)))
 
-pub differing-most : (old new : List ℕ) → differing old new ≤ length new
+pub differing_most : (old new : List ℕ) → differing old new ≤ length new
 unfolding differing
-differing-most [] new = omega arith
-differing-most (x ∷ old) [] = omega arith
-differing-most (x ∷ old) (y ∷ new) =
-    let h = differing-most old new in
+differing_most [] new = omega arith
+differing_most (x ∷ old) [] = omega arith
+differing_most (x ∷ old) (y ∷ new) =
+    let h = differing_most old new in
     cond_cases (λ (d : ℕ). d ≤ suc (length new)) (eqb x y) (λ _. omega arith) (λ _. omega arith)
 
 -- ---- the image is the current one already
@@ -55,19 +55,19 @@ module _ (store new : List ℕ) (f : length store ≡ size_for (length new)) whe
 
   pub nothing : current (length new) store ≡ new → next store new 0 ≡ Done
   unfolding settled
-  nothing e = is-done store new 0 f (rw e (same_refl new))
+  nothing e = is_done store new 0 f (rw e (same_refl new))
 
   -- ---- it is not
 
   abbrev differs : List Step
-  differs = differences (spareAt n store) (spare n store) new ++ (raise n store ∷ [])
+  differs = differences (spare_at n store) (spare n store) new ++ (raise n store ∷ [])
 
   ends_so : (k : ℕ) → n < k → same old new ≡ false → Ends new k store 0 differs
   unfolding settled
   ends_so k h q =
-      let z : spareAt n store + 0 ≡ spareAt n store = omega arith in
+      let z : spare_at n store + 0 ≡ spare_at n store = omega arith in
       rw (← z) (ending new k store 0 [] (spare n store) new
-      (record { size = f; busy = q; reached = omega arith; half = refl; whole = refl }) (length-spare n store f) h)
+      (record { size = f; busy = q; reached = omega arith; half = refl; whole = refl }) (length_spare n store f) h)
 
   -- ---- so
 
@@ -87,20 +87,20 @@ module _ (store new : List ℕ) (f : length store ≡ size_for (length new)) whe
   unfolding plan written position raise
   ends = rw stored_is (bool_cases (same old new)
       (λ q. rw q (nothing (same_true old new q)))
-      (λ q. rw (q, position-last 0 (markAt n store) (raised (get_or store (markAt n store) 0)) (spareAt n store) (spare n store) new)
+      (λ q. rw (q, position_last 0 (mark_at n store) (raised (get_or store (mark_at n store) 0)) (spare_at n store) (spare n store) new)
       (ends_so (suc n) (omega arith) q).finished))
 
-  pub stored-current : current (length new) (stored new store) ≡ new
+  pub stored_current : current (length new) (stored new store) ≡ new
   unfolding plan written
-  stored-current = rw stored_is (bool_cases (same old new)
-      (λ q. rw q (same_true old new q)) (λ q. rw q (ends_so (suc n) (omega arith) q).current-new))
+  stored_current = rw stored_is (bool_cases (same old new)
+      (λ q. rw q (same_true old new q)) (λ q. rw q (ends_so (suc n) (omega arith) q).current_new))
 
   -- each write lies after the one before it
   pub rises : rising 0 (plan store new) ≡ true
   unfolding plan rising raise
   rises = bool_cases (same old new) (λ q. rw q)
-      (λ q. rw q (rising-last 0 (markAt n store) (raised (get_or store (markAt n store) 0)) (spareAt n store) (spare n store) new (omega arith)
-      (omega (arith, spare-at-most n store, mark-after n store))))
+      (λ q. rw q (rising_last 0 (mark_at n store) (raised (get_or store (mark_at n store) 0)) (spare_at n store) (spare n store) new (omega arith)
+      (omega (arith, spare_at_most n store, mark_after n store))))
 
   module _ (d : current (length new) store ≡ new → ⊥) where
     unequal : same old new ≡ false
@@ -109,13 +109,13 @@ module _ (store new : List ℕ) (f : length store ≡ size_for (length new)) whe
     -- a write for each byte in which the spare image differs, and one
     pub number : length (plan store new) ≡ suc (differing (spare (length new) store) new)
     unfolding plan
-    number = rw (unequal, length-append, length-differences (spareAt n store) (spare n store) new) (omega arith)
+    number = rw (unequal, length-append, length_differences (spare_at n store) (spare n store) new) (omega arith)
 
     -- one mark is raised, and the next time the next one
     pub counted : counter (length new) (stored new store) ≡ (counter (length new) store + 1) % 256
     unfolding plan
     counted = rw (stored_is, unequal) (ends_so (suc n) (omega arith) unequal).counted
 
-    pub turns : markAt (length new) (stored new store) ≡ length new + length new + (counter (length new) store + 1) % markCount
-    unfolding markAt
+    pub turns : mark_at (length new) (stored new store) ≡ length new + length new + (counter (length new) store + 1) % mark_count
+    unfolding mark_at
     turns = rw counted (omega arith)

@@ -3,7 +3,7 @@ use Rattle.rows.proofs.Prelude.{◌≡◌, refl, sym, ◌∙◌, Bool, List, [],
 use Rattle.rows.proofs.Prelude.{length, drop, get_or, length-drop, length-append, get_or-drop, bool_cases, eqb, ltb, eq-eqb, ne_eqb, eqb-true, eqb-false}
 use Rattle.rows.proofs.Prelude.{lt-ltb, ltb-true, ltb-false}
 use lib.Seq.{drop-append-le}
-use Rattle.rules_store.specs.Store.{mismatch, mismatchFrom, toCopy}
+use Rattle.rules_store.specs.Store.{mismatch, mismatch_from, to_copy}
 
 -- ---- of any images
 
@@ -16,44 +16,44 @@ differs (x ∷ a) (y ∷ b) l h e =
     (λ q. let k = rw q at h in differs a b (omega arith) (omega arith) (rw q at e))
     (λ q. eqb-false x y q (rw q at e))
 
-same-all : (a b : List ℕ) → length a ≡ length b → length b ≤ mismatch a b → a ≡ b
+same_all : (a b : List ℕ) → length a ≡ length b → length b ≤ mismatch a b → a ≡ b
 unfolding mismatch
-same-all [] [] l h = refl
-same-all [] (y ∷ b) l h = absurd (omega arith)
-same-all (x ∷ a) [] l h = absurd (omega arith)
-same-all (x ∷ a) (y ∷ b) l h =
+same_all [] [] l h = refl
+same_all [] (y ∷ b) l h = absurd (omega arith)
+same_all (x ∷ a) [] l h = absurd (omega arith)
+same_all (x ∷ a) (y ∷ b) l h =
     bool_cases (eqb x y)
-    (λ q. let k = rw q at h in cc (eqb-true x y q, same-all a b (omega arith) (omega arith)))
+    (λ q. let k = rw q at h in cc (eqb-true x y q, same_all a b (omega arith) (omega arith)))
     (λ q. let k = rw q at h in absurd (omega arith))
 
 module _ (a b : List ℕ) (l : length a ≡ length b) where
-  differs-from : (from : ℕ) → mismatchFrom from a b < length b → get_or a (mismatchFrom from a b) 0 ≡ get_or b (mismatchFrom from a b) 0 → ⊥
-  unfolding mismatchFrom
-  differs-from from h e =
+  differs_from : (from : ℕ) → mismatch_from from a b < length b → get_or a (mismatch_from from a b) 0 ≡ get_or b (mismatch_from from a b) 0 → ⊥
+  unfolding mismatch_from
+  differs_from from h e =
       let m = mismatch (drop from a) (drop from b) in
       differs (drop from a) (drop from b) (simp length-drop (omega arith)) (rw length-drop (omega arith))
       (get_or-drop from a m 0 ∙ e ∙ sym (get_or-drop from b m 0))
 
   module _ (from : ℕ) where
     abbrev found : Bool
-    found = ltb (mismatchFrom from a b) (length b)
+    found = ltb (mismatch_from from a b) (length b)
 
     -- no byte is left out
-    pub copy-none : length b ≤ toCopy from a b → a ≡ b
-    unfolding toCopy mismatchFrom
-    copy-none = bool_cases found
-        (λ q. rw q (λ h. absurd (omega (arith, ltb-true (mismatchFrom from a b) (length b) q))))
-        (λ q. rw q (λ h. same-all a b l (omega arith)))
+    pub copy_none : length b ≤ to_copy from a b → a ≡ b
+    unfolding to_copy mismatch_from
+    copy_none = bool_cases found
+        (λ q. rw q (λ h. absurd (omega (arith, ltb-true (mismatch_from from a b) (length b) q))))
+        (λ q. rw q (λ h. same_all a b l (omega arith)))
 
-    pub copy-differs : toCopy from a b < length b → get_or a (toCopy from a b) 0 ≡ get_or b (toCopy from a b) 0 → ⊥
-    unfolding toCopy
-    copy-differs = bool_cases found (λ q. rw q (differs-from from)) (λ q. rw q (differs-from 0))
+    pub copy_differs : to_copy from a b < length b → get_or a (to_copy from a b) 0 ≡ get_or b (to_copy from a b) 0 → ⊥
+    unfolding to_copy
+    copy_differs = bool_cases found (λ q. rw q (differs_from from)) (λ q. rw q (differs_from 0))
 
-pub copy-same : (a : List ℕ) (from : ℕ) → length a ≤ toCopy from a a
-copy-same a from =
-    bool_cases (ltb (toCopy from a a) (length a))
-    (λ q. absurd (copy-differs a a refl from (ltb-true (toCopy from a a) (length a) q) refl))
-    (λ q. ltb-false (toCopy from a a) (length a) q)
+pub copy_same : (a : List ℕ) (from : ℕ) → length a ≤ to_copy from a a
+copy_same a from =
+    bool_cases (ltb (to_copy from a a) (length a))
+    (λ q. absurd (copy_differs a a refl from (ltb-true (to_copy from a a) (length a) q) refl))
+    (λ q. ltb-false (to_copy from a a) (length a) q)
 
 -- ---- of images that begin with the same bytes
 
@@ -63,12 +63,12 @@ common [] a b = omega arith
 common (x ∷ c) a b = rw (eq-eqb x x refl, common c a b) (omega arith)
 
 module _ (c a b : List ℕ) (from : ℕ) (h : from ≤ length c) where
-  from-common : mismatchFrom from (c ++ a) (c ++ b) ≡ length c + mismatch a b
-  unfolding mismatchFrom
-  from-common = rw (drop-append-le from c a h, drop-append-le from c b h, common (drop from c) a b, length-drop) (omega arith)
+  from_common : mismatch_from from (c ++ a) (c ++ b) ≡ length c + mismatch a b
+  unfolding mismatch_from
+  from_common = rw (drop-append-le from c a h, drop-append-le from c b h, common (drop from c) a b, length-drop) (omega arith)
 
-pub copy-here : (c : List ℕ) (x y : ℕ) (a b : List ℕ) (from : ℕ) → from ≤ length c → (x ≡ y → ⊥) → toCopy from (c ++ x ∷ a) (c ++ y ∷ b) ≡ length c
-unfolding toCopy mismatch
-copy-here c x y a b from h d =
-    let e : mismatchFrom from (c ++ x ∷ a) (c ++ y ∷ b) ≡ length c = from-common c (x ∷ a) (y ∷ b) from h ∙ rw (ne_eqb x y d) (omega arith) in
+pub copy_here : (c : List ℕ) (x y : ℕ) (a b : List ℕ) (from : ℕ) → from ≤ length c → (x ≡ y → ⊥) → to_copy from (c ++ x ∷ a) (c ++ y ∷ b) ≡ length c
+unfolding to_copy mismatch
+copy_here c x y a b from h d =
+    let e : mismatch_from from (c ++ x ∷ a) (c ++ y ∷ b) ≡ length c = from_common c (x ∷ a) (y ∷ b) from h ∙ rw (ne_eqb x y d) (omega arith) in
     rw (e, lt-ltb (length c) (length (c ++ y ∷ b)) (rw length-append (omega arith)))

@@ -4,10 +4,10 @@ use Rattle.rows.proofs.Prelude.{length, get_or, eqb, ltb, eq-eqb, ne_eqb, eqb-tr
 use Rattle.rows.proofs.Kept.{same_true}
 use Rattle.rules_store.specs.declared.Step.{Step}
 use Rattle.rules_store.specs.declared.Step.TheVariants.{Write, Done, Unfit}
-use Rattle.rules_store.specs.Store.{size_for, current, spare, spareAt, markAt, raised, raise, toCopy, writeAt, write, fits, settled, next}
+use Rattle.rules_store.specs.Store.{size_for, current, spare, spare_at, mark_at, raised, raise, to_copy, write_at, write, fits, settled, next}
 use Rattle.rules_store.specs.Run.{Justified, copies, raises, rests, Changes}
-use Rattle.rules_store.proofs.Parts.{length-spare, spare-at-most, spare-byte, mark-before-end, mark-changes}
-use Rattle.rules_store.proofs.Mismatch.{copy-differs, copy-none}
+use Rattle.rules_store.proofs.Parts.{length_spare, spare_at_most, spare_byte, mark_before_end, mark_changes}
+use Rattle.rules_store.proofs.Mismatch.{copy_differs, copy_none}
 
 -- ---- the length of the store
 
@@ -21,43 +21,43 @@ fit_of store new from u =
     (λ q. eqb-true (length store) (size_for (length new)) q)
     (λ q. absurd (u (unfit store new from (eqb-false (length store) (size_for (length new)) q))))
 
-pub write-fit : (store new : List ℕ) (from at byte : ℕ) → next store new from ≡ Write at byte → length store ≡ size_for (length new)
-write-fit store new from at byte e = fit_of store new from (λ u. let z : ◌≡◌ {A = ℕ} 0 1 = cc in absurd (omega arith))
+pub write_fit : (store new : List ℕ) (from at byte : ℕ) → next store new from ≡ Write at byte → length store ≡ size_for (length new)
+write_fit store new from at byte e = fit_of store new from (λ u. let z : ◌≡◌ {A = ℕ} 0 1 = cc in absurd (omega arith))
 
-pub done-fit : (store new : List ℕ) (from : ℕ) → next store new from ≡ Done → length store ≡ size_for (length new)
-done-fit store new from e = fit_of store new from (λ u. let z : ◌≡◌ {A = ℕ} 0 1 = cc in absurd (omega arith))
+pub done_fit : (store new : List ℕ) (from : ℕ) → next store new from ≡ Done → length store ≡ size_for (length new)
+done_fit store new from e = fit_of store new from (λ u. let z : ◌≡◌ {A = ℕ} 0 1 = cc in absurd (omega arith))
 
 -- ---- the step
 
 module _ (store new : List ℕ) (from : ℕ) (f : length store ≡ size_for (length new)) where
-  next-is : next store new from ≡ cond (settled store new from) Done (write store new from)
+  next_is : next store new from ≡ cond (settled store new from) Done (write store new from)
   unfolding next fits
-  next-is = rw (eq-eqb (length store) (size_for (length new)) f)
+  next_is = rw (eq-eqb (length store) (size_for (length new)) f)
 
-  pub is-done : settled store new from ≡ true → next store new from ≡ Done
-  is-done e = next-is ∙ rw e
+  pub is_done : settled store new from ≡ true → next store new from ≡ Done
+  is_done e = next_is ∙ rw e
 
-  pub is-write : settled store new from ≡ false → next store new from ≡ write store new from
-  is-write e = next-is ∙ rw e
+  pub is_write : settled store new from ≡ false → next store new from ≡ write store new from
+  is_write e = next_is ∙ rw e
 
-  justified-write : Justified store new (write store new from)
-  unfolding write writeAt
-  justified-write =
+  justified_write : Justified store new (write store new from)
+  unfolding write write_at
+  justified_write =
       let n = length new in
-      let l : length (spare n store) ≡ length new = length-spare n store f in
-      let start = from - spareAt n store in
-      let p = toCopy start (spare n store) new in
+      let l : length (spare n store) ≡ length new = length_spare n store f in
+      let start = from - spare_at n store in
+      let p = to_copy start (spare n store) new in
       bool_cases (ltb p n)
-      (λ q. rw q (copies p (ltb-true p n q) (copy-differs (spare n store) new l start (ltb-true p n q))))
-      (λ q. rw q (raises (copy-none (spare n store) new l start (ltb-false p n q))))
+      (λ q. rw q (copies p (ltb-true p n q) (copy_differs (spare n store) new l start (ltb-true p n q))))
+      (λ q. rw q (raises (copy_none (spare n store) new l start (ltb-false p n q))))
 
   pub justified : Justified store new (next store new from)
   unfolding settled
   justified =
-      rw next-is
+      rw next_is
       (bool_cases (settled store new from)
       (λ q. rw q (rests (same_true (current (length new) store) new (and_right (eqb from 0 || ltb (length new + length new) from) _ q))))
-      (λ q. rw q justified-write))
+      (λ q. rw q justified_write))
 
 -- ---- done
 
@@ -66,30 +66,30 @@ unfolding raise
 resting store new (rests e) = e
 
 -- Done is answered for only the current image
-pub done-current : (store new : List ℕ) (from : ℕ) → next store new from ≡ Done → current (length new) store ≡ new
-done-current store new from e = resting store new (rw e at (justified store new from (done-fit store new from e)))
+pub done_current : (store new : List ℕ) (from : ℕ) → next store new from ≡ Done → current (length new) store ≡ new
+done_current store new from e = resting store new (rw e at (justified store new from (done_fit store new from e)))
 
 -- ---- a write changes its byte
 
-justified-changes : (store new : List ℕ) → length store ≡ size_for (length new)
+justified_changes : (store new : List ℕ) → length store ≡ size_for (length new)
     → (at byte : ℕ) (s : Step) → Justified store new s → s ≡ Write at byte → Changes store at byte
 unfolding raise
-justified-changes store new f at byte s (copies p h d) e =
-    let q : spareAt (length new) store + p ≡ at = cc in
+justified_changes store new f at byte s (copies p h d) e =
+    let q : spare_at (length new) store + p ≡ at = cc in
     let b : get_or new p 0 ≡ byte = cc in
     record {
-      inside = omega (arith, spare-at-most (length new) store);
-      other = rw (← q, ← b) (λ k. d (spare-byte (length new) store p h ∙ k));
+      inside = omega (arith, spare_at_most (length new) store);
+      other = rw (← q, ← b) (λ k. d (spare_byte (length new) store p h ∙ k));
     }
-justified-changes store new f at byte s (raises g) e =
-    let q : markAt (length new) store ≡ at = cc in
-    let b : raised (get_or store (markAt (length new) store) 0) ≡ byte = cc in
+justified_changes store new f at byte s (raises g) e =
+    let q : mark_at (length new) store ≡ at = cc in
+    let b : raised (get_or store (mark_at (length new) store) 0) ≡ byte = cc in
     record {
-      inside = omega (arith, mark-before-end (length new) store);
-      other = rw (← q, ← b) (mark-changes (length new) store);
+      inside = omega (arith, mark_before_end (length new) store);
+      other = rw (← q, ← b) (mark_changes (length new) store);
     }
-justified-changes store new f at byte s (rests g) e = let z : ◌≡◌ {A = ℕ} 0 1 = cc in absurd (omega arith)
+justified_changes store new f at byte s (rests g) e = let z : ◌≡◌ {A = ℕ} 0 1 = cc in absurd (omega arith)
 
 pub changes : (store new : List ℕ) (from at byte : ℕ) → next store new from ≡ Write at byte → Changes store at byte
 changes store new from at byte e =
-    let f = write-fit store new from at byte e in justified-changes store new f at byte (next store new from) (justified store new from f) e
+    let f = write_fit store new from at byte e in justified_changes store new f at byte (next store new from) (justified store new from f) e

@@ -1,7 +1,7 @@
 -- Power cuts: what a write that is cut may leave, an attempt to store an image, and the history of a store.
 use Rattle.std.specs.Prelude.{ℕ, ◌+◌, ◌≤◌, ◌<◌, ◌⊎◌, ◌≡◌, List, [], ◌∷◌, length, true}
 use Rattle.rules_store.specs.declared.Step.TheVariants.{Write, Done}
-use Rattle.rules_store.specs.Store.{size_for, imageAt, marks, current, next}
+use Rattle.rules_store.specs.Store.{size_for, image_at, marks, current, next}
 use Rattle.rows.specs.Types.{Bytes}
 use Rattle.rows.specs.Rows.{same, some}
 
@@ -9,8 +9,8 @@ use Rattle.rows.specs.Rows.{same, some}
 -- or the marks. The other two parts stay. A byte with any value is a case of it; so is a page written whole, and a cell that is worn out.
 pub record Torn (n at : ℕ) (store after : List ℕ) : Type 0 where
   pub size : length after ≡ length store
-  pub first : n ≤ at → imageAt n 0 after ≡ imageAt n 0 store
-  pub second : (at < n) ⊎ (n + n ≤ at) → imageAt n n after ≡ imageAt n n store
+  pub first : n ≤ at → image_at n 0 after ≡ image_at n 0 store
+  pub second : (at < n) ⊎ (n + n ≤ at) → image_at n n after ≡ image_at n n store
   pub last : at < n + n → marks n after ≡ marks n store
 
 -- An attempt to store `new`: any number of writes, each of them torn or not, each asked for with any position. It may stop at any moment

@@ -21,15 +21,15 @@ Byte = ℕ
 
 -- ---- layout
 
-abbrev pub markCount : Size
-markCount = 8
+abbrev pub mark_count : Size
+mark_count = 8
 
 -- the length of a store for images of this size
 abbrev pub size_for : Size → Size
-size_for size = size + size + markCount
+size_for size = size + size + mark_count
 
-unfoldable pub imageAt : Size → Address → Store → Image
-imageAt size at store = take size (drop at store)
+unfoldable pub image_at : Size → Address → Store → Image
+image_at size at store = take size (drop at store)
 
 unfoldable pub marks : Size → Store → Bytes
 marks size store = drop (size + size) store
@@ -42,20 +42,20 @@ sum (byte ∷ bytes) = byte + sum bytes
 unfoldable pub counter : Size → Store → ℕ
 counter size store = sum (marks size store) % 256
 
-unfoldable pub evenCounter : Size → Store → Bool
-evenCounter size store = eqb (counter size store % 2) 0
+unfoldable pub even_counter : Size → Store → Bool
+even_counter size store = eqb (counter size store % 2) 0
 
-unfoldable pub currentAt : Size → Store → Address
-currentAt size store = cond (evenCounter size store) 0 size
+unfoldable pub current_at : Size → Store → Address
+current_at size store = cond (even_counter size store) 0 size
 
-unfoldable pub spareAt : Size → Store → Address
-spareAt size store = cond (evenCounter size store) size 0
+unfoldable pub spare_at : Size → Store → Address
+spare_at size store = cond (even_counter size store) size 0
 
 unfoldable pub current : Size → Store → Image
-current size store = imageAt size (currentAt size store) store
+current size store = image_at size (current_at size store) store
 
 unfoldable pub spare : Size → Store → Image
-spare size store = imageAt size (spareAt size store) store
+spare size store = image_at size (spare_at size store) store
 
 -- ---- the byte to copy
 
@@ -66,31 +66,31 @@ mismatch (x ∷ old) [] = 0
 mismatch (x ∷ old) (y ∷ new) = cond (eqb x y) (suc (mismatch old new)) 0
 
 -- the first one from offset `from` on
-unfoldable pub mismatchFrom : Offset → Image → Image → Offset
-mismatchFrom from old new = from + mismatch (drop from old) (drop from new)
+unfoldable pub mismatch_from : Offset → Image → Image → Offset
+mismatch_from from old new = from + mismatch (drop from old) (drop from new)
 
 -- that one, else the first of all: no offset is left out, wherever the search begins
-unfoldable pub toCopy : Offset → Image → Image → Offset
-toCopy from old new = cond (ltb (mismatchFrom from old new) (length new)) (mismatchFrom from old new) (mismatchFrom 0 old new)
+unfoldable pub to_copy : Offset → Image → Image → Offset
+to_copy from old new = cond (ltb (mismatch_from from old new) (length new)) (mismatch_from from old new) (mismatch_from 0 old new)
 
 -- ---- the next step
 
 -- the marks are raised in turn
-unfoldable pub markAt : Size → Store → Address
-markAt size store = size + size + counter size store % markCount
+unfoldable pub mark_at : Size → Store → Address
+mark_at size store = size + size + counter size store % mark_count
 
 unfoldable pub raised : Byte → Byte
 raised byte = (byte + 1) % 256
 
 unfoldable pub raise : Size → Store → Step
-raise size store = Write (markAt size store) (raised (get_or store (markAt size store) 0))
+raise size store = Write (mark_at size store) (raised (get_or store (mark_at size store) 0))
 
 -- a byte of the spare image, or a mark where no byte is left to copy
-unfoldable pub writeAt : Offset → Store → Image → Step
-writeAt offset store new = cond (ltb offset (length new)) (Write (spareAt (length new) store + offset) (get_or new offset 0)) (raise (length new) store)
+unfoldable pub write_at : Offset → Store → Image → Step
+write_at offset store new = cond (ltb offset (length new)) (Write (spare_at (length new) store + offset) (get_or new offset 0)) (raise (length new) store)
 
 unfoldable pub write : Store → Image → Address → Step
-write store new from = writeAt (toCopy (from - spareAt (length new) store) (spare (length new) store) new) store new
+write store new from = write_at (to_copy (from - spare_at (length new) store) (spare (length new) store) new) store new
 
 unfoldable pub fits : Store → Image → Bool
 fits store new = eqb (length store) (size_for (length new))

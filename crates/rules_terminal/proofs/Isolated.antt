@@ -9,29 +9,29 @@ use Rattle.rules.specs.declared.Sender.{Sender}
 use Rattle.rules.specs.Record.{Request, received}
 use Rattle.rules.specs.Defaults.{Defaults}
 use Rattle.rules.specs.Checks.{verdict}
-use Rattle.rules.specs.Outcome.{Response, responseTo, tablesAfter}
+use Rattle.rules.specs.Outcome.{Response, response_to, tables_after}
 use Rattle.rules.specs.Run.{replies, final, Along, kept}
-use Rattle.rules.specs.Isolation.{Premise, isOthers}
+use Rattle.rules.specs.Isolation.{Premise, is_others}
 use Rattle.rules.proofs.Isolated.{Related, silent, congruent}
-use Rattle.rules_terminal.specs.Terminal.{Terminal, soundTerminal, handInChecks, handedIn, takeChecks, due, taken, directChecks, judged}
-use Rattle.rules_terminal.specs.Inputs.{Input, handIn, takeAt, direct, next, Turn, turnIf, turns, judgedAt, allJudged, othersTurn, requestOf, turnResponse}
-use Rattle.rules_terminal.specs.Inputs.{noneDirect}
-use Rattle.rules.proofs.CheckLaws.{check-cases}
+use Rattle.rules_terminal.specs.Terminal.{Terminal, sound_terminal, hand_in_checks, handed_in, take_checks, due, taken, direct_checks, judged}
+use Rattle.rules_terminal.specs.Inputs.{Input, hand_in, take_at, direct, next, Turn, turn_if, turns, judged_at, all_judged, others_turn, request_of, turn_response}
+use Rattle.rules_terminal.specs.Inputs.{none_direct}
+use Rattle.rules.proofs.CheckLaws.{check_cases}
 use Rattle.rules_terminal.specs.Isolation.{AsTheBook, Premises, others}
-use Rattle.rules_terminal.proofs.Refused.{unsound-run}
-use Rattle.rules_terminal.proofs.Lockstep.{along-first, collected-through, mapped-append, lockstep}
+use Rattle.rules_terminal.proofs.Refused.{unsound_run}
+use Rattle.rules_terminal.proofs.Lockstep.{along_first, collected_through, mapped_append, lockstep}
 
 module _ (d : Defaults) (chosen : Sender → Bool) where
   -- ---- one record on the tables s of the terminal and b of the book
 
   -- what the book answers to these turns, and where both sides are then
   abbrev Step : Tables → Tables → List Turn → Type 0
-  Step s b us = (map turnResponse us ≡ replies (responseTo d) (tablesAfter d) b (map requestOf us)) × Related d chosen s (final (tablesAfter d) b (map requestOf us))
+  Step s b us = (map turn_response us ≡ replies (response_to d) (tables_after d) b (map request_of us)) × Related d chosen s (final (tables_after d) b (map request_of us))
 
   turn_step : (x : Terminal) (b : Tables) (q : Request) → Premise chosen b → Related d chosen x.tables b
-      → Step (tablesAfter d x.tables q) b (kept (othersTurn chosen) (turnIf d x q Pass))
+      → Step (tables_after d x.tables q) b (kept (others_turn chosen) (turn_if d x q Pass))
   turn_step x b q p e =
-      cond_cases (λ (us : List Turn). Step (tablesAfter d x.tables q) b us) (isOthers chosen q)
+      cond_cases (λ (us : List Turn). Step (tables_after d x.tables q) b us) (is_others chosen q)
       (λ o. let both = congruent d chosen x.tables b q o p e in (ap (λ (a : Response). a ∷ []) both.0, both.1))
       (λ o. (refl, silent d chosen x.tables b q o p e))
 
@@ -39,34 +39,34 @@ module _ (d : Defaults) (chosen : Sender → Bool) where
 
   -- what the book is fed, and what the others get
   abbrev fed : Terminal → Input → List Request
-  fed x i = map requestOf (kept (othersTurn chosen) (judgedAt d x i))
+  fed x i = map request_of (kept (others_turn chosen) (judged_at d x i))
 
   abbrev told : Terminal → Input → List Response
-  told x i = map turnResponse (kept (othersTurn chosen) (judgedAt d x i))
+  told x i = map turn_response (kept (others_turn chosen) (judged_at d x i))
 
-  one : (x : Terminal) (b : Tables) (i : Input) → Along (tablesAfter d) (Premise chosen) b (fed x i) → Related d chosen x.tables b
-      → (told x i ≡ replies (responseTo d) (tablesAfter d) b (fed x i)) × Related d chosen (next d x i).tables (final (tablesAfter d) b (fed x i))
-  unfolding handedIn taken judged
-  one x b (handIn r) a e = (refl, check-cases (verdict (handInChecks x r)) (λ f. rw (f, next) e) (λ n f. rw (f, next) e))
-  one x b (takeAt clock capacity) a e =
-      check-cases (verdict (takeChecks x))
-      (λ f. rw (f, next) (turn_step x b (received clock (due x) capacity) (along-first (tablesAfter d) (Premise chosen) b (fed x (takeAt clock capacity)) a) e))
+  one : (x : Terminal) (b : Tables) (i : Input) → Along (tables_after d) (Premise chosen) b (fed x i) → Related d chosen x.tables b
+      → (told x i ≡ replies (response_to d) (tables_after d) b (fed x i)) × Related d chosen (next d x i).tables (final (tables_after d) b (fed x i))
+  unfolding handed_in taken judged
+  one x b (hand_in r) a e = (refl, check_cases (verdict (hand_in_checks x r)) (λ f. rw (f, next) e) (λ n f. rw (f, next) e))
+  one x b (take_at clock capacity) a e =
+      check_cases (verdict (take_checks x))
+      (λ f. rw (f, next) (turn_step x b (received clock (due x) capacity) (along_first (tables_after d) (Premise chosen) b (fed x (take_at clock capacity)) a) e))
       (λ n f. rw (f, next) (refl, e))
   one x b (direct q) a e =
-      check-cases (verdict (directChecks x))
-      (λ f. rw (f, next) (turn_step x b q (along-first (tablesAfter d) (Premise chosen) b (fed x (direct q)) a) e))
+      check_cases (verdict (direct_checks x))
+      (λ f. rw (f, next) (turn_step x b q (along_first (tables_after d) (Premise chosen) b (fed x (direct q)) a) e))
       (λ n f. rw (f, next) (refl, e))
 
   -- ---- the whole list
 
-  isolated-from : (x : Terminal) (is : List Input) → Along (tablesAfter d) (Premise chosen) x.tables (map requestOf (others d chosen x is))
+  isolated_from : (x : Terminal) (is : List Input) → Along (tables_after d) (Premise chosen) x.tables (map request_of (others d chosen x is))
       → AsTheBook d chosen x (others d chosen x is) (final (next d) x is).tables
-  isolated-from x is premise =
-      let a = collected-through (next d) (judgedAt d) (λ us. map requestOf (kept (othersTurn chosen) us))
-      refl (mapped-append (othersTurn chosen) requestOf) x is in
-      let b = collected-through (next d) (judgedAt d) (λ us. map turnResponse (kept (othersTurn chosen) us))
-      refl (mapped-append (othersTurn chosen) turnResponse) x is in
-      let both = lockstep (next d) told fed (responseTo d) (tablesAfter d) (Premise chosen) (λ y t. Related d chosen y.tables t)
+  isolated_from x is premise =
+      let a = collected_through (next d) (judged_at d) (λ us. map request_of (kept (others_turn chosen) us))
+      refl (mapped_append (others_turn chosen) request_of) x is in
+      let b = collected_through (next d) (judged_at d) (λ us. map turn_response (kept (others_turn chosen) us))
+      refl (mapped_append (others_turn chosen) turn_response) x is in
+      let both = lockstep (next d) told fed (response_to d) (tables_after d) (Premise chosen) (λ y t. Related d chosen y.tables t)
       one x x.tables is (rw a premise) (record { same = refl; sound = refl }) in
       (rw (← a, ← b) both.0, rw (← a) both.1.same)
 
@@ -74,19 +74,19 @@ module _ (d : Defaults) (chosen : Sender → Bool) where
   pub isolated : (x : Terminal) (is : List Input) → Premises d chosen x (others d chosen x is)
       → AsTheBook d chosen x (others d chosen x is) (final (next d) x is).tables
   isolated x is premise =
-      bool_cases (soundTerminal x)
-      (λ h. isolated-from x is (premise h))
-      (λ e. let u = unsound-run d x is e in rw (u.0, u.1) (refl, refl))
+      bool_cases (sound_terminal x)
+      (λ h. isolated_from x is (premise h))
+      (λ e. let u = unsound_run d x is e in rw (u.0, u.1) (refl, refl))
 
   -- ---- as U13 words it: only hand-ins and takes
 
-  judged-taken : (x : Terminal) (is : List Input) → noneDirect is ≡ true → allJudged d x is ≡ turns d x is
-  judged-taken x [] n = refl
-  judged-taken x (handIn r ∷ is) n = judged-taken (next d x (handIn r)) is n
-  judged-taken x (takeAt clock capacity ∷ is) n = ap (λ (us : List Turn). judgedAt d x (takeAt clock capacity) ++ us) (judged-taken (next d x (takeAt clock capacity)) is n)
-  judged-taken x (direct q ∷ is) n = absurd (false≢true n)
+  judged_taken : (x : Terminal) (is : List Input) → none_direct is ≡ true → all_judged d x is ≡ turns d x is
+  judged_taken x [] n = refl
+  judged_taken x (hand_in r ∷ is) n = judged_taken (next d x (hand_in r)) is n
+  judged_taken x (take_at clock capacity ∷ is) n = ap (λ (us : List Turn). judged_at d x (take_at clock capacity) ++ us) (judged_taken (next d x (take_at clock capacity)) is n)
+  judged_taken x (direct q ∷ is) n = absurd (false≢true n)
 
   -- the others' records taken
-  pub turns-isolated : (x : Terminal) (is : List Input) → noneDirect is ≡ true → Premises d chosen x (kept (othersTurn chosen) (turns d x is))
-      → AsTheBook d chosen x (kept (othersTurn chosen) (turns d x is)) (final (next d) x is).tables
-  turns-isolated x is n = rw (← judged-taken x is n) (isolated x is)
+  pub turns_isolated : (x : Terminal) (is : List Input) → none_direct is ≡ true → Premises d chosen x (kept (others_turn chosen) (turns d x is))
+      → AsTheBook d chosen x (kept (others_turn chosen) (turns d x is)) (final (next d) x is).tables
+  turns_isolated x is n = rw (← judged_taken x is n) (isolated x is)

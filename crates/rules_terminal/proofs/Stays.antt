@@ -8,64 +8,64 @@ use Rattle.rules.specs.declared.Check.TheVariants.{Pass}
 use Rattle.rules.specs.Record.{Request}
 use Rattle.rules.specs.Defaults.{Defaults}
 use Rattle.rules.specs.Checks.{verdict}
-use Rattle.rules.specs.Outcome.{Outcome, responseTo, tablesAfter}
+use Rattle.rules.specs.Outcome.{Outcome, response_to, tables_after}
 use Rattle.rules.proofs.Refusals.{refusal_is}
-use Rattle.rules_terminal.specs.Slots.{Round, anew, roundOf, waiting, queueOf, emptyQueue}
-use Rattle.rules_terminal.specs.Round.{seats, sameSeats, validRound}
-use Rattle.rules_terminal.specs.Terminal.{Terminal, terminal, Transition, soundTerminal, clears, queueAfter, terminalAfter, directChecks, directOf}
+use Rattle.rules_terminal.specs.Slots.{Round, anew, round_of, waiting, queue_of, empty_queue}
+use Rattle.rules_terminal.specs.Round.{seats, same_seats, valid_round}
+use Rattle.rules_terminal.specs.Terminal.{Terminal, terminal, Transition, sound_terminal, clears, queue_after, terminal_after, direct_checks, direct_of}
 use Rattle.rules_terminal.specs.Terminal.{judged}
-use Rattle.rules_terminal.proofs.SlotLaws.{queue-is, round-back}
-use Rattle.rules_terminal.proofs.RowsMoved.{seats-again}
-use Rattle.rules_terminal.proofs.Sound.{terminal-parts}
+use Rattle.rules_terminal.proofs.SlotLaws.{queue_is, round_back}
+use Rattle.rules_terminal.proofs.RowsMoved.{seats_again}
+use Rattle.rules_terminal.proofs.Sound.{terminal_parts}
 
 -- a record on a sound terminal is judged
-pub direct-ready : (x : Terminal) → soundTerminal x ≡ true → verdict (directChecks x) ≡ Pass
+pub direct_ready : (x : Terminal) → sound_terminal x ≡ true → verdict (direct_checks x) ≡ Pass
 unfolding verdict
-direct-ready x h = rw h
+direct_ready x h = rw h
 
 -- a refusal leaves the tables, and of the queue what stood there
-pub never-clears : (d : Defaults) (t : Tables) (q : Request) (n : ℕ) → (responseTo d t q).answer ≡ suc n → clears d t q ≡ false
+pub never_clears : (d : Defaults) (t : Tables) (q : Request) (n : ℕ) → (response_to d t q).answer ≡ suc n → clears d t q ≡ false
 unfolding clears
-never-clears d t q n a = rw (ne_eqb (responseTo d t q).answer 0 (omega arith))
+never_clears d t q n a = rw (ne_eqb (response_to d t q).answer 0 (omega arith))
 
-pub refused-after : (d : Defaults) (t : Tables) (q : Request) (k : Round) (ws : List Row) (n : ℕ) → (responseTo d t q).answer ≡ suc n
-    → terminalAfter d t q k ws ≡ terminal t (queueOf k ws)
-unfolding queueAfter
-refused-after d t q k ws n a = rw (never-clears d t q n a, ap (λ (o : Outcome). o.tables) (refusal_is d t q n a), seats-again (seats t))
+pub refused_after : (d : Defaults) (t : Tables) (q : Request) (k : Round) (ws : List Row) (n : ℕ) → (response_to d t q).answer ≡ suc n
+    → terminal_after d t q k ws ≡ terminal t (queue_of k ws)
+unfolding queue_after
+refused_after d t q k ws n a = rw (never_clears d t q n a, ap (λ (o : Outcome). o.tables) (refusal_is d t q n a), seats_again (seats t))
 
-module _ (d : Defaults) (x : Terminal) (q : Request) (h : soundTerminal x ≡ true) where
-  pub judged-is : judged d x q ≡ directOf d x q Pass
+module _ (d : Defaults) (x : Terminal) (q : Request) (h : sound_terminal x ≡ true) where
+  pub judged_is : judged d x q ≡ direct_of d x q Pass
   unfolding judged
-  judged-is = ap (directOf d x q) (direct-ready x h)
+  judged_is = ap (direct_of d x q) (direct_ready x h)
 
   -- no row is added or removed: the memory stays byte for byte
-  pub queue-stays : clears d x.tables q ≡ false → seats (tablesAfter d x.tables q) ≡ seats x.tables
-      → queueAfter d x.tables q (roundOf x.queue) (waiting x.queue) ≡ x.queue
-  unfolding queueAfter
-  queue-stays c e = rw (c, e, seats-again (seats x.tables)) (queue-is x.tables x.queue (terminal-parts x h).queue)
+  pub queue_stays : clears d x.tables q ≡ false → seats (tables_after d x.tables q) ≡ seats x.tables
+      → queue_after d x.tables q (round_of x.queue) (waiting x.queue) ≡ x.queue
+  unfolding queue_after
+  queue_stays c e = rw (c, e, seats_again (seats x.tables)) (queue_is x.tables x.queue (terminal_parts x h).queue)
 
-  pub undisturbed-stays : clears d x.tables q ≡ false → seats (tablesAfter d x.tables q) ≡ seats x.tables → (judged d x q).terminal.queue ≡ x.queue
-  undisturbed-stays c e = ap (λ (a : Transition). a.terminal.queue) judged-is ∙ queue-stays c e
+  pub undisturbed_stays : clears d x.tables q ≡ false → seats (tables_after d x.tables q) ≡ seats x.tables → (judged d x q).terminal.queue ≡ x.queue
+  undisturbed_stays c e = ap (λ (a : Transition). a.terminal.queue) judged_is ∙ queue_stays c e
 
   -- tables that stay leave the terminal as it was: a record that is read, served or refused
-  pub unchanged-stays : tablesAfter d x.tables q ≡ x.tables → clears d x.tables q ≡ false
-      → terminalAfter d x.tables q (roundOf x.queue) (waiting x.queue) ≡ x
-  unchanged-stays e c =
-      ap (terminal (tablesAfter d x.tables q)) (queue-stays c (ap seats e))
+  pub unchanged_stays : tables_after d x.tables q ≡ x.tables → clears d x.tables q ≡ false
+      → terminal_after d x.tables q (round_of x.queue) (waiting x.queue) ≡ x
+  unchanged_stays e c =
+      ap (terminal (tables_after d x.tables q)) (queue_stays c (ap seats e))
       ∙ ap (λ (t : Tables). terminal t x.queue) e
 
   -- cleared tables hold no waiting record
-  pub cleared-fresh : clears d x.tables q ≡ true → (judged d x q).terminal.queue ≡ emptyQueue
-  unfolding queueAfter
-  cleared-fresh c = ap (λ (a : Transition). a.terminal.queue) judged-is ∙ rw c
+  pub cleared_fresh : clears d x.tables q ≡ true → (judged d x q).terminal.queue ≡ empty_queue
+  unfolding queue_after
+  cleared_fresh c = ap (λ (a : Transition). a.terminal.queue) judged_is ∙ rw c
 
 -- ---- the round
 
 -- what a record leaves where the round stood at a seat that the tables do not hold: again once a row comes or goes
-pub not-revived : (d : Defaults) (x : Terminal) (q : Request) → soundTerminal x ≡ true → validRound (seats x.tables) (roundOf x.queue) ≡ anew
-    → sameSeats (seats x.tables) (seats (tablesAfter d x.tables q)) ≡ false → clears d x.tables q ≡ false
-    → roundOf (judged d x q).terminal.queue ≡ anew
-unfolding queueAfter
-not-revived d x q h n m c =
-    ap (λ (a : Transition). roundOf a.terminal.queue) (judged-is d x q h)
-    ∙ rw (c, m, n) (round-back anew _ tt)
+pub not_revived : (d : Defaults) (x : Terminal) (q : Request) → sound_terminal x ≡ true → valid_round (seats x.tables) (round_of x.queue) ≡ anew
+    → same_seats (seats x.tables) (seats (tables_after d x.tables q)) ≡ false → clears d x.tables q ≡ false
+    → round_of (judged d x q).terminal.queue ≡ anew
+unfolding queue_after
+not_revived d x q h n m c =
+    ap (λ (a : Transition). round_of a.terminal.queue) (judged_is d x q h)
+    ∙ rw (c, m, n) (round_back anew _ tt)

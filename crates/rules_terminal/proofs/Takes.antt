@@ -10,55 +10,55 @@ use Rattle.rules.specs.Record.{Request, received}
 use Rattle.rules.specs.Defaults.{Defaults, fresh}
 use Rattle.rules.specs.Action.{action}
 use Rattle.rules.specs.Checks.{verdict}
-use Rattle.rules.specs.Outcome.{Outcome, effectBy, entered, responseTo, tablesAfter}
-use Rattle.rules.proofs.CheckLaws.{check-cases}
-use Rattle.rules.proofs.Refusals.{permitted-outcome}
+use Rattle.rules.specs.Outcome.{Outcome, effect_by, entered, response_to, tables_after}
+use Rattle.rules.proofs.CheckLaws.{check_cases}
+use Rattle.rules.proofs.Refusals.{permitted_outcome}
 use Rattle.rules_terminal.specs.Slots.{Round, waiting}
-use Rattle.rules_terminal.specs.Terminal.{Terminal, terminal, freshTerminal, soundTerminal, isReset, clears, queueAfter, terminalAfter}
-use Rattle.rules_terminal.specs.Terminal.{takeChecks, due, take_of, taken, OutcomeOfDue}
-use Rattle.rules_terminal.proofs.Refused.{take-ready}
-use Rattle.rules_terminal.proofs.Built.{refused-number}
+use Rattle.rules_terminal.specs.Terminal.{Terminal, terminal, fresh_terminal, sound_terminal, is_reset, clears, queue_after, terminal_after}
+use Rattle.rules_terminal.specs.Terminal.{take_checks, due, take_of, taken, OutcomeOfDue}
+use Rattle.rules_terminal.proofs.Refused.{take_ready}
+use Rattle.rules_terminal.proofs.Built.{refused_number}
 
 module _ (d : Defaults) (x : Terminal) (clock capacity : ℕ) where
   -- on a sound terminal where a record waits
-  pub taken_is : soundTerminal x ≡ true → eqb (length (waiting x.queue)) 0 ≡ false
+  pub taken_is : sound_terminal x ≡ true → eqb (length (waiting x.queue)) 0 ≡ false
       → taken d x clock capacity ≡ take_of d x (received clock (due x) capacity) Pass
   unfolding taken
-  taken_is h w = ap (take_of d x (received clock (due x) capacity)) (take-ready x h w)
+  taken_is h w = ap (take_of d x (received clock (due x) capacity)) (take_ready x h w)
 
   -- with any answer but 1 and 27, so with 0
-  pub judged-take : (eqb (taken d x clock capacity).response.answer 1 || eqb (taken d x clock capacity).response.answer 27) ≡ false
+  pub judged_take : (eqb (taken d x clock capacity).response.answer 1 || eqb (taken d x clock capacity).response.answer 27) ≡ false
       → OutcomeOfDue d x clock capacity
   unfolding taken
-  judged-take a =
-      check-cases (verdict (takeChecks x))
+  judged_take a =
+      check_cases (verdict (take_checks x))
       (λ e. record { handed = rw e; response = rw e; tables = rw e })
-      (λ n e. contradiction (refused-number x n e) (rw e at a))
+      (λ n e. contradiction (refused_number x n e) (rw e at a))
 
-  pub permitted-take : (taken d x clock capacity).response.answer ≡ 0 → OutcomeOfDue d x clock capacity
-  permitted-take a = judged-take (rw a)
+  pub permitted_take : (taken d x clock capacity).response.answer ≡ 0 → OutcomeOfDue d x clock capacity
+  permitted_take a = judged_take (rw a)
 
 -- ---- RESET
 
 module _ (d : Defaults) (t : Tables) (q : Request) where
-  reset-effect : (a : Action) → isReset a ≡ true → effectBy d t q a ≡ fresh d
+  reset_effect : (a : Action) → is_reset a ≡ true → effect_by d t q a ≡ fresh d
   unfolding entered
-  reset-effect Serve e = contradiction e refl
-  reset-effect Read e = contradiction e refl
-  reset-effect (SetRowOwner n) e = contradiction e refl
-  reset-effect (SetOwner o) e = contradiction e refl
-  reset-effect (SetState s) e = rw e
-  reset-effect (Store k) e = contradiction e refl
-  reset-effect (Remove k key) e = contradiction e refl
-  reset-effect (Assert c) e = contradiction e refl
-  reset-effect Malformed e = contradiction e refl
+  reset_effect Serve e = contradiction e refl
+  reset_effect Read e = contradiction e refl
+  reset_effect (SetRowOwner n) e = contradiction e refl
+  reset_effect (SetOwner o) e = contradiction e refl
+  reset_effect (SetState s) e = rw e
+  reset_effect (Store k) e = contradiction e refl
+  reset_effect (Remove k key) e = contradiction e refl
+  reset_effect (Assert c) e = contradiction e refl
+  reset_effect Malformed e = contradiction e refl
 
-  reset-tables : clears d t q ≡ true → tablesAfter d t q ≡ fresh d
+  reset_tables : clears d t q ≡ true → tables_after d t q ≡ fresh d
   unfolding clears
-  reset-tables c =
-      ap (λ (o : Outcome). o.tables) (permitted-outcome d t q (eqb-true _ _ (and_left _ _ c)))
-      ∙ reset-effect (action q.bytes) (and_right (eqb (responseTo d t q).answer 0) _ c)
+  reset_tables c =
+      ap (λ (o : Outcome). o.tables) (permitted_outcome d t q (eqb-true _ _ (and_left _ _ c)))
+      ∙ reset_effect (action q.bytes) (and_right (eqb (response_to d t q).answer 0) _ c)
 
-  pub reset-fresh : (k : Round) (ws : List Row) → clears d t q ≡ true → terminalAfter d t q k ws ≡ freshTerminal d
-  unfolding queueAfter freshTerminal
-  reset-fresh k ws c = ap₂ terminal (reset-tables c) (rw c)
+  pub reset_fresh : (k : Round) (ws : List Row) → clears d t q ≡ true → terminal_after d t q k ws ≡ fresh_terminal d
+  unfolding queue_after fresh_terminal
+  reset_fresh k ws c = ap₂ terminal (reset_tables c) (rw c)

@@ -3,10 +3,10 @@
 use Rattle.std.specs.Prelude.{ℕ, eqb, length, take, ◌||◌, cond, List, [], ◌++◌, ◌∷◌, ◌≡◌}
 use Rattle.rules.specs.Defaults.{Defaults}
 use Rattle.rules.specs.Outcome.{Response}
-use Rattle.rules.specs.Contracts.Results.{Result, payloadPart}
+use Rattle.rules.specs.Promises.Results.{Result, payload_part}
 use Rattle.rules.specs.Record.{received}
 use Rattle.rules_terminal.specs.Calls.{HandsIn, Judges, Takes}
-use Rattle.rules_terminal.specs.Inputs.{Input, Turn, direct, handIn, takeAt}
+use Rattle.rules_terminal.specs.Inputs.{Input, Turn, direct, hand_in, take_at}
 use Rattle.rules_terminal.specs.Terminal.{Terminal, terminal, Transition}
 
 -- ---- what the calls of a run gave
@@ -23,8 +23,8 @@ pub record Call : Type 0 where
   pub bytes : List ℕ
 
 -- what the sender gets
-abbrev pub responseOf : Call → Response
-responseOf c = record {
+abbrev pub response_of : Call → Response
+response_of c = record {
   answer = c.judgement.answer;
   permission = c.judgement.permission;
   payload = c.payload;
@@ -34,20 +34,20 @@ responseOf c = record {
 }
 
 -- the record that a take gave out
-abbrev pub recordGiven : Call → List ℕ
-recordGiven c = take c.size c.bytes
+abbrev pub record_given : Call → List ℕ
+record_given c = take c.size c.bytes
 
 -- a buffer of the length that was passed in, and the payload as the part of the record r that the call's judgement names
 pub record Lends (capacity : ℕ) (r : List ℕ) (c : Call) : Type 0 where
   pub sized : length c.lent ≡ capacity
-  pub passes : c.payload ≡ payloadPart c.judgement.payload r
+  pub passes : c.payload ≡ payload_part c.judgement.payload r
 
 -- what a call meets, on the terminal x, for the input
 abbrev pub Meets : Defaults → Terminal → Input → Call → Type 0
-Meets d x (handIn r) c = HandsIn x r c.judgement c.queue
-Meets d x (takeAt clock capacity) c =
+Meets d x (hand_in r) c = HandsIn x r c.judgement c.queue
+Meets d x (take_at clock capacity) c =
     Takes d x clock capacity (record { judgement = c.judgement; size = c.size; bytes = c.bytes }) c.lent c.queue c.buffer
-    × Lends capacity (recordGiven c) c
+    × Lends capacity (record_given c) c
 Meets d x (direct q) c = Judges d x q c.judgement c.lent c.queue c.buffer × Lends q.capacity q.bytes c
 
 -- the terminal that a call returns
@@ -62,38 +62,38 @@ Built d x (i ∷ is) [] = ⊥
 Built d x (i ∷ is) (c ∷ cs) = Meets d x i c × Built d (left c) is cs
 
 -- what was returned last
-abbrev pub handedBack : Terminal → List Call → Terminal
-handedBack x [] = x
-handedBack x (c ∷ cs) = handedBack (left c) cs
+abbrev pub handed_back : Terminal → List Call → Terminal
+handed_back x [] = x
+handed_back x (c ∷ cs) = handed_back (left c) cs
 
 -- ---- the records judged, as the calls show them: a take answered with 1 or 27 has none, nor has a record judged directly that gets 1
 
 abbrev pub turn_of : Input → Call → List Turn
-turn_of (handIn r) c = []
-turn_of (takeAt clock capacity) c =
-    cond (eqb c.judgement.answer 1 || eqb c.judgement.answer 27) [] (record { request = received clock (recordGiven c) capacity; response = responseOf c } ∷ [])
-turn_of (direct q) c = cond (eqb c.judgement.answer 1) [] (record { request = q; response = responseOf c } ∷ [])
+turn_of (hand_in r) c = []
+turn_of (take_at clock capacity) c =
+    cond (eqb c.judgement.answer 1 || eqb c.judgement.answer 27) [] (record { request = received clock (record_given c) capacity; response = response_of c } ∷ [])
+turn_of (direct q) c = cond (eqb c.judgement.answer 1) [] (record { request = q; response = response_of c } ∷ [])
 
-abbrev pub callTurns : List Input → List Call → List Turn
-callTurns [] cs = []
-callTurns (i ∷ is) [] = []
-callTurns (i ∷ is) (c ∷ cs) = turn_of i c ++ callTurns is cs
+abbrev pub call_turns : List Input → List Call → List Turn
+call_turns [] cs = []
+call_turns (i ∷ is) [] = []
+call_turns (i ∷ is) (c ∷ cs) = turn_of i c ++ call_turns is cs
 
 -- ---- the answers
 
 -- what a call shows; of a hand-in that is the judgement, since it passes no buffer and judges no record
 abbrev pub shown : Input → Call → Transition
-shown (handIn r) c =
+shown (hand_in r) c =
     let j = c.judgement in
     record {
       bytes = [];
       response = record { answer = j.answer; permission = j.permission; payload = []; contents = []; store = j.store; links = j.links };
       terminal = left c;
     }
-shown (takeAt clock capacity) c = record { bytes = recordGiven c; response = responseOf c; terminal = left c }
-shown (direct q) c = record { bytes = []; response = responseOf c; terminal = left c }
+shown (take_at clock capacity) c = record { bytes = record_given c; response = response_of c; terminal = left c }
+shown (direct q) c = record { bytes = []; response = response_of c; terminal = left c }
 
-abbrev pub allShown : List Input → List Call → List Transition
-allShown [] cs = []
-allShown (i ∷ is) [] = []
-allShown (i ∷ is) (c ∷ cs) = shown i c ∷ allShown is cs
+abbrev pub all_shown : List Input → List Call → List Transition
+all_shown [] cs = []
+all_shown (i ∷ is) [] = []
+all_shown (i ∷ is) (c ∷ cs) = shown i c ∷ all_shown is cs

@@ -4,8 +4,8 @@ use Rattle.std.specs.Prelude.{◌≡◌}
 use Rattle.rules.specs.Record.{Request}
 use Rattle.rules.specs.Defaults.{Defaults}
 use Rattle.rules.specs.Reading.{filled}
-use Rattle.rules.specs.Contracts.Results.{Result}
-use Rattle.rules_terminal.specs.Terminal.{Terminal, Transition, handedIn, taken, judged, transitionResult, HandedOut, handedOut}
+use Rattle.rules.specs.Promises.Results.{Result}
+use Rattle.rules_terminal.specs.Terminal.{Terminal, Transition, handed_in, taken, judged, transition_result, HandedOut, handed_out}
 use Rattle.rules.specs.Types.{Bytes, Clock, Size}
 use Rattle.rules_terminal.specs.Slots.{Queue}
 
@@ -16,15 +16,15 @@ pub record Leaves (a : Transition) (lent queue buffer : Bytes) : Type 0 where
 
 -- a record is handed in
 pub record HandsIn (x : Terminal) (r : Bytes) (s : Result) (queue : Queue) : Type 0 where
-  pub says : s ≡ transitionResult (handedIn x r)
-  pub keeps : queue ≡ (handedIn x r).terminal.queue
+  pub says : s ≡ transition_result (handed_in x r)
+  pub keeps : queue ≡ (handed_in x r).terminal.queue
 
 -- a take, at a clock, with a buffer of a length
 pub record Takes (d : Defaults) (x : Terminal) (clock : Clock) (capacity : Size) (h : HandedOut) (lent queue buffer : Bytes) : Type 0 where
-  pub hands : h ≡ handedOut (taken d x clock capacity)
+  pub hands : h ≡ handed_out (taken d x clock capacity)
   pub leaves : Leaves (taken d x clock capacity) lent queue buffer
 
 -- a record is judged directly
 pub record Judges (d : Defaults) (x : Terminal) (q : Request) (s : Result) (lent queue buffer : Bytes) : Type 0 where
-  pub says : s ≡ transitionResult (judged d x q)
+  pub says : s ≡ transition_result (judged d x q)
   pub leaves : Leaves (judged d x q) lent queue buffer

@@ -7,23 +7,23 @@ use Rattle.rules.specs.declared.Check.TheVariants.{Pass, Refuse}
 use Rattle.rules.specs.declared.Sender.{Sender}
 use Rattle.rules.specs.Record.{Request, received, sender}
 use Rattle.rules.specs.Defaults.{Defaults}
-use Rattle.rules.specs.Checks.{verdict, isPass}
-use Rattle.rules.specs.Outcome.{Response, responseTo, tablesAfter}
+use Rattle.rules.specs.Checks.{verdict, is_pass}
+use Rattle.rules.specs.Outcome.{Response, response_to, tables_after}
 use Rattle.rules.specs.Run.{final, kept}
-use Rattle.rules_terminal.specs.Slots.{recordOf, waiting}
+use Rattle.rules_terminal.specs.Slots.{record_of, waiting}
 use Rattle.rules_terminal.specs.Round.{seats, orphaned}
-use Rattle.rules_terminal.specs.Terminal.{Terminal, Transition, handInChecks, handedIn, clears, takeChecks, turn, due, taken, directChecks, judged}
+use Rattle.rules_terminal.specs.Terminal.{Terminal, Transition, hand_in_checks, handed_in, clears, take_checks, turn, due, taken, direct_checks, judged}
 use Rattle.rules.specs.Types.{Bytes, Clock, Size}
 
 -- a record is handed in; a take at a clock, with a reply buffer of a length; a record is judged directly
 pub data Input : Type 0 where
-  handIn : Bytes → Input
-  takeAt : Clock → Size → Input
+  hand_in : Bytes → Input
+  take_at : Clock → Size → Input
   direct : Request → Input
 
 abbrev pub transition : Defaults → Terminal → Input → Transition
-transition d x (handIn r) = handedIn x r
-transition d x (takeAt clock capacity) = taken d x clock capacity
+transition d x (hand_in r) = handed_in x r
+transition d x (take_at clock capacity) = taken d x clock capacity
 transition d x (direct q) = judged d x q
 
 abbrev pub next : Defaults → Terminal → Input → Terminal
@@ -43,62 +43,62 @@ pub record Turn : Type 0 where
   pub response : Response
 
 -- with 1, and with 27, there is none
-abbrev pub turnIf : Defaults → Terminal → Request → Check → List Turn
-turnIf d x q Pass = record { request = q; response = responseTo d x.tables q } ∷ []
-turnIf d x q (Refuse n) = []
+abbrev pub turn_if : Defaults → Terminal → Request → Check → List Turn
+turn_if d x q Pass = record { request = q; response = response_to d x.tables q } ∷ []
+turn_if d x q (Refuse n) = []
 
-abbrev pub turnsAt : Defaults → Terminal → Input → List Turn
-turnsAt d x (handIn r) = []
-turnsAt d x (takeAt clock capacity) = turnIf d x (received clock (due x) capacity) (verdict (takeChecks x))
-turnsAt d x (direct q) = []
+abbrev pub turns_at : Defaults → Terminal → Input → List Turn
+turns_at d x (hand_in r) = []
+turns_at d x (take_at clock capacity) = turn_if d x (received clock (due x) capacity) (verdict (take_checks x))
+turns_at d x (direct q) = []
 
 -- the records taken, in the order of their takes
 abbrev pub turns : Defaults → Terminal → List Input → List Turn
-turns d = collected (next d) (turnsAt d)
+turns d = collected (next d) (turns_at d)
 
-abbrev pub judgedAt : Defaults → Terminal → Input → List Turn
-judgedAt d x (handIn r) = []
-judgedAt d x (takeAt clock capacity) = turnIf d x (received clock (due x) capacity) (verdict (takeChecks x))
-judgedAt d x (direct q) = turnIf d x q (verdict (directChecks x))
+abbrev pub judged_at : Defaults → Terminal → Input → List Turn
+judged_at d x (hand_in r) = []
+judged_at d x (take_at clock capacity) = turn_if d x (received clock (due x) capacity) (verdict (take_checks x))
+judged_at d x (direct q) = turn_if d x q (verdict (direct_checks x))
 
 -- and with them those judged directly: of only hand-ins and takes, the records taken
-abbrev pub allJudged : Defaults → Terminal → List Input → List Turn
-allJudged d = collected (next d) (judgedAt d)
+abbrev pub all_judged : Defaults → Terminal → List Input → List Turn
+all_judged d = collected (next d) (judged_at d)
 
-abbrev pub requestOf : Turn → Request
-requestOf turn = turn.request
+abbrev pub request_of : Turn → Request
+request_of turn = turn.request
 
-abbrev pub turnResponse : Turn → Response
-turnResponse turn = turn.response
+abbrev pub turn_response : Turn → Response
+turn_response turn = turn.response
 
 abbrev pub bytes_of : Turn → Bytes
 bytes_of turn = turn.request.bytes
 
 -- the turn is one of the others'
-abbrev pub othersTurn : (Sender → Bool) → Turn → Bool
-othersTurn chosen turn = not (chosen (sender (bytes_of turn)))
+abbrev pub others_turn : (Sender → Bool) → Turn → Bool
+others_turn chosen turn = not (chosen (sender (bytes_of turn)))
 
 -- no record is judged directly
-abbrev pub noneDirect : List Input → Bool
-noneDirect [] = true
-noneDirect (handIn r ∷ is) = noneDirect is
-noneDirect (takeAt clock capacity ∷ is) = noneDirect is
-noneDirect (direct q ∷ is) = false
+abbrev pub none_direct : List Input → Bool
+none_direct [] = true
+none_direct (hand_in r ∷ is) = none_direct is
+none_direct (take_at clock capacity ∷ is) = none_direct is
+none_direct (direct q ∷ is) = false
 
 -- ---- within 25 takes
 
 -- how many takes there are
 abbrev pub takes : List Input → ℕ
 takes [] = 0
-takes (handIn r ∷ is) = takes is
-takes (takeAt clock capacity ∷ is) = suc (takes is)
+takes (hand_in r ∷ is) = takes is
+takes (take_at clock capacity ∷ is) = suc (takes is)
 takes (direct q ∷ is) = takes is
 
 -- the input's record clears the tables
 abbrev pub clearing : Defaults → Terminal → Input → Bool
-clearing d x (handIn r) = false
-clearing d x (takeAt clock capacity) = isPass (verdict (takeChecks x)) && clears d x.tables (received clock (due x) capacity)
-clearing d x (direct q) = isPass (verdict (directChecks x)) && clears d x.tables q
+clearing d x (hand_in r) = false
+clearing d x (take_at clock capacity) = is_pass (verdict (take_checks x)) && clears d x.tables (received clock (due x) capacity)
+clearing d x (direct q) = is_pass (verdict (direct_checks x)) && clears d x.tables q
 
 -- no credential row is added or removed, and the tables are not cleared
 abbrev pub Undisturbed : Defaults → Terminal → List Input → Type 0
@@ -108,35 +108,35 @@ Undisturbed d x (i ∷ is) = (seats (next d x i).tables ≡ seats x.tables) × (
 -- ---- where records come from, and go
 
 -- the records that wait
-abbrev pub recordsIn : Terminal → List Bytes
-recordsIn x = map recordOf (waiting x.queue)
+abbrev pub records_in : Terminal → List Bytes
+records_in x = map record_of (waiting x.queue)
 
 -- the records handed in that are kept
-abbrev pub recordIf : Bytes → Check → List Bytes
-recordIf r Pass = r ∷ []
-recordIf r (Refuse n) = []
+abbrev pub record_if : Bytes → Check → List Bytes
+record_if r Pass = r ∷ []
+record_if r (Refuse n) = []
 
 abbrev pub kept_at : Defaults → Terminal → Input → List Bytes
-kept_at d x (handIn r) = recordIf r (verdict (handInChecks x r))
-kept_at d x (takeAt clock capacity) = []
+kept_at d x (hand_in r) = record_if r (verdict (hand_in_checks x r))
+kept_at d x (take_at clock capacity) = []
 kept_at d x (direct q) = []
 
-abbrev pub allKept : Defaults → Terminal → List Input → List Bytes
-allKept d = collected (next d) (kept_at d)
+abbrev pub all_kept : Defaults → Terminal → List Input → List Bytes
+all_kept d = collected (next d) (kept_at d)
 
 -- the waiting records that are dropped: with their credential rows, or all where the tables are cleared
-abbrev pub droppedBy : Defaults → Tables → Request → List Row → Check → List Bytes
-droppedBy d t q slots Pass = map recordOf (cond (clears d t q) slots (kept (orphaned (seats (tablesAfter d t q))) slots))
-droppedBy d t q slots (Refuse n) = []
+abbrev pub dropped_by : Defaults → Tables → Request → List Row → Check → List Bytes
+dropped_by d t q slots Pass = map record_of (cond (clears d t q) slots (kept (orphaned (seats (tables_after d t q))) slots))
+dropped_by d t q slots (Refuse n) = []
 
-abbrev pub droppedAt : Defaults → Terminal → Input → List Bytes
-droppedAt d x (handIn r) = []
-droppedAt d x (takeAt clock capacity) =
-    droppedBy d x.tables (received clock (due x) capacity) (without (has_key 0 (turn x)) (waiting x.queue)) (verdict (takeChecks x))
-droppedAt d x (direct q) = droppedBy d x.tables q (waiting x.queue) (verdict (directChecks x))
+abbrev pub dropped_at : Defaults → Terminal → Input → List Bytes
+dropped_at d x (hand_in r) = []
+dropped_at d x (take_at clock capacity) =
+    dropped_by d x.tables (received clock (due x) capacity) (without (has_key 0 (turn x)) (waiting x.queue)) (verdict (take_checks x))
+dropped_at d x (direct q) = dropped_by d x.tables q (waiting x.queue) (verdict (direct_checks x))
 
-abbrev pub allDropped : Defaults → Terminal → List Input → List Bytes
-allDropped d = collected (next d) (droppedAt d)
+abbrev pub all_dropped : Defaults → Terminal → List Input → List Bytes
+all_dropped d = collected (next d) (dropped_at d)
 
 -- how many of the records pass a test
 unfoldable pub count_of : (Bytes → Bool) → List Bytes → ℕ
@@ -146,5 +146,5 @@ count_of passes (r ∷ rs) = cond (passes r) 1 0 + count_of passes rs
 -- of the records that pass a test, those taken, dropped and waiting at the end are as many as waited at the start and were kept
 abbrev pub Balance : (List ℕ → Bool) → Defaults → Terminal → List Input → Type 0
 Balance p d x is =
-    count_of p (map bytes_of (turns d x is)) + (count_of p (allDropped d x is) + count_of p (recordsIn (final (next d) x is)))
-    ≡ count_of p (recordsIn x) + count_of p (allKept d x is)
+    count_of p (map bytes_of (turns d x is)) + (count_of p (all_dropped d x is) + count_of p (records_in (final (next d) x is)))
+    ≡ count_of p (records_in x) + count_of p (all_kept d x is)

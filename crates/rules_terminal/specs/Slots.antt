@@ -16,23 +16,23 @@ abbrev pub Seat : Type 0
 Seat = Bytes
 
 -- bytes of a slot
-abbrev pub slotSize : Size
-slotSize = 260
+abbrev pub slot_size : Size
+slot_size = 260
 
 -- slots at most: one for each of 24 credential rows, and one for unauthenticated senders
-abbrev pub queueCapacity : Size
-queueCapacity = 25
+abbrev pub queue_capacity : Size
+queue_capacity = 25
 
 -- bytes of all slots, and of the queue
-abbrev pub slotsSize : Size
-slotsSize = queueCapacity * slotSize
+abbrev pub slots_size : Size
+slots_size = queue_capacity * slot_size
 
-abbrev pub queueSize : Size
-queueSize = 4 + slotsSize
+abbrev pub queue_size : Size
+queue_size = 4 + slots_size
 
 -- the seat of a record's sender
-unfoldable pub seatOf : Bytes → Seat
-seatOf r = be16 (credential r)
+unfoldable pub seat_of : Bytes → Seat
+seat_of r = be16 (credential r)
 
 -- the record and zeros after it, 256 bytes in all
 unfoldable pub padded : Bytes → Bytes
@@ -40,34 +40,34 @@ padded r = r ++ replicate (256 - length r) 0
 
 -- the slot that keeps a record
 unfoldable pub slot_of : Bytes → Row
-slot_of r = seatOf r ++ (be16 (length r) ++ padded r)
+slot_of r = seat_of r ++ (be16 (length r) ++ padded r)
 
 -- the record that a slot keeps
-unfoldable pub recordOf : Row → Bytes
-recordOf slot = take (bits (drop 2 slot) 0 16) (drop 4 slot)
+unfoldable pub record_of : Row → Bytes
+record_of slot = take (bits (drop 2 slot) 0 16) (drop 4 slot)
 
 -- ---- the queue
 
 -- where the round is: it starts over, or a seat was taken last
 pub data Round : Type 0 where
   anew : Round
-  afterSeat : Seat → Round
+  after_seat : Seat → Round
 
-abbrev pub roundBytes : Round → Bytes
-roundBytes anew = 0 ∷ 0 ∷ 0 ∷ []
-roundBytes (afterSeat seat) = 1 ∷ seat
+abbrev pub round_bytes : Round → Bytes
+round_bytes anew = 0 ∷ 0 ∷ 0 ∷ []
+round_bytes (after_seat seat) = 1 ∷ seat
 
-unfoldable pub roundOf : Queue → Round
-roundOf queue = cond (eqb (get_or queue 1 0) 0) anew (afterSeat (take 2 (drop 2 queue)))
+unfoldable pub round_of : Queue → Round
+round_of queue = cond (eqb (get_or queue 1 0) 0) anew (after_seat (take 2 (drop 2 queue)))
 
 -- the slots that are used: as many as are counted, at most as many as there is room for
 unfoldable pub waiting : Queue → List Row
-waiting queue = rows_of slotSize (min (get_or queue 0 0) queueCapacity) (drop 4 queue)
+waiting queue = rows_of slot_size (min (get_or queue 0 0) queue_capacity) (drop 4 queue)
 
 -- the queue with this round and these slots
-unfoldable pub queueOf : Round → List Row → Queue
-queueOf round slots = length slots ∷ (roundBytes round ++ packed slotsSize slots)
+unfoldable pub queue_of : Round → List Row → Queue
+queue_of round slots = length slots ∷ (round_bytes round ++ packed slots_size slots)
 
 -- no record waits, and the round starts over
-abbrev pub emptyQueue : Queue
-emptyQueue = replicate queueSize 0
+abbrev pub empty_queue : Queue
+empty_queue = replicate queue_size 0

@@ -1,5 +1,7 @@
 // Waiting records and the round: the queue's definitions in specs/, and the theorems over them in proofs/.
 // No code but the types that definitions and code share: the crate `hand_in` hands in, and `take` takes.
+#![tactic(auto)]
+
 use rules::Judgement;
 
 // Bytes of a slot, slots at most, and bytes of the queue, in which the count and the round come before the slots.

@@ -1,7 +1,7 @@
 -- Theorem: with sound tables a record that passes 2 to 6 gets the typed checks' verdict on what is read.
 use Rattle.rows.proofs.Prelude.{◌≡◌, refl, sym, ap, ◌∙◌, Bool, true, not, ◌&&◌, ◌||◌, cond, List, [], ◌∷◌, map, ℕ, ◌≤◌, arith, length, eqb, ltb, bool_cases}
 use Rattle.rows.proofs.Prelude.{length-map, length-drop, or-false, ◌++◌, ap₂}
-use Rattle.rows.specs.Rows.{Row, some, numberedAs}
+use Rattle.rows.specs.Rows.{Row, some, numbered_as}
 use Rattle.rules.specs.declared.Tables.{Tables as ByteTables}
 use Rattle.rules.specs.declared.Table.TheVariants.{Creds, Aces}
 use Rattle.rules.specs.declared.Key.TheVariants.{All, Number, Subject}
@@ -11,141 +11,141 @@ use Rattle.rules.specs.declared.Check.{Check}
 use Rattle.rules.specs.declared.Check.TheVariants.{Refuse}
 use Rattle.rules.specs.declared.Sender.{Sender}
 use Rattle.rules.specs.declared.Sender.TheVariants.{Unauthenticated, Partner}
-use Rattle.rules.specs.Record.{Request as ByteRequest, headerOf, body, sender, verb, connection, resource, headerZeros, credential}
-use Rattle.rules.specs.Bodies.{newOwner, rowNumber, aceStorable}
-use Rattle.rules.specs.Roles.{credSound, rolesInForce as rolesInForceBytes}
+use Rattle.rules.specs.Record.{Request as ByteRequest, header_of, body, sender, verb, connection, resource, header_zeros, credential}
+use Rattle.rules.specs.Bodies.{new_owner, row_number, ace_storable}
+use Rattle.rules.specs.Roles.{cred_sound, roles_in_force as rolesInForceBytes}
 use Rattle.rules.specs.Keys.{goes}
 use Rattle.rules.specs.Tables.{head_of, rows, row_of, capacity}
-use Rattle.rules.specs.States.{moveAllowed, stateAllows as stateAllowsBytes}
-use Rattle.rules.specs.Permission.{numbered, senderRow, connectionOf as connectionBit, has as hasBytes, permissionOf as permissionOfBytes, permission}
-use Rattle.rules.specs.Reading.{replyTo as replyToBytes, tooShort, reads}
-use Rattle.rules.specs.Checks.{verdict, no_row, noEndpoint, notPermitted, notOffered, isMalformed, badTarget, missing, full, rolesFull}
-use Rattle.rules.specs.Checks.{noCredential as noCredentialBytes, offered}
-use Rattle.rules.proofs.Answers.{rows-count}
-use Rattle.rules.specs.Action.{actionOf, action}
-use Rattle.rules.proofs.BodyLaws.{Valid, action-valid}
-use Rattle.rules.proofs.RecordLaws.{connection-is}
+use Rattle.rules.specs.States.{move_allowed, state_allows as stateAllowsBytes}
+use Rattle.rules.specs.Permission.{numbered, sender_row, connection_of as connectionBit, has as hasBytes, permission_of as permissionOfBytes, permission}
+use Rattle.rules.specs.Reading.{reply_to as replyToBytes, too_short, reads}
+use Rattle.rules.specs.Checks.{verdict, no_row, no_endpoint, not_permitted, not_offered, is_malformed, bad_target, missing, full, roles_full}
+use Rattle.rules.specs.Checks.{no_credential as noCredentialBytes, offered}
+use Rattle.rules.proofs.Answers.{rows_count}
+use Rattle.rules.specs.Action.{action_of, action}
+use Rattle.rules.proofs.BodyLaws.{Valid, action_valid}
+use Rattle.rules.proofs.RecordLaws.{connection_is}
 use Rattle.rules_typed.specs.Lists.{any, is_none, list_of, Maybe}
 use Rattle.rules_typed.specs.Types.{Caller, AuthCrypt, Resource, Security, Application, Action, Tables, Verb, Request}
-use Rattle.rules_typed.specs.Permission.{connectionOf, credentialOf, callerOf, sameConnection, has}
-use Rattle.rules_typed.specs.States.{owned, stateAllows}
-use Rattle.rules_typed.specs.Checks.{noCredential, takes, needs, offers, hasNumber, hasSubject, isNumbered, actionChecks, permissionOf, requestChecks}
+use Rattle.rules_typed.specs.Permission.{connection_of, credential_of, caller_of, same_connection, has}
+use Rattle.rules_typed.specs.States.{owned, state_allows}
+use Rattle.rules_typed.specs.Checks.{no_credential, takes, needs, offers, has_number, has_subject, is_numbered, action_checks, permission_of, request_checks}
 use Rattle.rules_typed.specs.Struct.{Given}
-use Rattle.rules_typed.specs.Reading.{ownerOf, credentialAs, accessOf, tables_of}
-use Rattle.rules_typed.specs.Tables.{isBytes}
-use Rattle.rules_typed.proofs.ListLaws.{any-read, find-read}
+use Rattle.rules_typed.specs.Reading.{owner_of, credential_as, access_of_lem, tables_of}
+use Rattle.rules_typed.specs.Tables.{is_bytes}
+use Rattle.rules_typed.proofs.ListLaws.{any_read, find_read}
 use Rattle.rules_typed.proofs.ByteLaws.{Good, number_read, bytes_drop}
-use Rattle.rules_typed.proofs.PermissionRead.{creds-good, aces-good, own-reads, number-of, cred-long, ace-long, owned-is, owned-one, is_state}
-use Rattle.rules_typed.proofs.PermissionRead.{effective-read}
-use Rattle.rules_typed.proofs.StateRead.{IsState, serves-read, owners-read, rows-read, target-read, owner-read, move_read, needs-read, offers-read}
-use Rattle.rules_typed.proofs.StateRead.{verbNumber}
-use Rattle.rules_typed.proofs.RowsRead.{row-bytes, number-key, subject-key, taken-read}
-use Rattle.rules_typed.proofs.ReplyRead.{reply-back}
+use Rattle.rules_typed.proofs.PermissionRead.{creds_good, aces_good, own_reads, number_of_lem, cred_long, ace_long, owned_is, owned_one, is_state_lem}
+use Rattle.rules_typed.proofs.PermissionRead.{effective_read}
+use Rattle.rules_typed.proofs.StateRead.{IsState, serves_read, owners_read, rows_read, target_read, owner_read, move_read, needs_read, offers_read}
+use Rattle.rules_typed.proofs.StateRead.{verb_number}
+use Rattle.rules_typed.proofs.RowsRead.{row_bytes_lem, number_key, subject_key, taken_read}
+use Rattle.rules_typed.proofs.ReplyRead.{reply_back}
 use Rattle.rules_typed.proofs.Removals.{Removed, removed}
 use Rattle.rules_typed.specs.Directory.{entry, number_of, row_of as directoryRow}
-use Rattle.rules_typed.proofs.ActionAs.{actionAs}
-use Rattle.rules_typed.proofs.DirectoryRead.{resourceAs}
-use Rattle.rules_typed.specs.Reply.{replyTo}
-use Rattle.rules_typed.specs.Writing.{replyBytes}
+use Rattle.rules_typed.proofs.ActionAs.{action_as}
+use Rattle.rules_typed.proofs.DirectoryRead.{resource_as}
+use Rattle.rules_typed.specs.Reply.{reply_to}
+use Rattle.rules_typed.specs.Writing.{reply_bytes}
 use Rattle.rules.specs.declared.Header.{Header}
 
 -- ---- 7 and 16
 
-no-credential : (t : ByteTables) → Given t → (s : Sender) → noCredential (tables_of t) s ≡ no_row (rows Creds t) s
-no-credential t g Unauthenticated = refl
-no-credential t g (Partner n) =
-    rw (find-read credentialAs (Good credSound) (numbered n) (λ c. eqb c.number n) (number-of n) (rows Creds t) (creds-good t g))
+no_credential_lem : (t : ByteTables) → Given t → (s : Sender) → no_credential (tables_of t) s ≡ no_row (rows Creds t) s
+no_credential_lem t g Unauthenticated = refl
+no_credential_lem t g (Partner n) =
+    rw (find_read credential_as (Good cred_sound) (numbered n) (λ c. eqb c.number n) (number_of_lem n) (rows Creds t) (creds_good t g))
     (bool_cases (some (numbered n) (rows Creds t)) (λ e. rw e) (λ e. rw e))
 
-takes-read : (e : Resource) (s : Sender) (c : ℕ) → c ≡ connectionBit s
-    → not (takes e (connectionOf s)) ≡ (not (entry e).configuration && not ((eqb c 1 && (entry e).secure) || (eqb c 0 && (entry e).unsecure)))
-takes-read (Security x) s c z = refl
-takes-read (Application a) Unauthenticated c z = rw z
-takes-read (Application a) (Partner n) c z = rw z (ap not (sym (or-false (directoryRow a).secure)))
+takes_read : (e : Resource) (s : Sender) (c : ℕ) → c ≡ connectionBit s
+    → not (takes e (connection_of s)) ≡ (not (entry e).configuration && not ((eqb c 1 && (entry e).secure) || (eqb c 0 && (entry e).unsecure)))
+takes_read (Security x) s c z = refl
+takes_read (Application a) Unauthenticated c z = rw z
+takes_read (Application a) (Partner n) c z = rw z (ap not (sym (or-false (directoryRow a).secure)))
 
-pub connection-one : (s : Sender) → sameConnection (connectionOf s) AuthCrypt ≡ eqb (connectionBit s) 1
-connection-one Unauthenticated = refl
-connection-one (Partner n) = refl
+pub connection_one : (s : Sender) → same_connection (connection_of s) AuthCrypt ≡ eqb (connectionBit s) 1
+connection_one Unauthenticated = refl
+connection_one (Partner n) = refl
 
 -- ---- what an action asks
 
 -- the checks from 10 on, over bytes
-unfoldable pub actionBytes : ℕ → ByteTables → Row → List ℕ → Bool → ByteAction → List (ℕ × Bool)
-actionBytes clock t w b short a =
-    (10, isMalformed a)
+unfoldable pub action_bytes : ℕ → ByteTables → Row → List ℕ → Bool → ByteAction → List (ℕ × Bool)
+action_bytes clock t w b short a =
+    (10, is_malformed a)
     ∷ (11, not (stateAllowsBytes t.state a))
-    ∷ (12, badTarget (head_of t) a)
+    ∷ (12, bad_target (head_of t) a)
     ∷ (13, missing t b a)
     ∷ (14, full t b a)
-    ∷ (22, rolesFull (rolesInForceBytes clock w) b a)
+    ∷ (22, roles_full (rolesInForceBytes clock w) b a)
     ∷ (15, short)
     ∷ []
 
 -- and typed
-abbrev fromTen : ℕ → Tables → Caller → Bool → Maybe Action → List (ℕ × Bool)
-fromTen clock t who long m =
-    (10, is_none m) ∷ list_of m (λ a. (11, not (stateAllows t.state who.connection a)) ∷ actionChecks clock t who a) ++ ((15, long) ∷ [])
+abbrev from_ten : ℕ → Tables → Caller → Bool → Maybe Action → List (ℕ × Bool)
+from_ten clock t who long m =
+    (10, is_none m) ∷ list_of m (λ a. (11, not (state_allows t.state who.connection a)) ∷ action_checks clock t who a) ++ ((15, long) ∷ [])
 
 module _ (t : ByteTables) (g : Given t) (s : Sender) where
   st : IsState t.state
-  st = is_state t g
+  st = is_state_lem t g
 
-  has-owner : owned (ownerOf t.devowner) ≡ eqb t.owned 1
-  has-owner = owned-one t.devowner t.owned g.struct.owner-long (owned-is t g s)
+  has_owner_lem : owned (owner_of t.devowner) ≡ eqb t.owned 1
+  has_owner_lem = owned_one t.devowner t.owned g.struct.owner_long (owned_is t g s)
 
   -- a new credential, and a new access row
-  held-cred : (new : Row) → Good credSound new → any (hasNumber (rowNumber new)) (map credentialAs (rows Creds t)) ≡ some (numberedAs new) (rows Creds t)
-  held-cred new n =
-      any-read credentialAs (Good credSound) (numberedAs new) (hasNumber (rowNumber new))
-      (λ w k. sym (number_read w k.1 (cred-long w k) new n.1 (cred-long new n))) (rows Creds t) (creds-good t g)
+  held_cred : (new : Row) → Good cred_sound new → any (has_number (row_number new)) (map credential_as (rows Creds t)) ≡ some (numbered_as new) (rows Creds t)
+  held_cred new n =
+      any_read credential_as (Good cred_sound) (numbered_as new) (has_number (row_number new))
+      (λ w k. sym (number_read w k.1 (cred_long w k) new n.1 (cred_long new n))) (rows Creds t) (creds_good t g)
 
-  held-ace : (new : Row) → Good aceStorable new → any (isNumbered (rowNumber new)) (map accessOf (rows Aces t)) ≡ some (numberedAs new) (rows Aces t)
-  held-ace new n =
-      any-read accessOf (Good aceStorable) (numberedAs new) (isNumbered (rowNumber new))
-      (λ w k. sym (number_read w k.1 (ace-long w k) new n.1 (ace-long new n))) (rows Aces t) (aces-good t g)
+  held_ace : (new : Row) → Good ace_storable new → any (is_numbered (row_number new)) (map access_of_lem (rows Aces t)) ≡ some (numbered_as new) (rows Aces t)
+  held_ace new n =
+      any_read access_of_lem (Good ace_storable) (numbered_as new) (is_numbered (row_number new))
+      (λ w k. sym (number_read w k.1 (ace_long w k) new n.1 (ace_long new n))) (rows Aces t) (aces_good t g)
 
-  module _ (clock : ℕ) (b : List ℕ) (h : isBytes b ≡ true) (short : Bool) where
+  module _ (clock : ℕ) (b : List ℕ) (h : is_bytes b ≡ true) (short : Bool) where
     abbrev who : Caller
-    who = callerOf (tables_of t) s
+    who = caller_of (tables_of t) s
 
     abbrev Same : ByteAction → Type 0
-    Same a = verdict (actionBytes clock t (senderRow t s) b short a) ≡ verdict (fromTen clock (tables_of t) who short (actionAs b a))
+    Same a = verdict (action_bytes clock t (sender_row t s) b short a) ≡ verdict (from_ten clock (tables_of t) who short (action_as b a))
 
-    gone-cred : length b ≡ 2 → any (hasNumber (rowNumber b)) (map credentialAs (rows Creds t)) ≡ some (goes Number b) (rows Creds t)
-    gone-cred l =
-        any-read credentialAs (Good credSound) (goes Number b) (hasNumber (rowNumber b)) (λ w k. number-key b w h l k.1 (cred-long w k)) (rows Creds t)
-        (creds-good t g)
+    gone_cred : length b ≡ 2 → any (has_number (row_number b)) (map credential_as (rows Creds t)) ≡ some (goes Number b) (rows Creds t)
+    gone_cred l =
+        any_read credential_as (Good cred_sound) (goes Number b) (has_number (row_number b)) (λ w k. number_key b w h l k.1 (cred_long w k)) (rows Creds t)
+        (creds_good t g)
 
-    gone-subject : length b ≡ 16 → any (hasSubject b) (map credentialAs (rows Creds t)) ≡ some (goes Subject b) (rows Creds t)
-    gone-subject l = any-read credentialAs (Good credSound) (goes Subject b) (hasSubject b) (λ w k. subject-key b w l) (rows Creds t) (creds-good t g)
+    gone_subject : length b ≡ 16 → any (has_subject b) (map credential_as (rows Creds t)) ≡ some (goes Subject b) (rows Creds t)
+    gone_subject l = any_read credential_as (Good cred_sound) (goes Subject b) (has_subject b) (λ w k. subject_key b w l) (rows Creds t) (creds_good t g)
 
-    gone-ace : length b ≡ 2 → any (isNumbered (rowNumber b)) (map accessOf (rows Aces t)) ≡ some (goes Number b) (rows Aces t)
-    gone-ace l =
-        any-read accessOf (Good aceStorable) (goes Number b) (isNumbered (rowNumber b)) (λ w k. number-key b w h l k.1 (ace-long w k)) (rows Aces t)
-        (aces-good t g)
+    gone_ace : length b ≡ 2 → any (is_numbered (row_number b)) (map access_of_lem (rows Aces t)) ≡ some (goes Number b) (rows Aces t)
+    gone_ace l =
+        any_read access_of_lem (Good ace_storable) (goes Number b) (is_numbered (row_number b)) (λ w k. number_key b w h l k.1 (ace_long w k)) (rows Aces t)
+        (aces_good t g)
 
-    pub action-checks : (c : ℕ) → c ≡ connectionBit s → (a : ByteAction) → Valid c b a → Removed b a → Same a
-    unfolding actionBytes verdict moveAllowed
-    action-checks c z Serve v k = rw (serves-read t.state st)
-    action-checks c z Read v k = refl
-    action-checks c z (SetRowOwner n) v k = rw (owners-read t.state st)
-    action-checks c z (SetOwner o) v k =
-        rw (owner-read t.state (ownerOf (newOwner b)) st, owned-one (newOwner b) o (rw length-drop (omega (arith, v.0))) v.1)
-    action-checks c z (SetState n) v k = rw (target-read t.state st, move_read t.state n (ownerOf t.devowner) st v, has-owner)
-    action-checks c z (Store Creds) v k =
-        rw (rows-read t.state st, length-map, rows-count Creds t g.isSound, held-cred (row_of Creds b) (v, row-bytes Creds b h))
-    action-checks c z (Store Aces) v k =
-        rw (rows-read t.state st, length-map, rows-count Aces t g.isSound, held-ace (row_of Aces b) (v, row-bytes Aces b h))
-    action-checks c z (Remove Creds All) v k = rw (rows-read t.state st)
-    action-checks c z (Remove Creds Number) v k = rw (rows-read t.state st, gone-cred k)
-    action-checks c z (Remove Creds Subject) v k = rw (rows-read t.state st, gone-subject k)
-    action-checks c z (Remove Aces All) v k = rw (rows-read t.state st)
-    action-checks c z (Remove Aces Number) v k = rw (rows-read t.state st, gone-ace k)
-    action-checks c z (Remove Aces Subject) v k = absurd k
-    action-checks c z (Assert d) v k =
-        let m = credentialOf (tables_of t) s in
-        rw (serves-read t.state st, connection-one s, v.0, z, taken-read clock b (senderRow t s) m (own-reads t g s) h v.1)
-    action-checks c z Malformed v k = refl
+    pub action_checks_lem : (c : ℕ) → c ≡ connectionBit s → (a : ByteAction) → Valid c b a → Removed b a → Same a
+    unfolding action_bytes verdict move_allowed
+    action_checks_lem c z Serve v k = rw (serves_read t.state st)
+    action_checks_lem c z Read v k = refl
+    action_checks_lem c z (SetRowOwner n) v k = rw (owners_read t.state st)
+    action_checks_lem c z (SetOwner o) v k =
+        rw (owner_read t.state (owner_of (new_owner b)) st, owned_one (new_owner b) o (rw length-drop (omega (arith, v.0))) v.1)
+    action_checks_lem c z (SetState n) v k = rw (target_read t.state st, move_read t.state n (owner_of t.devowner) st v, has_owner_lem)
+    action_checks_lem c z (Store Creds) v k =
+        rw (rows_read t.state st, length-map, rows_count Creds t g.is_sound, held_cred (row_of Creds b) (v, row_bytes_lem Creds b h))
+    action_checks_lem c z (Store Aces) v k =
+        rw (rows_read t.state st, length-map, rows_count Aces t g.is_sound, held_ace (row_of Aces b) (v, row_bytes_lem Aces b h))
+    action_checks_lem c z (Remove Creds All) v k = rw (rows_read t.state st)
+    action_checks_lem c z (Remove Creds Number) v k = rw (rows_read t.state st, gone_cred k)
+    action_checks_lem c z (Remove Creds Subject) v k = rw (rows_read t.state st, gone_subject k)
+    action_checks_lem c z (Remove Aces All) v k = rw (rows_read t.state st)
+    action_checks_lem c z (Remove Aces Number) v k = rw (rows_read t.state st, gone_ace k)
+    action_checks_lem c z (Remove Aces Subject) v k = absurd k
+    action_checks_lem c z (Assert d) v k =
+        let m = credential_of (tables_of t) s in
+        rw (serves_read t.state st, connection_one s, v.0, z, taken_read clock b (sender_row t s) m (own_reads t g s) h v.1)
+    action_checks_lem c z Malformed v k = refl
 
 -- ---- the list from 7 on
 
@@ -153,16 +153,16 @@ unfoldable front : Bool → Bool → Bool → Bool → Check → Check
 front a b c d rest = cond a (Refuse 7) (cond b (Refuse 16) (cond c (Refuse 8) (cond d (Refuse 9) rest)))
 
 -- over bytes
-abbrev pub fromSeven : ByteTables → ℕ → ByteRequest → List (ℕ × Bool)
-fromSeven t p q =
+abbrev pub from_seven : ByteTables → ℕ → ByteRequest → List (ℕ × Bool)
+from_seven t p q =
     let r = q.bytes in
-    let h = headerOf r in
-    let w = senderRow t (sender r) in
+    let h = header_of r in
+    let w = sender_row t (sender r) in
     (7, noCredentialBytes (rows Creds t) h)
-    ∷ (16, noEndpoint h)
-    ∷ (8, notPermitted p h)
-    ∷ (9, notOffered h)
-    ∷ actionBytes q.clock t w (body r) (tooShort q.capacity (length (replyToBytes q.clock t w h))) (actionOf h (body r))
+    ∷ (16, no_endpoint h)
+    ∷ (8, not_permitted p h)
+    ∷ (9, not_offered h)
+    ∷ action_bytes q.clock t w (body r) (too_short q.capacity (length (replyToBytes q.clock t w h))) (action_of h (body r))
 
 -- a record with this verb and this resource, as a request
 abbrev pub asked : ByteRequest → Verb → Resource → Request
@@ -174,56 +174,56 @@ asked q v e =
       sender = sender r;
       verb = v;
       resource = e;
-      action = actionAs (body r) (action r);
+      action = action_as (body r) (action r);
       body = body r;
     }
 
 -- the header with this verb and this resource
-abbrev pub headerAs : List ℕ → Verb → Resource → Header
-headerAs r v e = record {
-  verb = verbNumber v;
+abbrev pub header_as : List ℕ → Verb → Resource → Header
+header_as r v e = record {
+  verb = verb_number v;
   connection = connection r;
-  resource = resourceAs e;
-  zeros = headerZeros r;
+  resource = resource_as e;
+  zeros = header_zeros r;
   credential = credential r;
   sender = sender r;
 }
 
 abbrev pub Names : List ℕ → Verb → Resource → Type 0
-Names r v e = headerOf r ≡ headerAs r v e
+Names r v e = header_of r ≡ header_as r v e
 
-not-offered : (v : Verb) (e : Resource) → not (offers e v) ≡ ((entry e).configuration && not (offered (verbNumber v) (number_of e)))
-not-offered v (Security s) = ap not (offers-read s v)
-not-offered v (Application a) = refl
+not_offered_lem : (v : Verb) (e : Resource) → not (offers e v) ≡ ((entry e).configuration && not (offered (verb_number v) (number_of e)))
+not_offered_lem v (Security s) = ap not (offers_read s v)
+not_offered_lem v (Application a) = refl
 
 module _ (t : ByteTables) (g : Given t) (q : ByteRequest) (v : Verb) (e : Resource) (k : Names q.bytes v e) where
   abbrev r : List ℕ
   r = q.bytes
 
-  pub reply-read : replyBytes (replyTo q.clock (tables_of t) (callerOf (tables_of t) (sender r)) v e)
-      ≡ replyToBytes q.clock t (senderRow t (sender r)) (headerOf r)
+  pub reply_read : reply_bytes (reply_to q.clock (tables_of t) (caller_of (tables_of t) (sender r)) v e)
+      ≡ replyToBytes q.clock t (sender_row t (sender r)) (header_of r)
   unfolding replyToBytes reads
-  reply-read = reply-back q.clock t g (sender r) v e ∙ sym (ap (λ (h : Header). replyToBytes q.clock t (senderRow t (sender r)) h) k)
+  reply_read = reply_back q.clock t g (sender r) v e ∙ sym (ap (λ (h : Header). replyToBytes q.clock t (sender_row t (sender r)) h) k)
 
-  pub permission-read : permissionOf (tables_of t) (asked q v e) ≡ permission q.clock t r
+  pub permission_read : permission_of (tables_of t) (asked q v e) ≡ permission q.clock t r
   unfolding permissionOfBytes
-  permission-read =
-      effective-read t g (sender r) q.clock e
-      ∙ sym (ap (λ (h : Header). permissionOfBytes q.clock (head_of t) (rows Aces t) (senderRow t (sender r)) h) k)
+  permission_read =
+      effective_read t g (sender r) q.clock e
+      ∙ sym (ap (λ (h : Header). permissionOfBytes q.clock (head_of t) (rows Aces t) (sender_row t (sender r)) h) k)
 
-  pub checks-read : isBytes r ≡ true → 4 ≤ length r → verdict (fromSeven t (permission q.clock t r) q) ≡ verdict (requestChecks (tables_of t) (asked q v e))
-  unfolding verdict front noCredentialBytes noEndpoint notPermitted notOffered tooShort has hasBytes
-  checks-read h l =
+  pub checks_read : is_bytes r ≡ true → 4 ≤ length r → verdict (from_seven t (permission q.clock t r) q) ≡ verdict (request_checks (tables_of t) (asked q v e))
+  unfolding verdict front noCredentialBytes no_endpoint not_permitted not_offered too_short has hasBytes
+  checks_read h l =
       let s = sender r in
       let b = body r in
       let T = tables_of t in
-      let who = callerOf T s in
+      let who = caller_of T s in
       let p = permission q.clock t r in
-      let long = ltb q.capacity (length (replyToBytes q.clock t (senderRow t s) (headerOf r))) in
+      let long = ltb q.capacity (length (replyToBytes q.clock t (sender_row t s) (header_of r))) in
       let same =
-      action-checks t g s q.clock b (bytes_drop 4 r h) long (connection r) (connection-is r l) (action r) (action-valid r) (removed b (headerOf r)) in
-      ap₂ (λ (x : Header) (c : Check). front (no_row (rows Creds t) s) (noEndpoint x) (notPermitted p x) (notOffered x) c) k same
-      ∙ sym (ap (λ (n : ℕ). front (noCredential T s) (not (takes e (connectionOf s))) (not (has (permissionOf T (asked q v e)) (needs v)))
-      (not (offers e v)) (verdict (fromTen q.clock T who (ltb q.capacity n) (actionAs b (action r)))))
-      (ap length reply-read)
-      ∙ rw (no-credential t g s, takes-read e s (connection r) (connection-is r l), permission-read, needs-read v, not-offered v e))
+      action_checks_lem t g s q.clock b (bytes_drop 4 r h) long (connection r) (connection_is r l) (action r) (action_valid r) (removed b (header_of r)) in
+      ap₂ (λ (x : Header) (c : Check). front (no_row (rows Creds t) s) (no_endpoint x) (not_permitted p x) (not_offered x) c) k same
+      ∙ sym (ap (λ (n : ℕ). front (no_credential T s) (not (takes e (connection_of s))) (not (has (permission_of T (asked q v e)) (needs v)))
+      (not (offers e v)) (verdict (from_ten q.clock T who (ltb q.capacity n) (action_as b (action r)))))
+      (ap length reply_read)
+      ∙ rw (no_credential_lem t g s, takes_read e s (connection r) (connection_is r l), permission_read, needs_read v, not_offered_lem v e))

@@ -1,14 +1,14 @@
 -- The directory over bytes has the typed directory's entries, and no others.
 use Rattle.rows.proofs.Prelude.{◌≡◌, refl, true, false, ℕ, zero, suc, ne_eqb, ◌<◌, ◌≤◌, arith, eqb}
 use Rattle.rules.specs.declared.Resource.{Resource as ByteResource}
-use Rattle.rules.specs.Directory.{entry_of, resourceOf as byteResource, known as knownNumber}
+use Rattle.rules.specs.Directory.{entry_of, resource_of as byteResource, known as knownNumber}
 use Rattle.rules_typed.specs.Lists.{none, just, find}
 use Rattle.rules_typed.specs.Types.{Doxm, Pstat, Cred, Acl2, Roles, Resource, Security, Application, Weight, Tare, Zero, Ticket, Lamp, Calib, Display}
 use Rattle.rules_typed.specs.Types.{Yard}
-use Rattle.rules_typed.specs.Directory.{entry, number_of, resourceOf}
+use Rattle.rules_typed.specs.Directory.{entry, number_of, resource_of}
 
-abbrev pub resourceAs : Resource → ByteResource
-resourceAs e = record {
+abbrev pub resource_as : Resource → ByteResource
+resource_as e = record {
   number = number_of e;
   known = true;
   configuration = (entry e).configuration;
@@ -17,7 +17,7 @@ resourceAs e = record {
   unsecure = (entry e).unsecure;
 }
 
-pub entry_read : (e : Resource) → byteResource (number_of e) ≡ resourceAs e
+pub entry_read : (e : Resource) → byteResource (number_of e) ≡ resource_as e
 unfolding entry_of
 entry_read (Security Doxm) = refl
 entry_read (Security Pstat) = refl
@@ -36,13 +36,13 @@ entry_read (Application Yard) = refl
 -- a number is a resource's, or unknown
 pub data Found : ℕ → Type 0 where
   known : (e : Resource) → Found (number_of e)
-  unknown : {n : ℕ} → knownNumber n ≡ false → resourceOf n ≡ none → Found n
+  unknown : {n : ℕ} → knownNumber n ≡ false → resource_of n ≡ none → Found n
 
 far : (k n : ℕ) → k < n → eqb k n ≡ false
 far k n h = ne_eqb k n (λ e. absurd (omega (arith, e)))
 
-past : (n : ℕ) → 17 ≤ n → resourceOf n ≡ none
-unfolding resourceOf find
+past : (n : ℕ) → 17 ≤ n → resource_of n ≡ none
+unfolding resource_of find
 past n h =
     rw (
       far 0 n (omega arith),
@@ -61,7 +61,7 @@ past n h =
     )
 
 pub found : (n : ℕ) → Found n
-unfolding entry_of resourceOf find
+unfolding entry_of resource_of find
 found zero = known (Security Doxm)
 found (suc zero) = known (Security Pstat)
 found (suc (suc zero)) = known (Security Cred)
@@ -83,18 +83,18 @@ found (suc (suc (suc (suc (suc (suc (suc (suc (suc (suc (suc (suc (suc (suc (suc
     unknown refl (past (suc (suc (suc (suc (suc (suc (suc (suc (suc (suc (suc (suc (suc (suc (suc (suc (suc n))))))))))))))))) (omega arith))
 
 -- it is found by its number
-pub resource-read : (e : Resource) → resourceOf (number_of e) ≡ just e
-unfolding resourceOf find
-resource-read (Security Doxm) = refl
-resource-read (Security Pstat) = refl
-resource-read (Security Cred) = refl
-resource-read (Security Acl2) = refl
-resource-read (Security Roles) = refl
-resource-read (Application Weight) = refl
-resource-read (Application Tare) = refl
-resource-read (Application Zero) = refl
-resource-read (Application Ticket) = refl
-resource-read (Application Lamp) = refl
-resource-read (Application Calib) = refl
-resource-read (Application Display) = refl
-resource-read (Application Yard) = refl
+pub resource_read : (e : Resource) → resource_of (number_of e) ≡ just e
+unfolding resource_of find
+resource_read (Security Doxm) = refl
+resource_read (Security Pstat) = refl
+resource_read (Security Cred) = refl
+resource_read (Security Acl2) = refl
+resource_read (Security Roles) = refl
+resource_read (Application Weight) = refl
+resource_read (Application Tare) = refl
+resource_read (Application Zero) = refl
+resource_read (Application Ticket) = refl
+resource_read (Application Lamp) = refl
+resource_read (Application Calib) = refl
+resource_read (Application Display) = refl
+resource_read (Application Yard) = refl

@@ -3,27 +3,27 @@ use Rattle.rows.proofs.Prelude.{◌≡◌, refl, sym, ap, ap₂, Bool, true, Lis
 use Rattle.rows.proofs.Prelude.{length-take-le, length-drop, ◌&&◌, ◌/◌, ◌%◌, cond, leb, eqb, ◌∙◌, false, length-map, and-true, and-false, replicate}
 use Rattle.rules_typed.specs.Types.{Bytes, Credential, Access}
 use Rattle.rules_typed.specs.Lists.{Maybe, when, distinct, none, just}
-use Rattle.rows.specs.Rows.{Row, every, rows_of, distinctNumbers, allZero}
+use Rattle.rows.specs.Rows.{Row, every, rows_of, distinct_numbers, all_zero}
 use Rattle.rules_typed.proofs.ListLaws.{Each}
-use Rattle.rules_typed.specs.Reading.{read_all, readCredential, credentialAs, readAccess, accessOf, readRows, tables_of, readFresh, state_of, ownerOf}
+use Rattle.rules_typed.specs.Reading.{read_all, read_credential, credential_as, read_access, access_of_lem, read_rows, tables_of, read_fresh, state_of, owner_of}
 use Rattle.rules_typed.specs.Reading.{read_tables}
-use Rattle.rules_typed.specs.Tables.{isBytes, sameCredential, sameAccess, defaultCredentials, defaultAccesses, freshTables, cleared}
+use Rattle.rules_typed.specs.Tables.{is_bytes, same_credential, same_access, default_credentials, default_accesses, fresh_tables, cleared}
 use Rattle.rules_typed.proofs.ByteLaws.{bytes_take, bytes_drop, Good}
-use Rattle.rules.specs.Roles.{credSound, unasserted}
-use Rattle.rules_typed.proofs.ActionRead.{cred-body, stored-read}
-use Rattle.rules.specs.Bodies.{aceStorable, nil as nilBytes}
-use Rattle.rules_typed.proofs.RowExact.{access-exact}
-use Rattle.rows.proofs.Laws.{mul-front, length-rowsOf}
-use Rattle.rules_typed.proofs.SoundExact.{distinct-read, same-credential, good-each, same-access, read_is}
-use Rattle.rules_typed.proofs.RowsRead.{bytes-join, zero-bytes}
-use Rattle.rules.specs.Defaults.{Defaults, defaultRows, goodList, fresh as freshBytes, cleared as clearedBytes}
+use Rattle.rules.specs.Roles.{cred_sound, unasserted}
+use Rattle.rules_typed.proofs.ActionRead.{cred_body_lem, stored_read}
+use Rattle.rules.specs.Bodies.{ace_storable, nil as nilBytes}
+use Rattle.rules_typed.proofs.RowExact.{access_exact}
+use Rattle.rows.proofs.Laws.{mul_front, length_rows_of}
+use Rattle.rules_typed.proofs.SoundExact.{distinct_read, same_credential_lem, good_each, same_access_lem, read_is}
+use Rattle.rules_typed.proofs.RowsRead.{bytes_join, zero_bytes}
+use Rattle.rules.specs.Defaults.{Defaults, default_rows, good_list, fresh as freshBytes, cleared as clearedBytes}
 use Rattle.rules_typed.specs.Struct.{DefaultBytes}
 use Rattle.rules.specs.declared.Table.TheVariants.{Creds, Aces}
-use Rattle.rules.specs.Tables.{empty, withRows}
-use Rattle.rules.proofs.SoundKept.{default-sound, fresh-sound}
-use Rattle.rules.proofs.TableLaws.{rows-with}
+use Rattle.rules.specs.Tables.{empty, with_rows}
+use Rattle.rules.proofs.SoundKept.{default_sound, fresh_sound}
+use Rattle.rules.proofs.TableLaws.{rows_with}
 use Rattle.rules.specs.declared.Tables.{Tables as ByteTables}
-use Rattle.rules_typed.proofs.StructKept.{fresh-struct}
+use Rattle.rules_typed.proofs.StructKept.{fresh_struct}
 
 -- ---- a list whose rows are all read
 
@@ -38,22 +38,22 @@ module _ {A : Type 0} (read : Bytes → Maybe A) (held : Row → Bool) (view : R
 
 -- rows of n bytes
 abbrev Sized : ℕ → Row → Type 0
-Sized n w = (length w ≡ n) × (isBytes w ≡ true)
+Sized n w = (length w ≡ n) × (is_bytes w ≡ true)
 
-rows-sized : (n k : ℕ) (b : List ℕ) → k * n ≤ length b → isBytes b ≡ true → Each (Sized n) (rows_of n k b)
+rows_sized : (n k : ℕ) (b : List ℕ) → k * n ≤ length b → is_bytes b ≡ true → Each (Sized n) (rows_of n k b)
 unfolding rows_of
-rows-sized n zero b l h = tt
-rows-sized n (suc k) b l h =
-    let more : n + k * n ≤ length b = rw (mul-front k n) at l in
-    ((length-take-le n b (omega arith), bytes_take n b h), rows-sized n k (drop n b) (rw length-drop (omega arith)) (bytes_drop n b h))
+rows_sized n zero b l h = tt
+rows_sized n (suc k) b l h =
+    let more : n + k * n ≤ length b = rw (mul_front k n) at l in
+    ((length-take-le n b (omega arith), bytes_take n b h), rows_sized n k (drop n b) (rw length-drop (omega arith)) (bytes_drop n b h))
 
-cred-read : (w : Row) → Sized 23 w → readCredential w ≡ when (credSound (unasserted w)) (credentialAs (unasserted w))
-unfolding readCredential
-cred-read w q = ap₂ (λ (b : Bool) (c : Credential). when b c) (sym (cred-body w q.0 q.1)) (sym (stored-read w q.0))
+cred_read : (w : Row) → Sized 23 w → read_credential w ≡ when (cred_sound (unasserted w)) (credential_as (unasserted w))
+unfolding read_credential
+cred_read w q = ap₂ (λ (b : Bool) (c : Credential). when b c) (sym (cred_body_lem w q.0 q.1)) (sym (stored_read w q.0))
 
-access-read : (w : Row) → Sized 36 w → readAccess w ≡ when (aceStorable w) (accessOf w)
-unfolding readAccess
-access-read w q = ap (λ (b : Bool). when b (accessOf w)) (sym (access-exact w q.1))
+access_read : (w : Row) → Sized 36 w → read_access w ≡ when (ace_storable w) (access_of_lem w)
+unfolding read_access
+access_read w q = ap (λ (b : Bool). when b (access_of_lem w)) (sym (access_exact w q.1))
 
 -- ---- a default list
 
@@ -61,7 +61,7 @@ access-read w q = ap (λ (b : Bool). when b (accessOf w)) (sym (access-exact w q
 module _ {A : Type 0} (n : ℕ) (p : (m : ℕ) → m / n * n ≤ m) (read : Bytes → Maybe A) (row : Row → Row) (held : Row → Bool) (view : Row → A)
     (sameAs : A → A → Bool) (e : (w : Row) → Sized n w → read w ≡ when (held (row w)) (view (row w)))
     (f : (ws : List Row) → Each (Sized n) ws → every held (map row ws) ≡ true
-    → distinct sameAs (map view (map row ws)) ≡ distinctNumbers (map row ws)) where
+    → distinct sameAs (map view (map row ws)) ≡ distinct_numbers (map row ws)) where
   abbrev default : Maybe (List A) → List A
   default none = []
   default (just xs) = cond (leb (length xs) 2 && distinct sameAs xs) xs []
@@ -71,96 +71,96 @@ module _ {A : Type 0} (n : ℕ) (p : (m : ℕ) → m / n * n ≤ m) (read : Byte
   every_map [] = refl
   every_map (w ∷ ws) = ap (λ (b : Bool). held (row w) && b) (every_map ws)
 
-  map-map : (ws : List Row) → map (λ w. view (row w)) ws ≡ map view (map row ws)
-  map-map [] = refl
-  map-map (w ∷ ws) = ap (λ (xs : List A). view (row w) ∷ xs) (map-map ws)
+  map_map : (ws : List Row) → map (λ w. view (row w)) ws ≡ map view (map row ws)
+  map_map [] = refl
+  map_map (w ∷ ws) = ap (λ (xs : List A). view (row w) ∷ xs) (map_map ws)
 
-  module _ (b : List ℕ) (h : isBytes b ≡ true) where
+  module _ (b : List ℕ) (h : is_bytes b ≡ true) where
     abbrev ws : List Row
     ws = rows_of n (length b / n) b
 
     abbrev good : Bool
-    good = leb (length b / n) 2 && eqb (length b % n) 0 && every held (map row ws) && distinctNumbers (map row ws)
+    good = leb (length b / n) 2 && eqb (length b % n) 0 && every held (map row ws) && distinct_numbers (map row ws)
 
     sized : Each (Sized n) ws
-    sized = rows-sized n (length b / n) b (p (length b)) h
+    sized = rows_sized n (length b / n) b (p (length b)) h
 
     is_read : read_all read ws ≡ when (every held (map row ws)) (map view (map row ws))
     is_read =
         all_read read (λ w. held (row w)) (λ w. view (row w)) (Sized n) e ws sized
-        ∙ ap₂ (λ (t : Bool) (xs : List A). when t xs) (every_map ws) (map-map ws)
+        ∙ ap₂ (λ (t : Bool) (xs : List A). when t xs) (every_map ws) (map_map ws)
 
     many : length (map view (map row ws)) ≡ length b / n
-    many = length-map (map row ws) view ∙ length-map ws row ∙ length-rowsOf n (length b / n) b
+    many = length-map (map row ws) view ∙ length-map ws row ∙ length_rows_of n (length b / n) b
 
-    map-cond : (t : Bool) → cond t (map view (map row ws)) [] ≡ map view (cond t (map row ws) [])
-    map-cond true = refl
-    map-cond false = refl
+    map_cond : (t : Bool) → cond t (map view (map row ws)) [] ≡ map view (cond t (map row ws) [])
+    map_cond true = refl
+    map_cond false = refl
 
-    pub default-read : default (readRows n read b) ≡ map view (cond good (map row ws) [])
-    unfolding readRows when
-    default-read =
+    pub default_read : default (read_rows n read b) ≡ map view (cond good (map row ws) [])
+    unfolding read_rows when
+    default_read =
         bool_cases (eqb (length b % n) 0)
         (λ x. bool_cases (every held (map row ws))
-        (λ y. rw (x, is_read, y, many, f ws sized y, and-true, and-true) (map-cond (leb (length b / n) 2 && distinctNumbers (map row ws))))
+        (λ y. rw (x, is_read, y, many, f ws sized y, and-true, and-true) (map_cond (leb (length b / n) 2 && distinct_numbers (map row ws))))
         (λ y. rw (x, is_read, y, and-false)))
         (λ x. rw (x, and-false))
 
 -- ---- the fresh tables
 
-unasserted-bytes : (ws : List Row) → Each (Sized 23) ws → Each (λ w. isBytes w ≡ true) (map unasserted ws)
-unasserted-bytes [] q = tt
-unasserted-bytes (w ∷ ws) q = (bytes-join w (replicate 16 0) q.0.1 (zero-bytes 16), unasserted-bytes ws q.1)
+unasserted_bytes : (ws : List Row) → Each (Sized 23) ws → Each (λ w. is_bytes w ≡ true) (map unasserted ws)
+unasserted_bytes [] q = tt
+unasserted_bytes (w ∷ ws) q = (bytes_join w (replicate 16 0) q.0.1 (zero_bytes 16), unasserted_bytes ws q.1)
 
-same_bytes : (ws : List Row) → Each (Sized 36) ws → Each (λ w. isBytes w ≡ true) (map (λ w. w) ws)
+same_bytes : (ws : List Row) → Each (Sized 36) ws → Each (λ w. is_bytes w ≡ true) (map (λ w. w) ws)
 same_bytes [] q = tt
 same_bytes (w ∷ ws) q = (q.0.1, same_bytes ws q.1)
 
-distinct-creds : (ws : List Row) → Each (Sized 23) ws → every credSound (map unasserted ws) ≡ true
-    → distinct sameCredential (map credentialAs (map unasserted ws)) ≡ distinctNumbers (map unasserted ws)
-distinct-creds ws q h =
-    distinct-read credentialAs (Good credSound) sameCredential same-credential (map unasserted ws)
-    (good-each credSound (map unasserted ws) h (unasserted-bytes ws q))
+distinct_creds : (ws : List Row) → Each (Sized 23) ws → every cred_sound (map unasserted ws) ≡ true
+    → distinct same_credential (map credential_as (map unasserted ws)) ≡ distinct_numbers (map unasserted ws)
+distinct_creds ws q h =
+    distinct_read credential_as (Good cred_sound) same_credential same_credential_lem (map unasserted ws)
+    (good_each cred_sound (map unasserted ws) h (unasserted_bytes ws q))
 
-distinct-aces : (ws : List Row) → Each (Sized 36) ws → every aceStorable (map (λ w. w) ws) ≡ true
-    → distinct sameAccess (map accessOf (map (λ w. w) ws)) ≡ distinctNumbers (map (λ w. w) ws)
-distinct-aces ws q h =
-    distinct-read accessOf (Good aceStorable) sameAccess same-access (map (λ w. w) ws) (good-each aceStorable (map (λ w. w) ws) h (same_bytes ws q))
+distinct_aces : (ws : List Row) → Each (Sized 36) ws → every ace_storable (map (λ w. w) ws) ≡ true
+    → distinct same_access (map access_of_lem (map (λ w. w) ws)) ≡ distinct_numbers (map (λ w. w) ws)
+distinct_aces ws q h =
+    distinct_read access_of_lem (Good ace_storable) same_access same_access_lem (map (λ w. w) ws) (good_each ace_storable (map (λ w. w) ws) h (same_bytes ws q))
 
-same-default-creds : (m : Maybe (List Credential))
-    → defaultCredentials m ≡ default 23 (λ m. omega arith) readCredential unasserted credSound credentialAs sameCredential cred-read distinct-creds m
-same-default-creds none = refl
-same-default-creds (just cs) = refl
+same_default_creds : (m : Maybe (List Credential))
+    → default_credentials m ≡ default 23 (λ m. omega arith) read_credential unasserted cred_sound credential_as same_credential cred_read distinct_creds m
+same_default_creds none = refl
+same_default_creds (just cs) = refl
 
-same-default-aces : (m : Maybe (List Access))
-    → defaultAccesses m ≡ default 36 (λ m. omega arith) readAccess (λ w. w) aceStorable accessOf sameAccess access-read distinct-aces m
-same-default-aces none = refl
-same-default-aces (just cs) = refl
+same_default_aces : (m : Maybe (List Access))
+    → default_accesses m ≡ default 36 (λ m. omega arith) read_access (λ w. w) ace_storable access_of_lem same_access access_read distinct_aces m
+same_default_aces none = refl
+same_default_aces (just cs) = refl
 
 module _ (d : Defaults) (e : DefaultBytes d) where
-  creds-are : defaultCredentials (readRows 23 readCredential d.creds) ≡ map credentialAs (defaultRows Creds d.creds)
-  unfolding defaultRows goodList
-  creds-are =
-      same-default-creds (readRows 23 readCredential d.creds)
-      ∙ default-read 23 (λ m. omega arith) readCredential unasserted credSound credentialAs sameCredential cred-read distinct-creds d.creds e.creds
+  creds_are : default_credentials (read_rows 23 read_credential d.creds) ≡ map credential_as (default_rows Creds d.creds)
+  unfolding default_rows good_list
+  creds_are =
+      same_default_creds (read_rows 23 read_credential d.creds)
+      ∙ default_read 23 (λ m. omega arith) read_credential unasserted cred_sound credential_as same_credential cred_read distinct_creds d.creds e.creds
 
-  aces-are : defaultAccesses (readRows 36 readAccess d.aces) ≡ map accessOf (defaultRows Aces d.aces)
-  unfolding defaultRows goodList
-  aces-are =
-      same-default-aces (readRows 36 readAccess d.aces)
-      ∙ default-read 36 (λ m. omega arith) readAccess (λ w. w) aceStorable accessOf sameAccess access-read distinct-aces d.aces e.aces
+  aces_are : default_accesses (read_rows 36 read_access d.aces) ≡ map access_of_lem (default_rows Aces d.aces)
+  unfolding default_rows good_list
+  aces_are =
+      same_default_aces (read_rows 36 read_access d.aces)
+      ∙ default_read 36 (λ m. omega arith) read_access (λ w. w) ace_storable access_of_lem same_access access_read distinct_aces d.aces e.aces
 
-  pub fresh-read : tables_of (freshBytes d) ≡ readFresh d
-  unfolding freshBytes readFresh empty nilBytes state_of ownerOf allZero rows_of
-  fresh-read =
-      let c = default-sound Creds d.creds in
-      let a = default-sound Aces d.aces in
-      ap₂ freshTables
-      (ap (map credentialAs) (rows-with Creds empty (defaultRows Creds d.creds) c.few c.stores) ∙ sym creds-are)
-      (ap (map accessOf) (rows-with Aces (withRows Creds empty (defaultRows Creds d.creds)) (defaultRows Aces d.aces) a.few a.stores)
-      ∙ sym aces-are)
+  pub fresh_read : tables_of (freshBytes d) ≡ read_fresh d
+  unfolding freshBytes read_fresh empty nilBytes state_of owner_of all_zero rows_of
+  fresh_read =
+      let c = default_sound Creds d.creds in
+      let a = default_sound Aces d.aces in
+      ap₂ fresh_tables
+      (ap (map credential_as) (rows_with Creds empty (default_rows Creds d.creds) c.few c.stores) ∙ sym creds_are)
+      (ap (map access_of_lem) (rows_with Aces (with_rows Creds empty (default_rows Creds d.creds)) (default_rows Aces d.aces) a.few a.stores)
+      ∙ sym aces_are)
 
   -- the clear button: the fresh tables are sound, and are read as such
-  pub clear-read : (t : ByteTables) → read_tables (clearedBytes d t) ≡ just (cleared (readFresh d) (read_tables t))
+  pub clear_read : (t : ByteTables) → read_tables (clearedBytes d t) ≡ just (cleared (read_fresh d) (read_tables t))
   unfolding clearedBytes when
-  clear-read t = read_is (freshBytes d) (fresh-struct d e) ∙ rw (fresh-sound d, fresh-read)
+  clear_read t = read_is (freshBytes d) (fresh_struct d e) ∙ rw (fresh_sound d, fresh_read)

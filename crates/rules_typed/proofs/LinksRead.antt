@@ -5,59 +5,59 @@ use native.Mathlib.Nat.{zero-add}
 use Rattle.rules.specs.declared.Tables.{Tables as ByteTables}
 use Rattle.rules.specs.declared.Check.TheVariants.{Pass}
 use Rattle.rules.specs.Bits.{be16}
-use Rattle.rules.specs.Record.{Request as ByteRequest, received, headerOf, sender, verb, connection, credential, resource, headerZeros, body}
-use Rattle.rules.specs.Directory.{yard, resourceOf as byteResource, known as knownNumber}
+use Rattle.rules.specs.Record.{Request as ByteRequest, received, header_of, sender, verb, connection, credential, resource, header_zeros, body}
+use Rattle.rules.specs.Directory.{yard, resource_of as byteResource, known as knownNumber}
 use Rattle.rules.specs.Permission.{permission}
-use Rattle.rules.specs.Action.{actionOf, action}
-use Rattle.rules.specs.Checks.{verdict, isPass, badLength, noVerb, zeroBitSet, mismatch, unknownResource, checks as checksBytes}
-use Rattle.rules.specs.Contracts.Groups.{headerChecks}
-use Rattle.rules.specs.Links.{ownRecord, permits, setOf, asksLinks as asksLinksBytes, linkSet, linksOf as linksOfBytes}
+use Rattle.rules.specs.Action.{action_of, action}
+use Rattle.rules.specs.Checks.{verdict, is_pass, bad_length, no_verb, zero_bit_set, mismatch, unknown_resource, checks as checksBytes}
+use Rattle.rules.specs.Promises.Groups.{header_checks}
+use Rattle.rules.specs.Links.{own_record, permits, set_of, asks_links as asksLinksBytes, link_set, links_of as linksOfBytes}
 use Rattle.rules.proofs.BitLaws.{bits_small}
 use Rattle.rules.proofs.CheckLaws.{skip_all}
-use Rattle.rules.proofs.Answers.{passed, long-enough}
+use Rattle.rules.proofs.Answers.{passed, long_enough}
 use Rattle.rules.proofs.LinkLaws.{own}
 use Rattle.rules_typed.specs.Lists.{without, Maybe, just}
 use Rattle.rules_typed.specs.Types.{Request, Verb, Create, Retrieve, Update, Delete, Observe, Resource, Application, ApplicationResource, Weight, Tare}
 use Rattle.rules_typed.specs.Types.{Zero, Ticket, Lamp, Calib, Display, Yard, Serve, Action}
-use Rattle.rules_typed.specs.Checks.{requestChecks, verdict as decision}
-use Rattle.rules_typed.specs.Outcome.{linked, asksLinks, linksOf, is_refused, isYard}
+use Rattle.rules_typed.specs.Checks.{request_checks, verdict as decision}
+use Rattle.rules_typed.specs.Outcome.{linked, asks_links, links_of, is_refused, is_yard}
 use Rattle.rules_typed.specs.Struct.{Given}
 use Rattle.rules_typed.specs.Reading.{tables_of}
-use Rattle.rules_typed.specs.Tables.{isBytes}
-use Rattle.rules_typed.specs.Writing.{writtenLinks}
-use Rattle.rules_typed.proofs.StateRead.{verbNumber}
-use Rattle.rules_typed.proofs.ChecksRead.{actionBytes, fromSeven, checks-read, Names, asked}
+use Rattle.rules_typed.specs.Tables.{is_bytes}
+use Rattle.rules_typed.specs.Writing.{written_links}
+use Rattle.rules_typed.proofs.StateRead.{verb_number}
+use Rattle.rules_typed.proofs.ChecksRead.{action_bytes, from_seven, checks_read, Names, asked}
 use Rattle.rules.specs.declared.Header.{Header}
 use Rattle.rules.specs.declared.Sender.{Sender}
 use Rattle.rules.specs.declared.Resource.{Resource as ByteResource}
 use Rattle.rules_typed.proofs.DirectoryRead.{entry_read}
-use Rattle.rules_typed.proofs.Verdicts.{pass-read}
-use Rattle.rules_typed.proofs.ActionAs.{actionAs}
+use Rattle.rules_typed.proofs.Verdicts.{pass_read}
+use Rattle.rules_typed.proofs.ActionAs.{action_as}
 use Rattle.rules_typed.specs.Directory.{number_of, row_of, links}
 
 abbrev pub form : List ℕ → List (ℕ × Bool)
-form r = headerChecks (length r) (headerOf r)
+form r = header_checks (length r) (header_of r)
 
 -- with sound tables: 2 to 6, and the others
-pub two-parts : (t : ByteTables) → Given t → (p : ℕ) (q : ByteRequest) → verdict (checksBytes t p q) ≡ verdict (form q.bytes ++ fromSeven t p q)
-unfolding verdict actionBytes
-two-parts t g p q = rw g.isSound
+pub two_parts : (t : ByteTables) → Given t → (p : ℕ) (q : ByteRequest) → verdict (checksBytes t p q) ≡ verdict (form q.bytes ++ from_seven t p q)
+unfolding verdict action_bytes
+two_parts t g p q = rw g.is_sound
 
 -- a record that passes 2 to 6 gets the typed decision
-pub decided-read : (t : ByteTables) → Given t → (q : ByteRequest) (v : Verb) (e : Resource) → Names q.bytes v e → isBytes q.bytes ≡ true
-    → verdict (form q.bytes) ≡ Pass → verdict (checksBytes t (permission q.clock t q.bytes) q) ≡ verdict (requestChecks (tables_of t) (asked q v e))
-decided-read t g q v e k h f =
+pub decided_read : (t : ByteTables) → Given t → (q : ByteRequest) (v : Verb) (e : Resource) → Names q.bytes v e → is_bytes q.bytes ≡ true
+    → verdict (form q.bytes) ≡ Pass → verdict (checksBytes t (permission q.clock t q.bytes) q) ≡ verdict (request_checks (tables_of t) (asked q v e))
+decided_read t g q v e k h f =
     let r = q.bytes in
     let p = permission q.clock t r in
-    two-parts t g p q
-    ∙ sym (skip_all (form r) (fromSeven t p q) refl f refl)
-    ∙ checks-read t g q v e k h (long-enough r (passed (form r) f 2))
+    two_parts t g p q
+    ∙ sym (skip_all (form r) (from_seven t p q) refl f refl)
+    ∙ checks_read t g q v e k h (long_enough r (passed (form r) f 2))
 
 -- ---- a link's own record
 
-own-bytes : (r : List ℕ) (n : ℕ) → n < 64 → isBytes (ownRecord r n) ≡ true
-unfolding isBytes ownRecord be16
-own-bytes r n l =
+own_bytes : (r : List ℕ) (n : ℕ) → n < 64 → is_bytes (own_record r n) ≡ true
+unfolding is_bytes own_record be16
+own_bytes r n l =
     let v = bits_small r 0 3 in
     let c = bits_small r 3 1 in
     let k = bits_small r 16 16 in
@@ -83,93 +83,93 @@ below Calib = omega arith
 below Display = omega arith
 below Yard = omega arith
 
-set-kept : (refuses : ApplicationResource → Bool) (p : ℕ → Bool) → ((a : ApplicationResource) → p (number a) ≡ not (refuses a))
+set_kept : (refuses : ApplicationResource → Bool) (p : ℕ → Bool) → ((a : ApplicationResource) → p (number a) ≡ not (refuses a))
     → (xs : List ApplicationResource)
-    → setOf (λ _. true) (map number (without refuses xs)) ≡ setOf p (map number xs)
-unfolding setOf without
-set-kept refuses p h [] = refl
-set-kept refuses p h (a ∷ xs) =
-    rw (h a) (bool_cases (refuses a) (λ f. rw (f, set-kept refuses p h xs, zero-add)) (λ f. rw (f, set-kept refuses p h xs)))
+    → set_of (λ _. true) (map number (without refuses xs)) ≡ set_of p (map number xs)
+unfolding set_of without
+set_kept refuses p h [] = refl
+set_kept refuses p h (a ∷ xs) =
+    rw (h a) (bool_cases (refuses a) (λ f. rw (f, set_kept refuses p h xs, zero-add)) (λ f. rw (f, set_kept refuses p h xs)))
 
 module _ (t : ByteTables) (g : Given t) (q : ByteRequest) (v : Verb) (e : Resource) (k : Names q.bytes v e) (f : verdict (form q.bytes) ≡ Pass) where
   abbrev r : List ℕ
   r = q.bytes
 
   long : 4 ≤ length r
-  long = long-enough r (passed (form r) f 2)
+  long = long_enough r (passed (form r) f 2)
 
-  verb-is : verb r ≡ verbNumber v
-  verb-is = ap (λ (h : Header). h.verb) k
+  verb_is : verb r ≡ verb_number v
+  verb_is = ap (λ (h : Header). h.verb) k
 
   module _ (a : ApplicationResource) (l : (row_of a).number < 64) where
     abbrev n : ℕ
     n = (row_of a).number
 
     abbrev o : List ℕ
-    o = ownRecord r n
+    o = own_record r n
 
-    own-names : Names o v (Application a)
-    own-names =
+    own_names : Names o v (Application a)
+    own_names =
         let x = own r n long l in
         ap₂ (λ (w : ℕ) (z : ByteResource). record {
           verb = w;
           connection = connection o;
           resource = z;
-          zeros = headerZeros o;
+          zeros = header_zeros o;
           credential = credential o;
           sender = sender o;
         })
-        (x.verb-same ∙ verb-is) (ap byteResource x.resource-is ∙ entry_read (Application a))
+        (x.verb_same ∙ verb_is) (ap byteResource x.resource_is ∙ entry_read (Application a))
 
-    own-form : verdict (form o) ≡ Pass
-    unfolding verdict badLength noVerb zeroBitSet mismatch unknownResource ownRecord be16
-    own-form =
+    own_form : verdict (form o) ≡ Pass
+    unfolding verdict bad_length no_verb zero_bit_set mismatch unknown_resource own_record be16
+    own_form =
         let x = own r n long l in
-        let there : knownNumber (resource o) ≡ true = ap (λ (h : Header). h.resource.known) own-names in
-        rw (there, x.verb-same, x.zeros, x.connection-same, x.credential-same, passed (form r) f 3, passed (form r) f 5)
+        let there : knownNumber (resource o) ≡ true = ap (λ (h : Header). h.resource.known) own_names in
+        rw (there, x.verb_same, x.zeros, x.connection_same, x.credential_same, passed (form r) f 3, passed (form r) f 5)
 
     abbrev alone : Sender → Maybe Action → List ℕ → Request
     alone s m b = record { clock = q.clock; capacity = 0; sender = s; verb = v; resource = Application a; action = m; body = b }
 
-    own-request : asked (received q.clock o 0) v (Application a) ≡ linked (asked q v e) a
-    unfolding actionOf
-    own-request =
+    own_request : asked (received q.clock o 0) v (Application a) ≡ linked (asked q v e) a
+    unfolding action_of
+    own_request =
         let x = own r n long l in
-        ap (λ (s : Sender). alone s (actionAs (body o) (action o)) (body o)) x.sender-same
-        ∙ ap (λ (h : Header). alone (sender r) (actionAs (body o) (actionOf h (body o))) (body o)) own-names
+        ap (λ (s : Sender). alone s (action_as (body o) (action o)) (body o)) x.sender_same
+        ∙ ap (λ (h : Header). alone (sender r) (action_as (body o) (action_of h (body o))) (body o)) own_names
         ∙ ap (λ (b : List ℕ). alone (sender r) (just Serve) b) x.no_body
 
-    pub permits-read : permits q.clock t o ≡ not (is_refused (decision (requestChecks (tables_of t) (linked (asked q v e) a))))
+    pub permits_read : permits q.clock t o ≡ not (is_refused (decision (request_checks (tables_of t) (linked (asked q v e) a))))
     unfolding permits
-    permits-read =
-        ap isPass (decided-read t g (received q.clock o 0) v (Application a) own-names (own-bytes r n l) own-form)
-        ∙ ap (λ (x : Request). isPass (verdict (requestChecks (tables_of t) x))) own-request
-        ∙ pass-read (requestChecks (tables_of t) (linked (asked q v e) a))
+    permits_read =
+        ap is_pass (decided_read t g (received q.clock o 0) v (Application a) own_names (own_bytes r n l) own_form)
+        ∙ ap (λ (x : Request). is_pass (verdict (request_checks (tables_of t) x))) own_request
+        ∙ pass_read (request_checks (tables_of t) (linked (asked q v e) a))
 
   -- ---- the set
 
   abbrev refuses : ApplicationResource → Bool
-  refuses a = is_refused (decision (requestChecks (tables_of t) (linked (asked q v e) a)))
+  refuses a = is_refused (decision (request_checks (tables_of t) (linked (asked q v e) a)))
 
-  asks_read : asksLinks v e ≡ asksLinksBytes (headerOf r)
+  asks_read : asks_links v e ≡ asksLinksBytes (header_of r)
   unfolding asksLinksBytes
   asks_read = asks v ∙ sym (ap (λ (h : Header). asksLinksBytes h) k)
     where
-      asks : (w : Verb) → asksLinks w e ≡ (eqb (number_of e) yard && (eqb (verbNumber w) 1 || eqb (verbNumber w) 2))
-      asks Create = sym (and-false (isYard e))
-      asks Retrieve = sym (and-true (isYard e))
-      asks Update = sym (and-true (isYard e))
-      asks Delete = sym (and-false (isYard e))
-      asks Observe = sym (and-false (isYard e))
+      asks : (w : Verb) → asks_links w e ≡ (eqb (number_of e) yard && (eqb (verb_number w) 1 || eqb (verb_number w) 2))
+      asks Create = sym (and-false (is_yard e))
+      asks Retrieve = sym (and-true (is_yard e))
+      asks Update = sym (and-true (is_yard e))
+      asks Delete = sym (and-false (is_yard e))
+      asks Observe = sym (and-false (is_yard e))
 
-  links-set : setOf (λ _. true) (map number (linksOf (tables_of t) (asked q v e))) ≡ linkSet q.clock t r
-  unfolding linksOf linkSet setOf
-  links-set =
+  links_set : set_of (λ _. true) (map number (links_of (tables_of t) (asked q v e))) ≡ link_set q.clock t r
+  unfolding links_of link_set set_of
+  links_set =
       rw asks_read
-      (bool_cases (asksLinksBytes (headerOf r))
-      (λ f. rw f (set-kept refuses (λ n. permits q.clock t (ownRecord r n)) (λ a. permits-read a (below a)) links))
+      (bool_cases (asksLinksBytes (header_of r))
+      (λ f. rw f (set_kept refuses (λ n. permits q.clock t (own_record r n)) (λ a. permits_read a (below a)) links))
       (λ f. rw f))
 
-  pub links-read : writtenLinks (map number (linksOf (tables_of t) (asked q v e))) ≡ linksOfBytes q.clock t r
-  unfolding writtenLinks
-  links-read = ap (λ (s : ℕ). record { set = s; size = ones s }) links-set
+  pub links_read : written_links (map number (links_of (tables_of t) (asked q v e))) ≡ linksOfBytes q.clock t r
+  unfolding written_links
+  links_read = ap (λ (s : ℕ). record { set = s; size = ones s }) links_set

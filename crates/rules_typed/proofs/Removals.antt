@@ -7,11 +7,11 @@ use Rattle.rules.specs.declared.Action.{Action}
 use Rattle.rules.specs.declared.Action.TheVariants.{Serve, Read, SetRowOwner, SetOwner, SetState, Store, Remove, Assert, Malformed}
 use Rattle.rules.specs.declared.Header.{Header}
 use Rattle.rules.specs.Directory.{doxm, pstat, cred, acl2, roles}
-use Rattle.rules.specs.Bodies.{isNil, newOwned, ownerBody, target, stateBody, rowNumber}
-use Rattle.rules.specs.Roles.{noRole}
+use Rattle.rules.specs.Bodies.{is_nil, new_owned, owner_body, target, state_body, row_number}
+use Rattle.rules.specs.Roles.{no_role}
 use Rattle.rules.specs.Tables.{storable, row_of}
-use Rattle.rules.specs.Action.{ifAllowed, updateDoxm, updatePstat, storeRow, updateRows, updateRoles, updateAction, deleteNumber, deleteAces, deleteCreds}
-use Rattle.rules.specs.Action.{deleteAction, readAction, securityAction, actionOf}
+use Rattle.rules.specs.Action.{if_allowed, update_doxm, update_pstat, store_row, update_rows, update_roles, update_action, delete_number, delete_aces, delete_creds}
+use Rattle.rules.specs.Action.{delete_action, read_action, security_action, action_of}
 
 abbrev pub Removed : List ℕ → Action → Type 0
 Removed b Serve = Unit {0}
@@ -35,41 +35,41 @@ module _ (b : List ℕ) where
   abbrev P : Action → Type 0
   P a = Removed b a
 
-  allowed : (t : Bool) (a : Action) → P a → P (ifAllowed t a)
-  unfolding ifAllowed
+  allowed : (t : Bool) (a : Action) → P a → P (if_allowed t a)
+  unfolding if_allowed
   allowed t a p = cond_cases P t (λ _. p) (λ _. tt)
 
-  number : (k : Table) → length b ≡ 2 → P (deleteNumber k b)
-  unfolding deleteNumber
-  number k l = allowed (not (eqb (rowNumber b) 0)) (Remove k Number) l
+  number : (k : Table) → length b ≡ 2 → P (delete_number k b)
+  unfolding delete_number
+  number k l = allowed (not (eqb (row_number b) 0)) (Remove k Number) l
 
-  deletes : (n : ℕ) → P (deleteAction n b)
-  unfolding deleteAction deleteCreds deleteAces
+  deletes : (n : ℕ) → P (delete_action n b)
+  unfolding delete_action delete_creds delete_aces
   deletes n =
       pick P n cred
       (λ _. pick P (length b) 0 (λ _. tt) (pick P (length b) 2 (number Creds)
-      (pick P (length b) 16 (λ l. allowed (not (isNil b)) (Remove Creds Subject) l) tt)))
+      (pick P (length b) 16 (λ l. allowed (not (is_nil b)) (Remove Creds Subject) l) tt)))
       (pick P n acl2 (λ _. pick P (length b) 0 (λ _. tt) (pick P (length b) 2 (number Aces) tt)) tt)
 
-  rows : (n : ℕ) (k : Table) → P (updateRows n k b)
-  unfolding updateRows storeRow
+  rows : (n : ℕ) (k : Table) → P (update_rows n k b)
+  unfolding update_rows store_row
   rows n k = pick P (length b) 16 (λ _. tt) (allowed (storable k (row_of k b)) (Store k) tt)
 
-  updates : (c n : ℕ) → P (updateAction c n b)
-  unfolding updateAction updateDoxm updatePstat updateRoles
+  updates : (c n : ℕ) → P (update_action c n b)
+  unfolding update_action update_doxm update_pstat update_roles
   updates c n =
-      pick P n doxm (λ _. pick P (length b) 16 (λ _. tt) (pick P (length b) 17 (λ _. allowed (ownerBody b) (SetOwner (newOwned b)) tt) tt))
-      (pick P n pstat (λ _. pick P (length b) 16 (λ _. tt) (pick P (length b) 1 (λ _. allowed (stateBody b) (SetState (target b)) tt) tt))
+      pick P n doxm (λ _. pick P (length b) 16 (λ _. tt) (pick P (length b) 17 (λ _. allowed (owner_body b) (SetOwner (new_owned b)) tt) tt))
+      (pick P n pstat (λ _. pick P (length b) 16 (λ _. tt) (pick P (length b) 1 (λ _. allowed (state_body b) (SetState (target b)) tt) tt))
       (pick P n cred (λ _. rows cred Creds)
       (pick P n acl2 (λ _. rows acl2 Aces)
-      (pick P n roles (λ _. pick P (length b) 8 (λ _. allowed (not (noRole b)) (Assert c) tt) tt) tt))))
+      (pick P n roles (λ _. pick P (length b) 8 (λ _. allowed (not (no_role b)) (Assert c) tt) tt) tt))))
 
-  reads : P (readAction b)
-  unfolding readAction
+  reads : P (read_action b)
+  unfolding read_action
   reads = pick P (length b) 0 (λ _. tt) tt
 
-  pub removed : (h : Header) → P (actionOf h b)
-  unfolding actionOf securityAction
+  pub removed : (h : Header) → P (action_of h b)
+  unfolding action_of security_action
   removed h =
       cond_cases P h.resource.configuration
       (λ _. pick P h.verb 1 (λ _. reads)

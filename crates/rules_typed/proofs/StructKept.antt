@@ -1,212 +1,212 @@
 -- A record leaves arrays of bytes, of the struct's lengths.
 use Rattle.rows.proofs.Prelude.{◌≡◌, refl, Bool, true, List, [], ◌∷◌, map, ℕ, zero, suc, ◌-◌, ◌*◌, ◌/◌, ◌≤◌, arith, length, take, drop, replicate, eqb}
 use Rattle.rows.proofs.Prelude.{cond_cases, length-append, length-take, length-drop}
-use Rattle.rows.specs.Rows.{Row, rows_of, joined, packed, with_row, stored as storedRows, numberedAs}
-use Rattle.rows.proofs.Kept.{every-long, length-packed}
+use Rattle.rows.specs.Rows.{Row, rows_of, joined, packed, with_row, stored as storedRows, numbered_as}
+use Rattle.rows.proofs.Kept.{every_long, length_packed}
 use Rattle.rules.specs.declared.Tables.{Tables as ByteTables}
 use Rattle.rules.specs.declared.Table.{Table}
 use Rattle.rules.specs.declared.Table.TheVariants.{Creds, Aces}
 use Rattle.rules.specs.declared.Action.{Action as ByteAction}
 use Rattle.rules.specs.declared.Action.TheVariants.{Serve, Read, SetRowOwner, SetOwner, SetState, Store, Remove, Assert, Malformed}
 use Rattle.rules.specs.Record.{Request as ByteRequest, body, sender}
-use Rattle.rules.specs.Bodies.{nil, newOwner}
-use Rattle.rules.specs.Roles.{credSound, asserted}
-use Rattle.rules.specs.Sizes.{rolesSize}
+use Rattle.rules.specs.Bodies.{nil, new_owner}
+use Rattle.rules.specs.Roles.{cred_sound, asserted}
+use Rattle.rules.specs.Sizes.{roles_size}
 use Rattle.rules.specs.Keys.{goes}
-use Rattle.rules.specs.Tables.{rows, row_of, rowFrom, withRows, stride, storable, longest, empty, tableSize, withRowOwner, withOwner, withState, SoundRows}
-use Rattle.rules.specs.Defaults.{Defaults, goodList, defaultRows, fresh}
-use Rattle.rules.specs.Permission.{senderRow, permission}
+use Rattle.rules.specs.Tables.{rows, row_of, row_from, with_rows, stride, storable, longest, empty, table_size, with_row_owner, with_owner, with_state, SoundRows}
+use Rattle.rules.specs.Defaults.{Defaults, good_list, default_rows, fresh}
+use Rattle.rules.specs.Permission.{sender_row, permission}
 use Rattle.rules.specs.Action.{action}
 use Rattle.rules.specs.Checks.{verdict, checks}
-use Rattle.rules.specs.Outcome.{entered, effectBy, outcome, outcomeAt, tablesAfter}
+use Rattle.rules.specs.Outcome.{entered, effect_by, outcome, outcome_at, tables_after}
 use Rattle.rules.proofs.BodyLaws.{sized}
-use Rattle.rules.proofs.CheckLaws.{check-cases}
-use Rattle.rules.proofs.SoundKept.{Passed, passed-all, default-sound, stored-sound, removed-sound, asserted-sound, sound-kept}
-use Rattle.rules.proofs.OwnRow.{asserts, own-storable}
+use Rattle.rules.proofs.CheckLaws.{check_cases}
+use Rattle.rules.proofs.SoundKept.{Passed, passed_all, default_sound, stored_sound, removed_sound, asserted_sound, sound_kept}
+use Rattle.rules.proofs.OwnRow.{asserts, own_storable}
 use Rattle.rules_typed.specs.Lists.{Maybe}
 use Rattle.rules_typed.specs.Types.{Credential}
-use Rattle.rules_typed.specs.Tables.{isBytes}
+use Rattle.rules_typed.specs.Tables.{is_bytes}
 use Rattle.rules_typed.specs.Struct.{IsStruct, Given, DefaultBytes}
 use Rattle.rules_typed.proofs.ListLaws.{Each}
 use Rattle.rules_typed.proofs.ByteLaws.{Good, bytes_take, bytes_drop}
-use Rattle.rules_typed.proofs.PermissionRead.{Reads, absent, present, creds-good, aces-good, own-reads}
-use Rattle.rules_typed.proofs.RowsRead.{bytes-join, zero-bytes, row-bytes, each-without}
-use Rattle.rules_typed.proofs.RoleRead.{asserted-good}
+use Rattle.rules_typed.proofs.PermissionRead.{Reads, absent, present, creds_good, aces_good, own_reads}
+use Rattle.rules_typed.proofs.RowsRead.{bytes_join, zero_bytes, row_bytes_lem, each_without}
+use Rattle.rules_typed.proofs.RoleRead.{asserted_good}
 
 abbrev IsBytes : Row → Type 0
-IsBytes w = isBytes w ≡ true
+IsBytes w = is_bytes w ≡ true
 
-bytes-joined : (ws : List Row) → Each IsBytes ws → isBytes (joined ws) ≡ true
-unfolding joined isBytes
-bytes-joined [] q = refl
-bytes-joined (w ∷ ws) q = bytes-join w (joined ws) q.0 (bytes-joined ws q.1)
+bytes_joined : (ws : List Row) → Each IsBytes ws → is_bytes (joined ws) ≡ true
+unfolding joined is_bytes
+bytes_joined [] q = refl
+bytes_joined (w ∷ ws) q = bytes_join w (joined ws) q.0 (bytes_joined ws q.1)
 
-bytes_packed : (n : ℕ) (ws : List Row) → Each IsBytes ws → isBytes (packed n ws) ≡ true
+bytes_packed : (n : ℕ) (ws : List Row) → Each IsBytes ws → is_bytes (packed n ws) ≡ true
 unfolding packed
-bytes_packed n ws q = bytes-join (joined ws) (replicate (n - length (joined ws)) 0) (bytes-joined ws q) (zero-bytes (n - length (joined ws)))
+bytes_packed n ws q = bytes_join (joined ws) (replicate (n - length (joined ws)) 0) (bytes_joined ws q) (zero_bytes (n - length (joined ws)))
 
-each-stored : (Q : Row → Type 0) (new : Row) (ws : List Row) → Q new → Each Q ws → Each Q (storedRows new ws)
+each_stored : (Q : Row → Type 0) (new : Row) (ws : List Row) → Q new → Each Q ws → Each Q (storedRows new ws)
 unfolding storedRows
-each-stored Q new [] n q = (n, tt)
-each-stored Q new (w ∷ ws) n q = cond_cases (Each Q) (numberedAs new w) (λ _. (n, q.1)) (λ _. (q.0, each-stored Q new ws n q.1))
+each_stored Q new [] n q = (n, tt)
+each_stored Q new (w ∷ ws) n q = cond_cases (Each Q) (numbered_as new w) (λ _. (n, q.1)) (λ _. (q.0, each_stored Q new ws n q.1))
 
-each-bytes : (p : Row → Bool) (ws : List Row) → Each (Good p) ws → Each IsBytes ws
-each-bytes p [] q = tt
-each-bytes p (w ∷ ws) q = (q.0.1, each-bytes p ws q.1)
+each_bytes : (p : Row → Bool) (ws : List Row) → Each (Good p) ws → Each IsBytes ws
+each_bytes p [] q = tt
+each_bytes p (w ∷ ws) q = (q.0.1, each_bytes p ws q.1)
 
-rows_long : (k : Table) (ws : List Row) → length ws * stride k ≤ tableSize k → SoundRows k ws → length (packed (tableSize k) ws) ≡ tableSize k
-rows_long k ws fits s = length-packed (stride k) (tableSize k) ws (every-long (stride k) (storable k) (sized k) ws s.stores) fits
+rows_long : (k : Table) (ws : List Row) → length ws * stride k ≤ table_size k → SoundRows k ws → length (packed (table_size k) ws) ≡ table_size k
+rows_long k ws fits s = length_packed (stride k) (table_size k) ws (every_long (stride k) (storable k) (sized k) ws s.stores) fits
 
 -- the tables with other rows, other row owners, another owner
-pub rows-struct : (k : Table) (t : ByteTables) (ws : List Row) → SoundRows k ws → Each IsBytes ws → IsStruct t → IsStruct (withRows k t ws)
-rows-struct Creds t ws s q x = record {
-  owner-long = x.owner-long;
-  owners-long = x.owners-long;
-  creds-long = rows_long Creds ws (omega (arith, s.few)) s;
-  aces-long = x.aces-long;
-  owner-bytes = x.owner-bytes;
-  owners-bytes = x.owners-bytes;
-  creds-bytes = bytes_packed (tableSize Creds) ws q;
-  aces-bytes = x.aces-bytes;
+pub rows_struct : (k : Table) (t : ByteTables) (ws : List Row) → SoundRows k ws → Each IsBytes ws → IsStruct t → IsStruct (with_rows k t ws)
+rows_struct Creds t ws s q x = record {
+  owner_long = x.owner_long;
+  owners_long = x.owners_long;
+  creds_long = rows_long Creds ws (omega (arith, s.few)) s;
+  aces_long = x.aces_long;
+  owner_bytes_lem = x.owner_bytes_lem;
+  owners_bytes = x.owners_bytes;
+  creds_bytes = bytes_packed (table_size Creds) ws q;
+  aces_bytes = x.aces_bytes;
 }
-rows-struct Aces t ws s q x = record {
-  owner-long = x.owner-long;
-  owners-long = x.owners-long;
-  creds-long = x.creds-long;
-  aces-long = rows_long Aces ws (omega (arith, s.few)) s;
-  owner-bytes = x.owner-bytes;
-  owners-bytes = x.owners-bytes;
-  creds-bytes = x.creds-bytes;
-  aces-bytes = bytes_packed (tableSize Aces) ws q;
+rows_struct Aces t ws s q x = record {
+  owner_long = x.owner_long;
+  owners_long = x.owners_long;
+  creds_long = x.creds_long;
+  aces_long = rows_long Aces ws (omega (arith, s.few)) s;
+  owner_bytes_lem = x.owner_bytes_lem;
+  owners_bytes = x.owners_bytes;
+  creds_bytes = x.creds_bytes;
+  aces_bytes = bytes_packed (table_size Aces) ws q;
 }
 
-length-owners : (n : ℕ) (owner owners : List ℕ) → n ≤ 3 → length owner ≡ 16 → length owners ≡ 64 → length (with_row 16 n owner owners) ≡ 64
+length_owners : (n : ℕ) (owner owners : List ℕ) → n ≤ 3 → length owner ≡ 16 → length owners ≡ 64 → length (with_row 16 n owner owners) ≡ 64
 unfolding with_row
-length-owners n owner owners h r l = simp (length-append, length-take, length-drop) (omega arith)
+length_owners n owner owners h r l = simp (length-append, length-take, length-drop) (omega arith)
 
-bytes-owners : (n : ℕ) (owner owners : List ℕ) → isBytes owner ≡ true → isBytes owners ≡ true → isBytes (with_row 16 n owner owners) ≡ true
+bytes_owners : (n : ℕ) (owner owners : List ℕ) → is_bytes owner ≡ true → is_bytes owners ≡ true → is_bytes (with_row 16 n owner owners) ≡ true
 unfolding with_row
-bytes-owners n owner owners h i =
-    bytes-join (take (n * 16) owners) _ (bytes_take (n * 16) owners i)
-    (bytes-join owner _ h (bytes_drop 16 (drop (n * 16) owners) (bytes_drop (n * 16) owners i)))
+bytes_owners n owner owners h i =
+    bytes_join (take (n * 16) owners) _ (bytes_take (n * 16) owners i)
+    (bytes_join owner _ h (bytes_drop 16 (drop (n * 16) owners) (bytes_drop (n * 16) owners i)))
 
-row-owner-struct : (t : ByteTables) (n : ℕ) (b : List ℕ) → n ≤ 3 → length b ≡ 16 → isBytes b ≡ true → IsStruct t → IsStruct (withRowOwner t n b)
-row-owner-struct t n b h l i x = record {
-  owner-long = x.owner-long;
-  owners-long = length-owners n b t.rowners h l x.owners-long;
-  creds-long = x.creds-long;
-  aces-long = x.aces-long;
-  owner-bytes = x.owner-bytes;
-  owners-bytes = bytes-owners n b t.rowners i x.owners-bytes;
-  creds-bytes = x.creds-bytes;
-  aces-bytes = x.aces-bytes;
+row_owner_struct : (t : ByteTables) (n : ℕ) (b : List ℕ) → n ≤ 3 → length b ≡ 16 → is_bytes b ≡ true → IsStruct t → IsStruct (with_row_owner t n b)
+row_owner_struct t n b h l i x = record {
+  owner_long = x.owner_long;
+  owners_long = length_owners n b t.rowners h l x.owners_long;
+  creds_long = x.creds_long;
+  aces_long = x.aces_long;
+  owner_bytes_lem = x.owner_bytes_lem;
+  owners_bytes = bytes_owners n b t.rowners i x.owners_bytes;
+  creds_bytes = x.creds_bytes;
+  aces_bytes = x.aces_bytes;
 }
 
-owner-struct : (t : ByteTables) (o : ℕ) (u : List ℕ) → length u ≡ 16 → isBytes u ≡ true → IsStruct t → IsStruct (withOwner t o u)
-owner-struct t o u l i x = record {
-  owner-long = l;
-  owners-long = x.owners-long;
-  creds-long = x.creds-long;
-  aces-long = x.aces-long;
-  owner-bytes = i;
-  owners-bytes = x.owners-bytes;
-  creds-bytes = x.creds-bytes;
-  aces-bytes = x.aces-bytes;
+owner_struct : (t : ByteTables) (o : ℕ) (u : List ℕ) → length u ≡ 16 → is_bytes u ≡ true → IsStruct t → IsStruct (with_owner t o u)
+owner_struct t o u l i x = record {
+  owner_long = l;
+  owners_long = x.owners_long;
+  creds_long = x.creds_long;
+  aces_long = x.aces_long;
+  owner_bytes_lem = i;
+  owners_bytes = x.owners_bytes;
+  creds_bytes = x.creds_bytes;
+  aces_bytes = x.aces_bytes;
 }
 
-state-struct : (t : ByteTables) (s : ℕ) → IsStruct t → IsStruct (withState t s)
-state-struct t s x = record {
-  owner-long = x.owner-long;
-  owners-long = x.owners-long;
-  creds-long = x.creds-long;
-  aces-long = x.aces-long;
-  owner-bytes = x.owner-bytes;
-  owners-bytes = x.owners-bytes;
-  creds-bytes = x.creds-bytes;
-  aces-bytes = x.aces-bytes;
+state_struct : (t : ByteTables) (s : ℕ) → IsStruct t → IsStruct (with_state t s)
+state_struct t s x = record {
+  owner_long = x.owner_long;
+  owners_long = x.owners_long;
+  creds_long = x.creds_long;
+  aces_long = x.aces_long;
+  owner_bytes_lem = x.owner_bytes_lem;
+  owners_bytes = x.owners_bytes;
+  creds_bytes = x.creds_bytes;
+  aces_bytes = x.aces_bytes;
 }
 
 -- ---- fresh tables
 
-from_bytes : (k : Table) (b : List ℕ) → isBytes b ≡ true → isBytes (rowFrom k b) ≡ true
-from_bytes Creds b h = bytes-join b (replicate rolesSize 0) h (zero-bytes rolesSize)
+from_bytes : (k : Table) (b : List ℕ) → is_bytes b ≡ true → is_bytes (row_from k b) ≡ true
+from_bytes Creds b h = bytes_join b (replicate roles_size 0) h (zero_bytes roles_size)
 from_bytes Aces b h = h
 
-listed-bytes : (k : Table) (s n : ℕ) (b : List ℕ) → isBytes b ≡ true → Each IsBytes (map (rowFrom k) (rows_of s n b))
+listed_bytes : (k : Table) (s n : ℕ) (b : List ℕ) → is_bytes b ≡ true → Each IsBytes (map (row_from k) (rows_of s n b))
 unfolding rows_of
-listed-bytes k s zero b h = tt
-listed-bytes k s (suc n) b h = (from_bytes k (take s b) (bytes_take s b h), listed-bytes k s n (drop s b) (bytes_drop s b h))
+listed_bytes k s zero b h = tt
+listed_bytes k s (suc n) b h = (from_bytes k (take s b) (bytes_take s b h), listed_bytes k s n (drop s b) (bytes_drop s b h))
 
-default-bytes : (k : Table) (b : List ℕ) → isBytes b ≡ true → Each IsBytes (defaultRows k b)
-unfolding defaultRows
-default-bytes k b h = cond_cases (Each IsBytes) (goodList k b) (λ _. listed-bytes k (longest k) (length b / longest k) b h) (λ _. tt)
+default_bytes : (k : Table) (b : List ℕ) → is_bytes b ≡ true → Each IsBytes (default_rows k b)
+unfolding default_rows
+default_bytes k b h = cond_cases (Each IsBytes) (good_list k b) (λ _. listed_bytes k (longest k) (length b / longest k) b h) (λ _. tt)
 
-empty-struct : IsStruct empty
-unfolding empty nil isBytes
-empty-struct = record {
-  owner-long = refl;
-  owners-long = refl;
-  creds-long = refl;
-  aces-long = refl;
-  owner-bytes = zero-bytes 16;
-  owners-bytes = zero-bytes 64;
-  creds-bytes = zero-bytes (tableSize Creds);
-  aces-bytes = zero-bytes (tableSize Aces);
+empty_struct : IsStruct empty
+unfolding empty nil is_bytes
+empty_struct = record {
+  owner_long = refl;
+  owners_long = refl;
+  creds_long = refl;
+  aces_long = refl;
+  owner_bytes_lem = zero_bytes 16;
+  owners_bytes = zero_bytes 64;
+  creds_bytes = zero_bytes (table_size Creds);
+  aces_bytes = zero_bytes (table_size Aces);
 }
 
-pub fresh-struct : (d : Defaults) → DefaultBytes d → IsStruct (fresh d)
+pub fresh_struct : (d : Defaults) → DefaultBytes d → IsStruct (fresh d)
 unfolding fresh
-fresh-struct d b =
-    rows-struct Aces _ _ (default-sound Aces d.aces) (default-bytes Aces d.aces b.aces)
-    (rows-struct Creds _ _ (default-sound Creds d.creds) (default-bytes Creds d.creds b.creds) empty-struct)
+fresh_struct d b =
+    rows_struct Aces _ _ (default_sound Aces d.aces) (default_bytes Aces d.aces b.aces)
+    (rows_struct Creds _ _ (default_sound Creds d.creds) (default_bytes Creds d.creds b.creds) empty_struct)
 
 -- ---- after a record
 
-own-bytes : (w : Row) (m : Maybe Credential) → Reads w m → isBytes w ≡ true
-unfolding isBytes
-own-bytes w m absent = refl
-own-bytes w m (present _ k) = k.1
+own_bytes : (w : Row) (m : Maybe Credential) → Reads w m → is_bytes w ≡ true
+unfolding is_bytes
+own_bytes w m absent = refl
+own_bytes w m (present _ k) = k.1
 
-module _ (d : Defaults) (e : DefaultBytes d) (t : ByteTables) (g : Given t) (q : ByteRequest) (h : isBytes q.bytes ≡ true) where
+module _ (d : Defaults) (e : DefaultBytes d) (t : ByteTables) (g : Given t) (q : ByteRequest) (h : is_bytes q.bytes ≡ true) where
   abbrev b : List ℕ
   b = body q.bytes
 
-  b-bytes : isBytes b ≡ true
-  b-bytes = bytes_drop 4 q.bytes h
+  b_bytes : is_bytes b ≡ true
+  b_bytes = bytes_drop 4 q.bytes h
 
-  all-bytes : (k : Table) → Each IsBytes (rows k t)
-  all-bytes Creds = each-bytes credSound (rows Creds t) (creds-good t g)
-  all-bytes Aces = each-bytes (storable Aces) (rows Aces t) (aces-good t g)
+  all_bytes : (k : Table) → Each IsBytes (rows k t)
+  all_bytes Creds = each_bytes cred_sound (rows Creds t) (creds_good t g)
+  all_bytes Aces = each_bytes (storable Aces) (rows Aces t) (aces_good t g)
 
-  effect-struct : (a : ByteAction) → Passed t q a → IsStruct (effectBy d t q a)
+  effect_struct : (a : ByteAction) → Passed t q a → IsStruct (effect_by d t q a)
   unfolding entered
-  effect-struct Serve x = g.struct
-  effect-struct Read x = g.struct
-  effect-struct (SetRowOwner n) x = row-owner-struct t n b x.valid.1 x.valid.0 b-bytes g.struct
-  effect-struct (SetOwner o) x = owner-struct t o (newOwner b) (omega (arith, length-drop 1 b, x.valid.0)) (bytes_drop 1 b b-bytes) g.struct
-  effect-struct (SetState n) x = cond_cases IsStruct (eqb n 0) (λ _. fresh-struct d e) (λ _. state-struct t n g.struct)
-  effect-struct (Store k) x =
-      rows-struct k t _ (stored-sound k t q g.isSound x) (each-stored IsBytes (row_of k b) (rows k t) (row-bytes k b b-bytes) (all-bytes k)) g.struct
-  effect-struct (Remove k key) x =
-      rows-struct k t _ (removed-sound k t (goes key b) g.isSound) (each-without IsBytes (goes key b) (rows k t) (all-bytes k)) g.struct
-  effect-struct (Assert c) x =
+  effect_struct Serve x = g.struct
+  effect_struct Read x = g.struct
+  effect_struct (SetRowOwner n) x = row_owner_struct t n b x.valid.1 x.valid.0 b_bytes g.struct
+  effect_struct (SetOwner o) x = owner_struct t o (new_owner b) (omega (arith, length-drop 1 b, x.valid.0)) (bytes_drop 1 b b_bytes) g.struct
+  effect_struct (SetState n) x = cond_cases IsStruct (eqb n 0) (λ _. fresh_struct d e) (λ _. state_struct t n g.struct)
+  effect_struct (Store k) x =
+      rows_struct k t _ (stored_sound k t q g.is_sound x) (each_stored IsBytes (row_of k b) (rows k t) (row_bytes_lem k b b_bytes) (all_bytes k)) g.struct
+  effect_struct (Remove k key) x =
+      rows_struct k t _ (removed_sound k t (goes key b) g.is_sound) (each_without IsBytes (goes key b) (rows k t) (all_bytes k)) g.struct
+  effect_struct (Assert c) x =
       let r = q.bytes in
-      let w = senderRow t (sender r) in
+      let w = sender_row t (sender r) in
       let a = asserts t r c x.valid x.allowed x.long x.known in
-      let own = own-bytes w _ (own-reads t g (sender r)) in
-      let new = asserted-good q.clock b w (own-storable t r g.isSound a, own) b-bytes x.valid.1 x.valid.2 x.placed in
-      rows-struct Creds t _ (asserted-sound c t q g.isSound x) (each-stored IsBytes (asserted q.clock b w) (rows Creds t) new.1 (all-bytes Creds))
+      let own = own_bytes w _ (own_reads t g (sender r)) in
+      let new = asserted_good q.clock b w (own_storable t r g.is_sound a, own) b_bytes x.valid.1 x.valid.2 x.placed in
+      rows_struct Creds t _ (asserted_sound c t q g.is_sound x) (each_stored IsBytes (asserted q.clock b w) (rows Creds t) new.1 (all_bytes Creds))
       g.struct
-  effect-struct Malformed x = g.struct
+  effect_struct Malformed x = g.struct
 
-  pub given-kept : Given (tablesAfter d t q)
-  unfolding outcome outcomeAt
-  given-kept =
+  pub given_kept : Given (tables_after d t q)
+  unfolding outcome outcome_at
+  given_kept =
       let p = permission q.clock t q.bytes in
       record {
-        isSound = sound-kept d t q g.isSound;
+        is_sound = sound_kept d t q g.is_sound;
         struct =
-            check-cases (verdict (checks t p q))
-            (λ v. rw (v, tablesAfter) (effect-struct (action q.bytes) (passed-all t p q v)))
-            (λ n v. rw (v, tablesAfter) g.struct);
+            check_cases (verdict (checks t p q))
+            (λ v. rw (v, tables_after) (effect_struct (action q.bytes) (passed_all t p q v)))
+            (λ n v. rw (v, tables_after) g.struct);
       }

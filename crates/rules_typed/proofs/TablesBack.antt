@@ -6,49 +6,49 @@ use Rattle.rows.proofs.Laws.{kept}
 use Rattle.rows.proofs.Kept.{same_true}
 use Rattle.rules.specs.declared.Tables.{Tables as ByteTables}
 use Rattle.rules.specs.declared.Table.TheVariants.{Creds, Aces}
-use Rattle.rules.specs.Roles.{noRole, roles_of, rolesSound, distinctRoles, credSound}
-use Rattle.rules.specs.Sizes.{credBodySize, credRowSize, aceRowSize, rolesSize}
-use Rattle.rules.specs.Tables.{rows, tableSize}
-use Rattle.rules.proofs.Answers.{rows_are, rows-count}
-use Rattle.rules.proofs.RoleLaws.{held-parts}
+use Rattle.rules.specs.Roles.{no_role, roles_of, roles_sound, distinct_roles, cred_sound}
+use Rattle.rules.specs.Sizes.{cred_body_size, cred_row_size, ace_row_size, roles_size}
+use Rattle.rules.specs.Tables.{rows, table_size}
+use Rattle.rules.proofs.Answers.{rows_are, rows_count}
+use Rattle.rules.proofs.RoleLaws.{held_parts}
 use Rattle.rules.proofs.TableLaws.{table_is}
 use Rattle.rules_typed.specs.Struct.{Given}
-use Rattle.rules_typed.specs.Reading.{credentialAs, tables_of, ownersAt}
-use Rattle.rules_typed.specs.Writing.{credentialRow, writtenTables, rowOwnerBytes}
+use Rattle.rules_typed.specs.Reading.{credential_as, tables_of, owners_at}
+use Rattle.rules_typed.specs.Writing.{credential_row, written_tables, row_owner_bytes}
 use Rattle.rules_typed.proofs.ListLaws.{Each}
 use Rattle.rules_typed.proofs.ByteLaws.{Good}
-use Rattle.rules_typed.proofs.StateRead.{state-back}
-use Rattle.rules_typed.proofs.PermissionRead.{creds-good, aces-good, owned-is, is_state}
-use Rattle.rules_typed.proofs.RowsRead.{Place, each-without, places-good}
-use Rattle.rules_typed.proofs.WriteBack.{credential-back}
-use Rattle.rules_typed.proofs.ReplyRead.{uuid-back, places-back, aces-back, owned-number}
+use Rattle.rules_typed.proofs.StateRead.{state_back}
+use Rattle.rules_typed.proofs.PermissionRead.{creds_good, aces_good, owned_is, is_state_lem}
+use Rattle.rules_typed.proofs.RowsRead.{Place, each_without, places_good}
+use Rattle.rules_typed.proofs.WriteBack.{credential_back}
+use Rattle.rules_typed.proofs.ReplyRead.{uuid_back, places_back, aces_back, owned_number_lem}
 use Rattle.rules.specs.declared.Sender.TheVariants.{Unauthenticated}
 
 -- ---- a credential row
 
-pub row_back : (w : Row) → Good credSound w → credentialRow (credentialAs w) ≡ w
-unfolding credentialRow rolesSound
+pub row_back : (w : Row) → Good cred_sound w → credential_row (credential_as w) ≡ w
+unfolding credential_row roles_sound
 row_back w g =
-    let held = withoutRows noRole (roles_of w) in
-    let behind = same_true (drop credBodySize w) (packed rolesSize held) (and_left _ (distinctRoles held) (held-parts w g.0).roles) in
-    let roles = places-back held (each-without Place noRole (roles_of w) (places-good w g)) in
-    ap₂ (λ (x y : List ℕ). x ++ y) (credential-back w g) (ap (packed rolesSize) roles ∙ sym behind)
-    ∙ take-append-drop credBodySize w
+    let held = withoutRows no_role (roles_of w) in
+    let behind = same_true (drop cred_body_size w) (packed roles_size held) (and_left _ (distinct_roles held) (held_parts w g.0).roles) in
+    let roles = places_back held (each_without Place no_role (roles_of w) (places_good w g)) in
+    ap₂ (λ (x y : List ℕ). x ++ y) (credential_back w g) (ap (packed roles_size) roles ∙ sym behind)
+    ∙ take-append-drop cred_body_size w
 
-rows_back : (ws : List Row) → Each (Good credSound) ws → map credentialRow (map credentialAs ws) ≡ ws
+rows_back : (ws : List Row) → Each (Good cred_sound) ws → map credential_row (map credential_as ws) ≡ ws
 rows_back [] q = refl
 rows_back (w ∷ ws) q = ap₂ (λ (x : List ℕ) (xs : List (List ℕ)). x ∷ xs) (row_back w q.0) (rows_back ws q.1)
 
 -- ---- owners
 
-four-back : (x : List ℕ) → length x ≡ 64 → rowOwnerBytes (ownersAt x) ≡ x
-four-back x l =
+four_back : (x : List ℕ) → length x ≡ 64 → row_owner_bytes (owners_at x) ≡ x
+four_back x l =
     let at : (n : ℕ) → n ≤ 3 → length (take 16 (drop (n * 16) x)) ≡ 16 = λ n h. length-take-le 16 (drop (n * 16) x) (rw length-drop (omega arith)) in
     rw (
-      uuid-back (take 16 (drop 0 x)) (at 0 (omega arith)),
-      uuid-back (take 16 (drop 16 x)) (at 1 (omega arith)),
-      uuid-back (take 16 (drop 32 x)) (at 2 (omega arith)),
-      uuid-back (take 16 (drop 48 x)) (at 3 (omega arith)),
+      uuid_back (take 16 (drop 0 x)) (at 0 (omega arith)),
+      uuid_back (take 16 (drop 16 x)) (at 1 (omega arith)),
+      uuid_back (take 16 (drop 32 x)) (at 2 (omega arith)),
+      uuid_back (take 16 (drop 48 x)) (at 3 (omega arith)),
     )
     (ap (λ (y : List ℕ). take 16 x ++ y)
     (ap (λ (y : List ℕ). take 16 (drop 16 x) ++ y)
@@ -58,31 +58,31 @@ four-back x l =
     ∙ take-append-drop 16 x)
 
 module _ (t : ByteTables) (g : Given t) where
-  creds-stand : packed (tableSize Creds) (rows Creds t) ≡ t.creds
-  creds-stand =
-      let h = g.isSound in
-      let l = g.struct.creds-long in
-      ap₂ packed (sym l) (rows_are Creds t h) ∙ sym (kept credRowSize t.ncreds t.creds (table_is Creds t h l))
+  creds_stand : packed (table_size Creds) (rows Creds t) ≡ t.creds
+  creds_stand =
+      let h = g.is_sound in
+      let l = g.struct.creds_long in
+      ap₂ packed (sym l) (rows_are Creds t h) ∙ sym (kept cred_row_size t.ncreds t.creds (table_is Creds t h l))
 
-  aces-stand : packed (tableSize Aces) (rows Aces t) ≡ t.aces
-  aces-stand =
-      let h = g.isSound in
-      let l = g.struct.aces-long in
-      ap₂ packed (sym l) (rows_are Aces t h) ∙ sym (kept aceRowSize t.naces t.aces (table_is Aces t h l))
+  aces_stand : packed (table_size Aces) (rows Aces t) ≡ t.aces
+  aces_stand =
+      let h = g.is_sound in
+      let l = g.struct.aces_long in
+      ap₂ packed (sym l) (rows_are Aces t h) ∙ sym (kept ace_row_size t.naces t.aces (table_is Aces t h l))
 
-  pub tables-back : writtenTables (tables_of t) ≡ t
-  tables-back =
+  pub tables_back : written_tables (tables_of t) ≡ t
+  tables_back =
       rw (
-        state-back t.state (is_state t g),
-        owned-number t.devowner t.owned g.struct.owner-long (owned-is t g Unauthenticated),
+        state_back t.state (is_state_lem t g),
+        owned_number_lem t.devowner t.owned g.struct.owner_long (owned_is t g Unauthenticated),
         length-map,
         length-map,
-        rows-count Creds t g.isSound,
-        rows-count Aces t g.isSound,
-        uuid-back t.devowner g.struct.owner-long,
-        four-back t.rowners g.struct.owners-long,
-        rows_back (rows Creds t) (creds-good t g),
-        creds-stand,
-        aces-back (rows Aces t) (aces-good t g),
-        aces-stand,
+        rows_count Creds t g.is_sound,
+        rows_count Aces t g.is_sound,
+        uuid_back t.devowner g.struct.owner_long,
+        four_back t.rowners g.struct.owners_long,
+        rows_back (rows Creds t) (creds_good t g),
+        creds_stand,
+        aces_back (rows Aces t) (aces_good t g),
+        aces_stand,
       )

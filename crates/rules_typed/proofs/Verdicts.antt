@@ -2,36 +2,36 @@
 use Rattle.rows.proofs.Prelude.{◌≡◌, refl, sym, ap, ◌∙◌, Bool, true, false, not, List, [], ◌∷◌, ℕ}
 use Rattle.rules.specs.declared.Check.{Check}
 use Rattle.rules.specs.declared.Check.TheVariants.{Pass, Refuse}
-use Rattle.rules.specs.Checks.{isPass, verdict as verdictBytes}
+use Rattle.rules.specs.Checks.{is_pass, verdict as verdictBytes}
 use Rattle.rules_typed.specs.Types.{Verdict, Permitted, Refused}
 use Rattle.rules_typed.specs.Checks.{verdict}
 use Rattle.rules_typed.specs.Outcome.{is_refused}
 
-abbrev pub checkOf : Verdict → Check
-checkOf Permitted = Pass
-checkOf (Refused n) = Refuse n
+abbrev pub check_of : Verdict → Check
+check_of Permitted = Pass
+check_of (Refused n) = Refuse n
 
-pub verdict-read : (cs : List (ℕ × Bool)) → verdictBytes cs ≡ checkOf (verdict cs)
+pub verdict_read : (cs : List (ℕ × Bool)) → verdictBytes cs ≡ check_of (verdict cs)
 unfolding verdictBytes verdict
-verdict-read [] = refl
-verdict-read ((n, true) ∷ cs) = refl
-verdict-read ((n, false) ∷ cs) = verdict-read cs
+verdict_read [] = refl
+verdict_read ((n, true) ∷ cs) = refl
+verdict_read ((n, false) ∷ cs) = verdict_read cs
 
 -- and back
-abbrev pub verdictOf : Check → Verdict
-verdictOf Pass = Permitted
-verdictOf (Refuse n) = Refused n
+abbrev pub verdict_of : Check → Verdict
+verdict_of Pass = Permitted
+verdict_of (Refuse n) = Refused n
 
-of-check : (v : Verdict) → v ≡ verdictOf (checkOf v)
-of-check Permitted = refl
-of-check (Refused n) = refl
+of_check : (v : Verdict) → v ≡ verdict_of (check_of v)
+of_check Permitted = refl
+of_check (Refused n) = refl
 
-pub verdict-back : (cs : List (ℕ × Bool)) → verdict cs ≡ verdictOf (verdictBytes cs)
-verdict-back cs = of-check (verdict cs) ∙ sym (ap verdictOf (verdict-read cs))
+pub verdict_back : (cs : List (ℕ × Bool)) → verdict cs ≡ verdict_of (verdictBytes cs)
+verdict_back cs = of_check (verdict cs) ∙ sym (ap verdict_of (verdict_read cs))
 
-is-pass : (v : Verdict) → isPass (checkOf v) ≡ not (is_refused v)
-is-pass Permitted = refl
-is-pass (Refused n) = refl
+is_pass_lem : (v : Verdict) → is_pass (check_of v) ≡ not (is_refused v)
+is_pass_lem Permitted = refl
+is_pass_lem (Refused n) = refl
 
-pub pass-read : (cs : List (ℕ × Bool)) → isPass (verdictBytes cs) ≡ not (is_refused (verdict cs))
-pass-read cs = ap isPass (verdict-read cs) ∙ is-pass (verdict cs)
+pub pass_read : (cs : List (ℕ × Bool)) → is_pass (verdictBytes cs) ≡ not (is_refused (verdict cs))
+pass_read cs = ap is_pass (verdict_read cs) ∙ is_pass_lem (verdict cs)

@@ -6,88 +6,88 @@ use Rattle.rules_typed.specs.Types.{Tables, Record}
 use Rattle.rules.specs.declared.Tables.{Tables as ByteTables}
 use Rattle.rules.specs.Record.{Request as ByteRequest}
 use Rattle.rules.specs.Tables.{sound as soundBytes}
-use Rattle.rules.specs.Outcome.{outcome as outcomeBytes, Outcome as ByteOutcome, Response as ByteResponse, outcomeAt, tablesAfter, responseTo}
-use Rattle.rules_typed.specs.Writing.{writtenOutcome, writtenLinks, writtenOr, written}
+use Rattle.rules.specs.Outcome.{outcome as outcomeBytes, Outcome as ByteOutcome, Response as ByteResponse, outcome_at, tables_after, response_to}
+use Rattle.rules_typed.specs.Writing.{written_outcome, written_links, written_or, written}
 use Rattle.rules_typed.specs.Outcome.{outcome, respond, next}
 use Rattle.rules_typed.specs.Lists.{none, just, when, Maybe}
-use Rattle.rules_typed.specs.Reading.{readRecord, tables_of, read_tables, readFresh}
+use Rattle.rules_typed.specs.Reading.{read_record, tables_of, read_tables, read_fresh}
 use Rattle.rules.specs.Checks.{verdict as verdictBytes}
 use Rattle.rules_typed.specs.Checks.{verdict}
-use Rattle.rules.specs.Links.{setOf}
+use Rattle.rules.specs.Links.{set_of}
 use Rattle.rules_typed.specs.Struct.{DefaultBytes, Given, IsStruct, AllBytes}
-use Rattle.rules_typed.specs.Tables.{isBytes}
-use Rattle.rules_typed.proofs.OutcomeRead.{outcome-typed, Represents}
-use Rattle.rules_typed.proofs.TablesBack.{tables-back}
-use Rattle.rules_typed.proofs.StructKept.{given-kept}
+use Rattle.rules_typed.specs.Tables.{is_bytes}
+use Rattle.rules_typed.proofs.OutcomeRead.{outcome_typed, Represents}
+use Rattle.rules_typed.proofs.TablesBack.{tables_back}
+use Rattle.rules_typed.proofs.StructKept.{given_kept}
 use Rattle.rules.specs.Run.{replies, final}
 use Rattle.rules_typed.proofs.SoundExact.{read_is}
-use Rattle.rules_typed.proofs.FreshRead.{fresh-read}
+use Rattle.rules_typed.proofs.FreshRead.{fresh_read}
 
 -- bytes that are no tables get 1, and stay
-unsound-written : (d : Defaults) (fresh : Tables) (t : ByteTables) (q : ByteRequest) → soundBytes t ≡ false
-    → outcomeBytes d t q ≡ writtenOutcome t (outcome fresh none (readRecord q))
-unfolding outcomeBytes outcomeAt outcome verdictBytes verdict writtenLinks setOf ones
-unsound-written d fresh t q e = rw e
+unsound_written : (d : Defaults) (fresh : Tables) (t : ByteTables) (q : ByteRequest) → soundBytes t ≡ false
+    → outcomeBytes d t q ≡ written_outcome t (outcome fresh none (read_record q))
+unfolding outcomeBytes outcome_at outcome verdictBytes verdict written_links set_of ones
+unsound_written d fresh t q e = rw e
 
 module _ (d : Defaults) (e : DefaultBytes d) where
   abbrev first : Tables
-  first = readFresh d
+  first = read_fresh d
 
-  typed-outcome : (t : ByteTables) → Given t → (q : ByteRequest) → isBytes q.bytes ≡ true
-      → Represents (outcomeBytes d t q) (outcome first (just (tables_of t)) (readRecord q))
-  typed-outcome t g q h =
-      subst (λ (f : Tables). Represents (outcomeBytes d t q) (outcome f (just (tables_of t)) (readRecord q))) (fresh-read d e) (outcome-typed d t g q h)
+  typed_outcome : (t : ByteTables) → Given t → (q : ByteRequest) → is_bytes q.bytes ≡ true
+      → Represents (outcomeBytes d t q) (outcome first (just (tables_of t)) (read_record q))
+  typed_outcome t g q h =
+      subst (λ (f : Tables). Represents (outcomeBytes d t q) (outcome f (just (tables_of t)) (read_record q))) (fresh_read d e) (outcome_typed d t g q h)
 
-  sound-written : (t : ByteTables) → Given t → (q : ByteRequest) → isBytes q.bytes ≡ true
-      → outcomeBytes d t q ≡ writtenOutcome t (outcome first (just (tables_of t)) (readRecord q))
-  sound-written t g q h =
-      let o = typed-outcome t g q h in
+  sound_written : (t : ByteTables) → Given t → (q : ByteRequest) → is_bytes q.bytes ≡ true
+      → outcomeBytes d t q ≡ written_outcome t (outcome first (just (tables_of t)) (read_record q))
+  sound_written t g q h =
+      let o = typed_outcome t g q h in
       ap₂ (λ (r : ByteResponse) (u : ByteTables). record { response = r; tables = u }) o.response
-      (sym (tables-back (tablesAfter d t q) (given-kept d e t g q h)) ∙ ap (writtenOr t) o.tables)
+      (sym (tables_back (tables_after d t q) (given_kept d e t g q h)) ∙ ap (written_or t) o.tables)
 
-  pub outcome-written : (t : ByteTables) → IsStruct t → (q : ByteRequest) → isBytes q.bytes ≡ true
-      → outcomeBytes d t q ≡ writtenOutcome t (outcome first (read_tables t) (readRecord q))
+  pub outcome_written : (t : ByteTables) → IsStruct t → (q : ByteRequest) → is_bytes q.bytes ≡ true
+      → outcomeBytes d t q ≡ written_outcome t (outcome first (read_tables t) (read_record q))
   unfolding when
-  outcome-written t i q h =
+  outcome_written t i q h =
       rw (read_is t i)
       (bool_cases (soundBytes t)
-      (λ s. rw s (sound-written t (record { isSound = s; struct = i }) q h))
-      (λ s. rw s (unsound-written d first t q s)))
+      (λ s. rw s (sound_written t (record { is_sound = s; struct = i }) q h))
+      (λ s. rw s (unsound_written d first t q s)))
 
   -- the tables afterwards are arrays of bytes again, and are read as the typed ones
-  pub struct-kept : (t : ByteTables) → IsStruct t → (q : ByteRequest) → isBytes q.bytes ≡ true → IsStruct (tablesAfter d t q)
-  unfolding outcomeBytes outcomeAt verdictBytes
-  struct-kept t i q h =
+  pub struct_kept : (t : ByteTables) → IsStruct t → (q : ByteRequest) → is_bytes q.bytes ≡ true → IsStruct (tables_after d t q)
+  unfolding outcomeBytes outcome_at verdictBytes
+  struct_kept t i q h =
       bool_cases (soundBytes t)
-      (λ s. (given-kept d e t (record { isSound = s; struct = i }) q h).struct)
-      (λ s. rw (s, tablesAfter) i)
+      (λ s. (given_kept d e t (record { is_sound = s; struct = i }) q h).struct)
+      (λ s. rw (s, tables_after) i)
 
-  pub next-read : (t : ByteTables) → IsStruct t → (q : ByteRequest) → isBytes q.bytes ≡ true
-      → read_tables (tablesAfter d t q) ≡ next first (read_tables t) (readRecord q)
-  unfolding when outcomeBytes outcomeAt outcome verdictBytes verdict
-  next-read t i q h =
-      rw (read_is t i, read_is (tablesAfter d t q) (struct-kept t i q h))
+  pub next_read : (t : ByteTables) → IsStruct t → (q : ByteRequest) → is_bytes q.bytes ≡ true
+      → read_tables (tables_after d t q) ≡ next first (read_tables t) (read_record q)
+  unfolding when outcomeBytes outcome_at outcome verdictBytes verdict
+  next_read t i q h =
+      rw (read_is t i, read_is (tables_after d t q) (struct_kept t i q h))
       (bool_cases (soundBytes t)
-      (λ s. let g : Given t = record { isSound = s; struct = i } in
-      rw (s, (given-kept d e t g q h).isSound) (typed-outcome t g q h).tables)
-      (λ s. rw (s, tablesAfter, s)))
+      (λ s. let g : Given t = record { is_sound = s; struct = i } in
+      rw (s, (given_kept d e t g q h).is_sound) (typed_outcome t g q h).tables)
+      (λ s. rw (s, tables_after, s)))
 
   -- ---- runs
 
   abbrev book : List ByteRequest → List Record
-  book qs = map readRecord qs
+  book qs = map read_record qs
 
-  pub replies-written : (t : ByteTables) → IsStruct t → (qs : List ByteRequest) → AllBytes qs
-      → replies (responseTo d) (tablesAfter d) t qs ≡ map written (replies (respond first) (next first) (read_tables t) (book qs))
-  replies-written t i [] h = refl
-  replies-written t i (q ∷ qs) h =
-      ap₂ (λ (x : ByteResponse) (xs : List ByteResponse). x ∷ xs) (ap (λ (o : ByteOutcome). o.response) (outcome-written t i q h.0))
-      (replies-written (tablesAfter d t q) (struct-kept t i q h.0) qs h.1
-      ∙ ap (λ (m : Maybe Tables). map written (replies (respond first) (next first) m (book qs))) (next-read t i q h.0))
+  pub replies_written : (t : ByteTables) → IsStruct t → (qs : List ByteRequest) → AllBytes qs
+      → replies (response_to d) (tables_after d) t qs ≡ map written (replies (respond first) (next first) (read_tables t) (book qs))
+  replies_written t i [] h = refl
+  replies_written t i (q ∷ qs) h =
+      ap₂ (λ (x : ByteResponse) (xs : List ByteResponse). x ∷ xs) (ap (λ (o : ByteOutcome). o.response) (outcome_written t i q h.0))
+      (replies_written (tables_after d t q) (struct_kept t i q h.0) qs h.1
+      ∙ ap (λ (m : Maybe Tables). map written (replies (respond first) (next first) m (book qs))) (next_read t i q h.0))
 
-  pub final-read : (t : ByteTables) → IsStruct t → (qs : List ByteRequest) → AllBytes qs
-      → read_tables (final (tablesAfter d) t qs) ≡ final (next first) (read_tables t) (book qs)
-  final-read t i [] h = refl
-  final-read t i (q ∷ qs) h =
-      final-read (tablesAfter d t q) (struct-kept t i q h.0) qs h.1
-      ∙ ap (λ (m : Maybe Tables). final (next first) m (book qs)) (next-read t i q h.0)
+  pub final_read : (t : ByteTables) → IsStruct t → (qs : List ByteRequest) → AllBytes qs
+      → read_tables (final (tables_after d) t qs) ≡ final (next first) (read_tables t) (book qs)
+  final_read t i [] h = refl
+  final_read t i (q ∷ qs) h =
+      final_read (tables_after d t q) (struct_kept t i q h.0) qs h.1
+      ∙ ap (λ (m : Maybe Tables). final (next first) m (book qs)) (next_read t i q h.0)

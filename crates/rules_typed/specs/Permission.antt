@@ -8,7 +8,7 @@ use Rattle.rules_typed.specs.Lists.{Maybe, none, just, is_none, holds, any, find
 use Rattle.rules_typed.specs.Types.{Uuid, Clock, Permission, SecurityResource, Doxm, Pstat, Cred, Acl2, Roles, Resource, Security, Application}
 use Rattle.rules_typed.specs.Types.{Connection, AnonClear, AuthCrypt, Role, Asserted, Credential, Subject, IsUuid, HasRole, IsConnection, Access, Tables}
 use Rattle.rules_typed.specs.Types.{Caller}
-use Rattle.rules_typed.specs.Directory.{starReaches, plusReaches, minusReaches}
+use Rattle.rules_typed.specs.Directory.{star_reaches, plus_reaches, minus_reaches}
 
 -- ---- permission bits
 
@@ -29,74 +29,74 @@ abbrev pub N : Permission
 N = 16
 
 -- all five bits, 31
-abbrev pub allBits : Permission
-allBits = C + R + U + D + N
+abbrev pub all_bits : Permission
+all_bits = C + R + U + D + N
 
 unfoldable pub has : Permission → Permission → Bool
 has p bit = eqb (p / bit % 2) 1
 
 -- ---- the caller
 
-abbrev pub connectionOf : Sender → Connection
-connectionOf Unauthenticated = AnonClear
-connectionOf (Partner n) = AuthCrypt
+abbrev pub connection_of : Sender → Connection
+connection_of Unauthenticated = AnonClear
+connection_of (Partner n) = AuthCrypt
 
 -- a partner's credential row is the one with its number
-abbrev pub credentialOf : Tables → Sender → Maybe Credential
-credentialOf t Unauthenticated = none
-credentialOf t (Partner n) = find (λ c. eqb c.number n) t.credentials
+abbrev pub credential_of : Tables → Sender → Maybe Credential
+credential_of t Unauthenticated = none
+credential_of t (Partner n) = find (λ c. eqb c.number n) t.credentials
 
-abbrev pub callerOf : Tables → Sender → Caller
-callerOf t s = record { connection = connectionOf s; credential = credentialOf t s }
+abbrev pub caller_of : Tables → Sender → Caller
+caller_of t s = record { connection = connection_of s; credential = credential_of t s }
 
-abbrev pub sameConnection : Connection → Connection → Bool
-sameConnection AnonClear AnonClear = true
-sameConnection AnonClear AuthCrypt = false
-sameConnection AuthCrypt AnonClear = false
-sameConnection AuthCrypt AuthCrypt = true
+abbrev pub same_connection : Connection → Connection → Bool
+same_connection AnonClear AnonClear = true
+same_connection AnonClear AuthCrypt = false
+same_connection AuthCrypt AnonClear = false
+same_connection AuthCrypt AuthCrypt = true
 
 -- ---- 1. every access row whose subject, resource and period fit
 
 -- a role fits only with its authority (U7)
-unfoldable pub sameRole : Role → Role → Bool
-sameRole r s = eqb r.role s.role && eqb r.authority s.authority
+unfoldable pub same_role : Role → Role → Bool
+same_role r s = eqb r.role s.role && eqb r.authority s.authority
 
 -- the same role, up to any second (U11)
-abbrev pub sameAsserted : Asserted → Asserted → Bool
-sameAsserted new a = sameRole a.role new.role
+abbrev pub same_asserted : Asserted → Asserted → Bool
+same_asserted new a = same_role a.role new.role
 
 -- the last second is before the clock
 unfoldable pub expired : Clock → Asserted → Bool
 expired clock a = ltb a.last clock
 
 -- asserted roles fit up to their last second (U11)
-unfoldable pub rolesInForce : Clock → Credential → List Asserted
-rolesInForce clock c = without (expired clock) c.asserted
+unfoldable pub roles_in_force : Clock → Credential → List Asserted
+roles_in_force clock c = without (expired clock) c.asserted
 
 -- the stored role, or an asserted one in force
-unfoldable pub hasRole : Clock → Role → Credential → Bool
-hasRole clock r c = holds c.role (sameRole r) || any (λ a. sameRole r a.role) (rolesInForce clock c)
+unfoldable pub has_role : Clock → Role → Credential → Bool
+has_role clock r c = holds c.role (same_role r) || any (λ a. same_role r a.role) (roles_in_force clock c)
 
 -- a UUID fits a credential row with that subject, a role a row that has it, a connection the same one
-unfoldable pub subjectFits : Clock → Caller → Subject → Bool
-subjectFits clock who (IsUuid u) = holds who.credential (λ c. same u c.subject)
-subjectFits clock who (HasRole r) = holds who.credential (hasRole clock r)
-subjectFits clock who (IsConnection c) = sameConnection c who.connection
+unfoldable pub subject_fits : Clock → Caller → Subject → Bool
+subject_fits clock who (IsUuid u) = holds who.credential (λ c. same u c.subject)
+subject_fits clock who (HasRole r) = holds who.credential (has_role clock r)
+subject_fits clock who (IsConnection c) = same_connection c who.connection
 
 -- the resource is in the set, or a wildcard reaches it
-unfoldable pub resourceFits : Resource → Access → Bool
-resourceFits e a =
+unfoldable pub resource_fits : Resource → Access → Bool
+resource_fits e a =
     a.resources e
-    || (a.wildcards.star && starReaches e)
-    || (a.wildcards.plus && plusReaches e)
-    || (a.wildcards.minus && minusReaches e)
+    || (a.wildcards.star && star_reaches e)
+    || (a.wildcards.plus && plus_reaches e)
+    || (a.wildcards.minus && minus_reaches e)
 
 -- first ≤ clock ≤ last (U8)
-unfoldable pub inPeriod : Clock → Access → Bool
-inPeriod clock a = leb a.first clock && leb clock a.last
+unfoldable pub in_period : Clock → Access → Bool
+in_period clock a = leb a.first clock && leb clock a.last
 
 unfoldable pub gives : Clock → Caller → Resource → Access → Permission
-gives clock who e a = cond (subjectFits clock who a.subject && resourceFits e a && inPeriod clock a) a.permission 0
+gives clock who e a = cond (subject_fits clock who a.subject && resource_fits e a && in_period clock a) a.permission 0
 
 -- ---- 2. all five bits on a security resource for the device owner, and for the resource's row owner
 
@@ -106,39 +106,39 @@ names none c = false
 names (just owner) c = same owner c.subject
 
 -- roles has no row owner (U11)
-abbrev pub rowOwner : Tables → SecurityResource → Maybe Uuid
-rowOwner t Doxm = t.rowOwners.doxm
-rowOwner t Pstat = t.rowOwners.pstat
-rowOwner t Cred = t.rowOwners.cred
-rowOwner t Acl2 = t.rowOwners.acl2
-rowOwner t Roles = none
+abbrev pub row_owner : Tables → SecurityResource → Maybe Uuid
+row_owner t Doxm = t.row_owners.doxm
+row_owner t Pstat = t.row_owners.pstat
+row_owner t Cred = t.row_owners.cred
+row_owner t Acl2 = t.row_owners.acl2
+row_owner t Roles = none
 
-unfoldable pub isOwner : Tables → Caller → SecurityResource → Bool
-isOwner t who s = holds who.credential (λ c. names t.owner c || names (rowOwner t s) c)
+unfoldable pub is_owner : Tables → Caller → SecurityResource → Bool
+is_owner t who s = holds who.credential (λ c. names t.owner c || names (row_owner t s) c)
 
-abbrev pub byOwner : Tables → Caller → Resource → Permission
-byOwner t who (Security s) = cond (isOwner t who s) allBits 0
-byOwner t who (Application a) = 0
+abbrev pub by_owner : Tables → Caller → Resource → Permission
+by_owner t who (Security s) = cond (is_owner t who s) all_bits 0
+by_owner t who (Application a) = 0
 
 -- ---- 3. and for anyone while owned is 0
 
-abbrev pub byNoOwner : Tables → Resource → Permission
-byNoOwner t (Security s) = cond (is_none t.owner) allBits 0
-byNoOwner t (Application a) = 0
+abbrev pub by_no_owner : Tables → Resource → Permission
+by_no_owner t (Security s) = cond (is_none t.owner) all_bits 0
+by_no_owner t (Application a) = 0
 
 -- ---- 4. connection 1 has permission 6 on roles (U11)
 
-abbrev pub onRoles : Connection → Permission
-onRoles AnonClear = 0
-onRoles AuthCrypt = R + U
+abbrev pub on_roles : Connection → Permission
+on_roles AnonClear = 0
+on_roles AuthCrypt = R + U
 
-abbrev pub byConnection : Caller → Resource → Permission
-byConnection who (Security Doxm) = 0
-byConnection who (Security Pstat) = 0
-byConnection who (Security Cred) = 0
-byConnection who (Security Acl2) = 0
-byConnection who (Security Roles) = onRoles who.connection
-byConnection who (Application a) = 0
+abbrev pub by_connection : Caller → Resource → Permission
+by_connection who (Security Doxm) = 0
+by_connection who (Security Pstat) = 0
+by_connection who (Security Cred) = 0
+by_connection who (Security Acl2) = 0
+by_connection who (Security Roles) = on_roles who.connection
+by_connection who (Application a) = 0
 
 -- ---- the union
 
@@ -146,6 +146,6 @@ unfoldable pub effective : Clock → Tables → Caller → Resource → Permissi
 effective clock t who e =
     bit_or (bit_or (bit_or
     (union (gives clock who e) t.accesses)
-    (byOwner t who e))
-    (byNoOwner t e))
-    (byConnection who e)
+    (by_owner t who e))
+    (by_no_owner t e))
+    (by_connection who e)

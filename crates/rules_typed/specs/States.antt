@@ -3,23 +3,23 @@ use Rattle.std.specs.Prelude.{ℕ, Bool, true, false, not, ◌&&◌, List, [], �
 use Rattle.rules_typed.specs.Lists.{Maybe, none, just, is_none, any}
 use Rattle.rules_typed.specs.Types.{Uuid, Connection, AuthCrypt, State, RFOTM, RFPRO, RFNOP, SRESET, Target, Reset, To, Action, Serve, Read, SetRowOwner}
 use Rattle.rules_typed.specs.Types.{SetOwner, Move, StoreCredential, StoreAccess, DeleteCredentials, DeleteSubject, DeleteAccesses, AssertRole}
-use Rattle.rules_typed.specs.Permission.{sameConnection}
+use Rattle.rules_typed.specs.Permission.{same_connection}
 
-abbrev pub stateNumber : State → ℕ
-stateNumber RFOTM = 1
-stateNumber RFPRO = 2
-stateNumber RFNOP = 3
-stateNumber SRESET = 4
+abbrev pub state_number : State → ℕ
+state_number RFOTM = 1
+state_number RFPRO = 2
+state_number RFNOP = 3
+state_number SRESET = 4
 
-unfoldable pub isState : State → State → Bool
-isState s other = eqb (stateNumber s) (stateNumber other)
+unfoldable pub is_state_lem : State → State → Bool
+is_state_lem s other = eqb (state_number s) (state_number other)
 
 -- ---- what a state allows: 11 if it does not
 
 -- a row of the paper's table; whether a doxm body is allowed may depend on the owner that it names
 pub record Allowed : Type 0 where
   pub doxm : Maybe Uuid → Bool
-  pub rowOwners : Bool
+  pub row_owners : Bool
   pub rows : Bool
   pub target : Bool
 
@@ -33,7 +33,7 @@ abbrev pub owned : Maybe Uuid → Bool
 owned owner = not (is_none owner)
 
 abbrev pub row : (Maybe Uuid → Bool) → Bool → Bool → Bool → Allowed
-row doxm rowOwners rows target = record { doxm = doxm; rowOwners = rowOwners; rows = rows; target = target }
+row doxm row_owners rows target = record { doxm = doxm; row_owners = row_owners; rows = rows; target = target }
 
 -- doxm 17 bytes, row owners, cred and acl2 rows, target state
 abbrev pub allowed : State → Allowed
@@ -44,18 +44,18 @@ allowed SRESET = row owned true true true
 
 -- security resources are read in every state; application resources are served in RFNOP only;
 -- roles are asserted in RFNOP and over connection 1 only (U11)
-abbrev pub stateAllows : State → Connection → Action → Bool
-stateAllows s c Serve = isState s RFNOP
-stateAllows s c Read = true
-stateAllows s c (SetRowOwner e owner) = (allowed s).rowOwners
-stateAllows s c (SetOwner owner) = (allowed s).doxm owner
-stateAllows s c (Move target) = (allowed s).target
-stateAllows s c (StoreCredential row) = (allowed s).rows
-stateAllows s c (StoreAccess row) = (allowed s).rows
-stateAllows s c (DeleteCredentials which) = (allowed s).rows
-stateAllows s c (DeleteSubject subject) = (allowed s).rows
-stateAllows s c (DeleteAccesses which) = (allowed s).rows
-stateAllows s c (AssertRole role) = isState s RFNOP && sameConnection c AuthCrypt
+abbrev pub state_allows : State → Connection → Action → Bool
+state_allows s c Serve = is_state_lem s RFNOP
+state_allows s c Read = true
+state_allows s c (SetRowOwner e owner) = (allowed s).row_owners
+state_allows s c (SetOwner owner) = (allowed s).doxm owner
+state_allows s c (Move target) = (allowed s).target
+state_allows s c (StoreCredential row) = (allowed s).rows
+state_allows s c (StoreAccess row) = (allowed s).rows
+state_allows s c (DeleteCredentials which) = (allowed s).rows
+state_allows s c (DeleteSubject subject) = (allowed s).rows
+state_allows s c (DeleteAccesses which) = (allowed s).rows
+state_allows s c (AssertRole role) = is_state_lem s RFNOP && same_connection c AuthCrypt
 
 -- ---- targets: 12 if it is not on the list
 
@@ -67,6 +67,6 @@ targets RFPRO owner = RFNOP ∷ SRESET ∷ []
 targets RFNOP owner = RFPRO ∷ SRESET ∷ []
 targets SRESET owner = RFPRO ∷ []
 
-abbrev pub mayMove : State → Maybe Uuid → Target → Bool
-mayMove s owner Reset = true
-mayMove s owner (To target) = any (isState target) (targets s owner)
+abbrev pub may_move : State → Maybe Uuid → Target → Bool
+may_move s owner Reset = true
+may_move s owner (To target) = any (is_state_lem target) (targets s owner)

@@ -120,7 +120,7 @@ pub record RowOwners : Type 0 where
 pub record Tables : Type 0 where
   pub state : State
   pub owner : Maybe Uuid
-  pub rowOwners : RowOwners
+  pub row_owners : RowOwners
   pub credentials : List Credential
   pub accesses : List Access
 

@@ -1,5 +1,7 @@
 // The run program: reads a run from standard input, and writes its text.
 // The work is `report::run_text`; no contract can say what is read or written.
+#![tactic(auto)]
+
 fn main() {
     let mut input = [0u8; 32768];
     let n = io::read_full(0, &mut input);

@@ -1,8 +1,10 @@
 // The next write of an image to a store that a power cut cannot break. The caller passes the store's bytes as read back and the image,
 // writes the byte that it gets, and asks again. A whole run looks at each byte of the images a few times.
+#![tactic(auto)]
+
 ghost use Rattle.std.specs.Prelude.{◌≡◌, ◌-◌, ◌%◌, length, if◌then◌else◌, ◌==◌, nat_eq};
 ghost use Rattle.rows.specs.Words.{was};
-ghost use Rattle.rules_store.specs.Store.{size_for, sum, counter, currentAt, mismatchFrom, toCopy, write, settled, next};
+ghost use Rattle.rules_store.specs.Store.{size_for, sum, counter, current_at, mismatch_from, to_copy, write, settled, next};
 
 use rows::{part, same_bytes};
 use rules_store::Step;
@@ -27,7 +29,7 @@ pub fn next(store: &[u8], new: &[u8], from: usize) -> Step
 // Where the current image starts, in a store for images of n bytes.
 // Rules out: the spare image; the image that was current before the last mark.
 pub fn current_at(store: &[u8], n: usize) -> usize
-    ensures { result ≡ currentAt n (was store) }
+    ensures { result ≡ current_at n (was store) }
 {
     by_parity(counter(store, n), 0, n)
 }
@@ -119,7 +121,7 @@ fn less(a: usize, b: usize) -> usize
 
 // The offset of the byte to copy: the first from `from` on at which the images differ, else the first of all.
 fn to_copy(from: usize, old: &[u8], new: &[u8]) -> usize
-    ensures { result ≡ toCopy from (was old) (was new) }
+    ensures { result ≡ to_copy from (was old) (was new) }
 {
     let offset = mismatch_from(from, old, new);
     if offset < new.len() {
@@ -130,7 +132,7 @@ fn to_copy(from: usize, old: &[u8], new: &[u8]) -> usize
 
 // The first offset from `from` on at which the images differ.
 fn mismatch_from(from: usize, old: &[u8], new: &[u8]) -> usize
-    ensures { result ≡ mismatchFrom from (was old) (was new) }
+    ensures { result ≡ mismatch_from from (was old) (was new) }
 {
     let mut i = from;
     while i < old.len() {

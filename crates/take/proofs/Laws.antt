@@ -1,7 +1,7 @@
 -- Laws of a take, as the code does it: nothing taken, or the record that is due, given out and judged, and its seat left.
 use Rattle.rows.proofs.Prelude.{◌≡◌, sym, ap, ◌∙◌, true, false, List, ℕ, ◌≤◌, length, take, replicate, eqb}
-use Rattle.rows.specs.Rows.{Row, has_key, every, without, distinctNumbers}
-use Rattle.rows.proofs.Kept.{every-without, distinct_without}
+use Rattle.rows.specs.Rows.{Row, has_key, every, without, distinct_numbers}
+use Rattle.rows.proofs.Kept.{every_without, distinct_without}
 use Rattle.rules.specs.declared.Tables.{Tables}
 use Rattle.rules.specs.declared.Check.{Check}
 use Rattle.rules.specs.declared.Check.TheVariants.{Pass, Refuse}
@@ -12,91 +12,91 @@ use Rattle.rules.specs.Tables.{rows, tables_of}
 use Rattle.rules.specs.Defaults.{Defaults}
 use Rattle.rules.specs.Reading.{filled}
 use Rattle.rules.specs.Checks.{verdict, number_of}
-use Rattle.rules.specs.Outcome.{outcome, responseTo}
-use Rattle.rules.specs.Contracts.Results.{Result, result_of, numberJudgement}
-use Rattle.rules_terminal.specs.Slots.{Seat, afterSeat, padded, roundOf, waiting, queueOf}
-use Rattle.rules_terminal.specs.Terminal.{Terminal, terminal, slotSound, soundTerminal, queueAfter, takeChecks, turn, due, taken, taken_of}
+use Rattle.rules.specs.Outcome.{outcome, response_to}
+use Rattle.rules.specs.Promises.Results.{Result, result_of, number_judgement}
+use Rattle.rules_terminal.specs.Slots.{Seat, after_seat, padded, round_of, waiting, queue_of}
+use Rattle.rules_terminal.specs.Terminal.{Terminal, terminal, slot_sound, sound_terminal, queue_after, take_checks, turn, due, taken, taken_of}
 use Rattle.rules_terminal.specs.Calls.{Takes}
-use Rattle.rules_terminal.proofs.SlotLaws.{queue-sound, waiting-back, round-back, slots-long}
-use Rattle.rules_terminal.proofs.Held.{few-slots}
-use Rattle.rules_terminal.proofs.Built.{padded-back}
-use Rattle.rules_terminal.proofs.Sound.{Sound, terminal-parts, turn_is, take-passed}
+use Rattle.rules_terminal.proofs.SlotLaws.{queue_sound_lem, waiting_back, round_back, slots_long}
+use Rattle.rules_terminal.proofs.Held.{few_slots}
+use Rattle.rules_terminal.proofs.Built.{padded_back}
+use Rattle.rules_terminal.proofs.Sound.{Sound, terminal_parts, turn_is, take_passed}
 use Rattle.queue.specs.Queue.{IsQueue}
-use Rattle.queue.proofs.Queues.{queue-queue, sound-queue}
+use Rattle.queue.proofs.Queues.{queue_queue, sound_queue_lem}
 use Rattle.queue_turn.specs.declared.Due.{Due}
-use Rattle.queue_turn.specs.Turns.{dueOf}
+use Rattle.queue_turn.specs.Turns.{due_of}
 use Rattle.rules.specs.declared.Table.TheVariants.{Creds}
 
 -- ---- the record handed to the decision
 
-module _ (x : Terminal) (q : Due) (is : q ≡ dueOf x) where
-  prefix-is : take q.size q.bytes ≡ due x
-  prefix-is = ap (λ (z : Due). take z.size z.bytes) is ∙ padded-back (due x)
+module _ (x : Terminal) (q : Due) (is : q ≡ due_of x) where
+  prefix_is : take q.size q.bytes ≡ due x
+  prefix_is = ap (λ (z : Due). take z.size z.bytes) is ∙ padded_back (due x)
 
-  pub seat-is : q.seat ≡ turn x
-  seat-is = ap (λ (z : Due). z.seat) is
+  pub seat_is : q.seat ≡ turn x
+  seat_is = ap (λ (z : Due). z.seat) is
 
 -- ---- the seat left
 
-module _ (t : Tables) (m : List ℕ) (h : soundTerminal (terminal t m) ≡ true) (w : eqb (length (waiting m)) 0 ≡ false) where
+module _ (t : Tables) (m : List ℕ) (h : sound_terminal (terminal t m) ≡ true) (w : eqb (length (waiting m)) 0 ≡ false) where
   abbrev pub others : List Row
   others = without (has_key 0 (turn (terminal t m))) (waiting m)
 
   s : Sound (terminal t m)
-  s = terminal-parts (terminal t m) h
+  s = terminal_parts (terminal t m) h
 
   two : length (turn (terminal t m)) ≡ 2
   two = (turn_is (terminal t m) h w).two
 
-  all : every (slotSound (rows Creds t)) others ≡ true
-  all = every-without (slotSound (rows Creds t)) (has_key 0 (turn (terminal t m))) (waiting m) s.keeps
+  all : every (slot_sound (rows Creds t)) others ≡ true
+  all = every_without (slot_sound (rows Creds t)) (has_key 0 (turn (terminal t m))) (waiting m) s.keeps
 
-  distinct : distinctNumbers others ≡ true
+  distinct : distinct_numbers others ≡ true
   distinct = distinct_without (has_key 0 (turn (terminal t m))) (waiting m) s.distinct
 
   few : length others ≤ 25
-  few = few-slots t others s.tables all distinct
+  few = few_slots t others s.tables all distinct
 
-  pub can-leave : (p : Seat) → p ≡ turn (terminal t m) → IsQueue m × (length p ≡ 2)
-  can-leave p e = (sound-queue t m h, ap length e ∙ two)
+  pub can_leave : (p : Seat) → p ≡ turn (terminal t m) → IsQueue m × (length p ≡ 2)
+  can_leave p e = (sound_queue_lem t m h, ap length e ∙ two)
 
-  pub left-queue : (m' : List ℕ) → m' ≡ queueOf (afterSeat (turn (terminal t m))) others → IsQueue m'
-  left-queue m' e =
-      rw e (queue-queue t (queueOf (afterSeat (turn (terminal t m))) others) (queue-sound t (afterSeat (turn (terminal t m))) others two few all distinct))
+  pub left_queue : (m' : List ℕ) → m' ≡ queue_of (after_seat (turn (terminal t m))) others → IsQueue m'
+  left_queue m' e =
+      rw e (queue_queue t (queue_of (after_seat (turn (terminal t m))) others) (queue_sound_lem t (after_seat (turn (terminal t m))) others two few all distinct))
 
-  pub left-round : roundOf (queueOf (afterSeat (turn (terminal t m))) others) ≡ afterSeat (turn (terminal t m))
-  left-round = round-back (afterSeat (turn (terminal t m))) others two
+  pub left_round : round_of (queue_of (after_seat (turn (terminal t m))) others) ≡ after_seat (turn (terminal t m))
+  left_round = round_back (after_seat (turn (terminal t m))) others two
 
-  pub left-waiting : waiting (queueOf (afterSeat (turn (terminal t m))) others) ≡ others
-  left-waiting = waiting-back (afterSeat (turn (terminal t m))) others two few (slots-long t others all)
+  pub left_waiting : waiting (queue_of (after_seat (turn (terminal t m))) others) ≡ others
+  left_waiting = waiting_back (after_seat (turn (terminal t m))) others two few (slots_long t others all)
 
 -- ---- the take
 
-module _ (d : Defaults) (t : Tables) (m : List ℕ) (clock capacity : ℕ) (c : Check) (told : c ≡ verdict (takeChecks (terminal t m))) where
-  pub ready : c ≡ Pass → (soundTerminal (terminal t m) ≡ true) × (eqb (length (waiting m)) 0 ≡ false)
-  ready e = take-passed (terminal t m) (sym told ∙ e)
+module _ (d : Defaults) (t : Tables) (m : List ℕ) (clock capacity : ℕ) (c : Check) (told : c ≡ verdict (take_checks (terminal t m))) where
+  pub ready : c ≡ Pass → (sound_terminal (terminal t m) ≡ true) × (eqb (length (waiting m)) 0 ≡ false)
+  ready e = take_passed (terminal t m) (sym told ∙ e)
 
-  module _ (e : c ≡ Pass) (q : Due) (is : q ≡ dueOf (terminal t m)) (bytes : List ℕ) (front : bytes ≡ take q.size q.bytes) where
+  module _ (e : c ≡ Pass) (q : Due) (is : q ≡ due_of (terminal t m)) (bytes : List ℕ) (front : bytes ≡ take q.size q.bytes) where
     abbrev pub handed : Request
     handed = received clock bytes capacity
 
-    handed-is : handed ≡ received clock (due (terminal t m)) capacity
-    handed-is = ap (λ (r : List ℕ). received clock r capacity) (front ∙ prefix-is (terminal t m) q is)
+    handed_is : handed ≡ received clock (due (terminal t m)) capacity
+    handed_is = ap (λ (r : List ℕ). received clock r capacity) (front ∙ prefix_is (terminal t m) q is)
 
     -- by the memory that is left
-    pub one-taken : (s : Result) (m' b b' : List ℕ) → s ≡ result_of (outcome d t handed) → b' ≡ filled b (responseTo d t handed).contents
-        → m' ≡ queueAfter d t handed (afterSeat (turn (terminal t m))) (without (has_key 0 (turn (terminal t m))) (waiting m))
+    pub one_taken : (s : Result) (m' b b' : List ℕ) → s ≡ result_of (outcome d t handed) → b' ≡ filled b (response_to d t handed).contents
+        → m' ≡ queue_after d t handed (after_seat (turn (terminal t m))) (without (has_key 0 (turn (terminal t m))) (waiting m))
         → Takes d (terminal t m) clock capacity (record { judgement = s; size = q.size; bytes = q.bytes }) b m' b'
     unfolding taken
-    one-taken s m' b b' f g h =
-        let v : Pass ≡ verdict (takeChecks (terminal t m)) = sym e ∙ told in
-        record { hands = rw (f, handed-is, is, ← v); leaves = record { keeps = rw (h, handed-is, ← v); fills = rw (g, handed-is, ← v) } }
+    one_taken s m' b b' f g h =
+        let v : Pass ≡ verdict (take_checks (terminal t m)) = sym e ∙ told in
+        record { hands = rw (f, handed_is, is, ← v); leaves = record { keeps = rw (h, handed_is, ← v); fills = rw (g, handed_is, ← v) } }
 
-pub nothing-taken : (d : Defaults) (f : Head) (cs es m : List ℕ) (clock capacity : ℕ) (c : Check)
-    → c ≡ verdict (takeChecks (terminal (tables_of f cs es) m)) → (n : ℕ) → c ≡ Refuse n
-    → (j : Judgement) → j ≡ numberJudgement f (number_of c) → (z : List ℕ) → z ≡ replicate 256 0 → (b : List ℕ)
+pub nothing_taken : (d : Defaults) (f : Head) (cs es m : List ℕ) (clock capacity : ℕ) (c : Check)
+    → c ≡ verdict (take_checks (terminal (tables_of f cs es) m)) → (n : ℕ) → c ≡ Refuse n
+    → (j : Judgement) → j ≡ number_judgement f (number_of c) → (z : List ℕ) → z ≡ replicate 256 0 → (b : List ℕ)
     → Takes d (terminal (tables_of f cs es) m) clock capacity (taken_of (record { judgement = j; size = 0; bytes = z }) cs es) b m b
 unfolding taken padded filled
-nothing-taken d f cs es m clock capacity c told n e j i z l b =
-    let v : Refuse n ≡ verdict (takeChecks (terminal (tables_of f cs es) m)) = sym e ∙ told in
+nothing_taken d f cs es m clock capacity c told n e j i z l b =
+    let v : Refuse n ≡ verdict (take_checks (terminal (tables_of f cs es) m)) = sym e ∙ told in
     record { hands = rw (i, e, l, ← v); leaves = record { keeps = rw (← v); fills = rw (← v) } }

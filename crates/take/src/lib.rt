@@ -1,11 +1,13 @@
 // The take: the record whose turn it is, given out by value and judged.
 // It asks nothing of its caller. The head of the tables comes and goes by value, the rows are changed in the bytes that are passed in.
+#![tactic(auto)]
+
 ghost use Rattle.std.specs.Prelude.{◌≡◌, length};
 ghost use Rattle.rules.specs.Defaults.{defaults};
 ghost use Rattle.rules.specs.Checks.{verdict};
-ghost use Rattle.rules_terminal.specs.Terminal.{terminal, takeChecks, taken_of};
+ghost use Rattle.rules_terminal.specs.Terminal.{terminal, take_checks, taken_of};
 ghost use Rattle.rules_terminal.specs.Calls.{Takes};
-ghost use Rattle.rules.specs.Contracts.Words.{was, became, before};
+ghost use Rattle.rules.specs.Promises.Words.{was, became, before};
 
 use check_waiting::check_terminal;
 use decision::decide;
@@ -22,7 +24,7 @@ fn check_take<'a>(
     aces: &'a [u8; ACE_ROWS],
     queue: &[u8; QUEUE],
 ) -> Check
-    ensures { result ≡ verdict (takeChecks (terminal (before h creds aces) (was queue))) }
+    ensures { result ≡ verdict (take_checks (terminal (before h creds aces) (was queue))) }
 {
     let c = check_terminal(h, creds, aces, queue);
     let Check::Pass = c else {

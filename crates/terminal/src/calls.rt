@@ -1,14 +1,14 @@
 // A call of each exported function, with the promise that the theorems over C calls suppose of it (crate `rules_interface`).
 // Its contract is all that a call here knows: an exported function that promises less is refused here.
 ghost use Rattle.std.specs.Prelude.{length};
-ghost use Rattle.rules.specs.Contracts.Words.{was, became};
+ghost use Rattle.rules.specs.Promises.Words.{was, became};
 ghost use Rattle.rules.specs.Record.{received};
-ghost use Rattle.rules.specs.Defaults.{noDefaults, defaults};
-ghost use Rattle.rules_terminal.specs.Inputs.{handIn, takeAt, direct};
-ghost use Rattle.rules_interface.specs.Memory.{memoryBefore, memoryAfter, withQueue};
+ghost use Rattle.rules.specs.Defaults.{no_defaults, defaults};
+ghost use Rattle.rules_terminal.specs.Inputs.{hand_in, take_at, direct};
+ghost use Rattle.rules_interface.specs.Memory.{memory_before, memory_after, with_queue};
 ghost use Rattle.rules_interface.specs.Interface.{FreshAt, ClearsAt, IsSoundAt, ListsAt, TestsAt, ConvertsAt};
 ghost use Rattle.rules_interface.specs.Storing.{StoresNext, StoresCurrent};
-ghost use Rattle.rules_interface.specs.Calls.{Promised, handInCall, judgeCall, takeCall};
+ghost use Rattle.rules_interface.specs.Calls.{Promised, hand_in_call, judge_call, take_call};
 
 use crate::lists::{
     tillerclover_access_list_at, tillerclover_convert_list_at, tillerclover_test_list_at,
@@ -31,7 +31,7 @@ pub fn fresh(
     default_creds: &[u8],
     default_aces: &[u8],
 )
-    ensures { FreshAt (defaults (was default_creds) (was default_aces)) (memoryAfter counts devowner rowners creds aces queue) }
+    ensures { FreshAt (defaults (was default_creds) (was default_aces)) (memory_after counts devowner rowners creds aces queue) }
 {
     tillerclover_fresh_at(
         counts,
@@ -56,7 +56,7 @@ pub fn clear(
     default_aces: &[u8],
 )
     ensures { ClearsAt (defaults (was default_creds) (was default_aces))
-        (memoryBefore counts devowner rowners creds aces queue) (memoryAfter counts devowner rowners creds aces queue) }
+        (memory_before counts devowner rowners creds aces queue) (memory_after counts devowner rowners creds aces queue) }
 {
     tillerclover_clear_at(
         counts,
@@ -78,7 +78,7 @@ pub fn is_sound<'a>(
     aces: &'a [u8; ACE_ROWS],
     queue: &[u8; QUEUE],
 ) -> u64
-    ensures { IsSoundAt (memoryBefore counts devowner rowners creds aces queue) result }
+    ensures { IsSoundAt (memory_before counts devowner rowners creds aces queue) result }
 {
     tillerclover_is_sound_at(counts, devowner, rowners, creds, aces, queue)
 }
@@ -97,9 +97,9 @@ pub fn judge(
     reply: &mut [u8],
     words: &mut [u64; 9],
 )
-    ensures { Promised (defaults (was default_creds) (was default_aces)) (memoryBefore counts devowner rowners creds aces queue)
+    ensures { Promised (defaults (was default_creds) (was default_aces)) (memory_before counts devowner rowners creds aces queue)
         (direct (received clock (was rec) (length (was reply))))
-        (judgeCall (became words) (memoryAfter counts devowner rowners creds aces queue) (was reply) (became reply)) }
+        (judge_call (became words) (memory_after counts devowner rowners creds aces queue) (was reply) (became reply)) }
 {
     tillerclover_judge_at(
         counts,
@@ -127,8 +127,8 @@ pub fn hand_in<'a>(
     rec: &[u8],
     words: &mut [u64; 9],
 )
-    ensures { Promised noDefaults (memoryBefore counts devowner rowners creds aces queue) (handIn (was rec))
-        (handInCall (became words) (withQueue (memoryBefore counts devowner rowners creds aces queue) (became queue))) }
+    ensures { Promised no_defaults (memory_before counts devowner rowners creds aces queue) (hand_in (was rec))
+        (hand_in_call (became words) (with_queue (memory_before counts devowner rowners creds aces queue) (became queue))) }
 {
     tillerclover_hand_in_at(counts, devowner, rowners, creds, aces, queue, rec, words);
 }
@@ -148,9 +148,9 @@ pub fn take(
     size: &mut [u64; 1],
     bytes: &mut [u8; 256],
 )
-    ensures { Promised (defaults (was default_creds) (was default_aces)) (memoryBefore counts devowner rowners creds aces queue)
-        (takeAt clock (length (was reply)))
-        (takeCall (became words) (became size) (became bytes) (memoryAfter counts devowner rowners creds aces queue) (was reply) (became reply)) }
+    ensures { Promised (defaults (was default_creds) (was default_aces)) (memory_before counts devowner rowners creds aces queue)
+        (take_at clock (length (was reply)))
+        (take_call (became words) (became size) (became bytes) (memory_after counts devowner rowners creds aces queue) (was reply) (became reply)) }
 {
     tillerclover_take_at(
         counts,
@@ -179,7 +179,7 @@ pub fn access_list<'a>(
     text: &mut [u8],
     words: &mut [u64; 2],
 )
-    ensures { ListsAt (memoryBefore counts devowner rowners creds aces queue) (became words) (was text) (became text) }
+    ensures { ListsAt (memory_before counts devowner rowners creds aces queue) (became words) (was text) (became text) }
 {
     tillerclover_access_list_at(counts, devowner, rowners, creds, aces, queue, text, words);
 }

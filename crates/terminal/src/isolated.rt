@@ -1,10 +1,10 @@
 // The C interface of two questions: are the senders of a list isolated, and which library is this. Declared in
 // include/tillerclover_yards.h: pointers, 64-bit lengths and scalars alone; the tables as five arrays, in the order of their bytes.
 ghost use Rattle.std.specs.Prelude.{◌≡◌, eqb};
-ghost use Rattle.rules.specs.Contracts.Words.{was, became};
-ghost use Rattle.rules_isolation.specs.Question.{reportOf, isolationOf};
-ghost use Rattle.rules_interface.specs.Memory.{tablesAt};
-ghost use Rattle.rules_interface.specs.Isolated.{reportWords, identity};
+ghost use Rattle.rules.specs.Promises.Words.{was, became};
+ghost use Rattle.rules_isolation.specs.Question.{report_of, isolation_of};
+ghost use Rattle.rules_interface.specs.Memory.{tables_at};
+ghost use Rattle.rules_interface.specs.Isolated.{report_words, identity};
 
 use c_memory::head_at;
 use isolation::isolation_of;
@@ -23,7 +23,7 @@ pub extern "C" fn tillerclover_isolated_at<'a>(
     words: &mut [u64; 3],
 )
     ensures { became words
-        ≡ reportWords (reportOf (isolationOf (tablesAt (was counts) (was devowner) (was rowners) (was creds) (was aces)) (was senders))) }
+        ≡ report_words (report_of (isolation_of (tables_at (was counts) (was devowner) (was rowners) (was creds) (was aces)) (was senders))) }
 {
     let h = head_at(counts, devowner, rowners);
     let report = isolation_of(h, creds, aces, senders).report();
@@ -44,7 +44,7 @@ pub extern "C" fn tillerclover_identity() -> u64
 // The same question of tables by value, with the three words.
 // Rules out: a contract above that leaves a word open.
 pub fn isolated(t: Tables, senders: &[u8]) -> [u64; 3]
-    ensures { result ≡ reportWords (reportOf (isolationOf t (was senders))) }
+    ensures { result ≡ report_words (report_of (isolation_of t (was senders))) }
 {
     let counts = [t.state, t.owned, t.ncreds, t.naces];
     let devowner = t.devowner;

@@ -1,15 +1,17 @@
 // The C interface: one call each of the library, declared in include/tillerclover.h.
 // Arguments are pointers, 64-bit lengths and scalars only. Tables, queue, buffers and results belong to the caller and are changed in place.
+#![tactic(auto)]
+
 mod calls;
 mod isolated;
 mod lists;
 mod storing;
 
 ghost use Rattle.std.specs.Prelude.{length};
-ghost use Rattle.rules.specs.Contracts.Words.{was, became};
+ghost use Rattle.rules.specs.Promises.Words.{was, became};
 ghost use Rattle.rules.specs.Record.{received};
 ghost use Rattle.rules.specs.Defaults.{defaults};
-ghost use Rattle.rules_interface.specs.Memory.{memoryBefore, memoryAfter};
+ghost use Rattle.rules_interface.specs.Memory.{memory_before, memory_after};
 ghost use Rattle.rules_interface.specs.Interface.{FreshAt, ClearsAt, IsSoundAt, HandsInAt, TakesAt, JudgesAt};
 
 use c_memory::{head_at, put_head, words_of};
@@ -31,7 +33,7 @@ pub extern "C" fn tillerclover_fresh_at(
     default_creds: &[u8],
     default_aces: &[u8],
 )
-    ensures { FreshAt (defaults (was default_creds) (was default_aces)) (memoryAfter counts devowner rowners creds aces queue) }
+    ensures { FreshAt (defaults (was default_creds) (was default_aces)) (memory_after counts devowner rowners creds aces queue) }
 {
     let h = fresh_in(creds, aces, default_creds, default_aces);
     put_head(h, counts, devowner, rowners);
@@ -52,7 +54,7 @@ pub extern "C" fn tillerclover_clear_at(
     default_aces: &[u8],
 )
     ensures { ClearsAt (defaults (was default_creds) (was default_aces))
-        (memoryBefore counts devowner rowners creds aces queue) (memoryAfter counts devowner rowners creds aces queue) }
+        (memory_before counts devowner rowners creds aces queue) (memory_after counts devowner rowners creds aces queue) }
 {
     tillerclover_fresh_at(
         counts,
@@ -77,7 +79,7 @@ pub extern "C" fn tillerclover_is_sound_at<'a>(
     aces: &'a [u8; ACE_ROWS],
     queue: &[u8; QUEUE],
 ) -> u64
-    ensures { IsSoundAt (memoryBefore counts devowner rowners creds aces queue) result }
+    ensures { IsSoundAt (memory_before counts devowner rowners creds aces queue) result }
 {
     let h = head_at(counts, devowner, rowners);
     if terminal_sound(h, creds, aces, queue) {
@@ -105,9 +107,9 @@ pub extern "C" fn tillerclover_judge_at(
     reply: &mut [u8],
     words: &mut [u64; 9],
 )
-    ensures { JudgesAt (defaults (was default_creds) (was default_aces)) (memoryBefore counts devowner rowners creds aces queue)
+    ensures { JudgesAt (defaults (was default_creds) (was default_aces)) (memory_before counts devowner rowners creds aces queue)
         (received clock (was rec) (length (was reply)))
-        (became words) (memoryAfter counts devowner rowners creds aces queue) (was reply) (became reply) }
+        (became words) (memory_after counts devowner rowners creds aces queue) (was reply) (became reply) }
 {
     let h = head_at(counts, devowner, rowners);
     let j = judge::judge(
@@ -138,7 +140,7 @@ pub extern "C" fn tillerclover_hand_in_at<'a>(
     rec: &[u8],
     words: &mut [u64; 9],
 )
-    ensures { HandsInAt (memoryBefore counts devowner rowners creds aces queue) (was rec) (became words) (became queue) }
+    ensures { HandsInAt (memory_before counts devowner rowners creds aces queue) (was rec) (became words) (became queue) }
 {
     let h = head_at(counts, devowner, rowners);
     let kept = hand_in::hand_in(h, creds, aces, queue, rec);
@@ -163,9 +165,9 @@ pub extern "C" fn tillerclover_take_at(
     size: &mut [u64; 1],
     bytes: &mut [u8; 256],
 )
-    ensures { TakesAt (defaults (was default_creds) (was default_aces)) (memoryBefore counts devowner rowners creds aces queue)
+    ensures { TakesAt (defaults (was default_creds) (was default_aces)) (memory_before counts devowner rowners creds aces queue)
         clock (length (was reply))
-        (became words) (became size) (became bytes) (memoryAfter counts devowner rowners creds aces queue) (was reply) (became reply) }
+        (became words) (became size) (became bytes) (memory_after counts devowner rowners creds aces queue) (was reply) (became reply) }
 {
     let h = head_at(counts, devowner, rowners);
     let u = take::take(

@@ -1,8 +1,8 @@
 // The C interface of lists: the access list as office text, the test of a list, and lists of the older terminals.
 // A result is two words: the answer, and a row or a length.
 ghost use Rattle.std.specs.Prelude.{◌≡◌};
-ghost use Rattle.rules.specs.Contracts.Words.{was, became};
-ghost use Rattle.rules_interface.specs.Memory.{memoryBefore};
+ghost use Rattle.rules.specs.Promises.Words.{was, became};
+ghost use Rattle.rules_interface.specs.Memory.{memory_before};
 ghost use Rattle.rules_interface.specs.Interface.{ListsAt, TestsAt, ConvertsAt};
 
 use c_memory::head_at;
@@ -22,7 +22,7 @@ pub extern "C" fn tillerclover_access_list_at<'a>(
     text: &mut [u8],
     words: &mut [u64; 2],
 )
-    ensures { ListsAt (memoryBefore counts devowner rowners creds aces queue) (became words) (was text) (became text) }
+    ensures { ListsAt (memory_before counts devowner rowners creds aces queue) (became words) (was text) (became text) }
 {
     let h = head_at(counts, devowner, rowners);
     let l = office_list::access_list(h, creds, aces, queue, text);

@@ -1,6 +1,6 @@
 // The C interface of a store, declared in include/tillerclover_store.h.
 // A store and an image are a pointer and a length each; the address and the byte of a write go out through pointers.
-ghost use Rattle.rules.specs.Contracts.Words.{was, became};
+ghost use Rattle.rules.specs.Promises.Words.{was, became};
 ghost use Rattle.rules_interface.specs.Storing.{StoresNext, StoresCurrent};
 
 use rules_store::Step;

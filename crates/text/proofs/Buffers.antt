@@ -22,12 +22,12 @@ written_one [] at b = refl
 written_one (x ∷ o) zero b = ap (λ (l : List ℕ). b ∷ l) (written_none o 0)
 written_one (x ∷ o) (suc at) b = ap (λ (l : List ℕ). x ∷ l) (written_one o at b)
 
-pub written-length : (o : List ℕ) (at : ℕ) (s : List ℕ) → length (written o at s) ≡ length o
+pub written_length : (o : List ℕ) (at : ℕ) (s : List ℕ) → length (written o at s) ≡ length o
 unfolding written
-written-length [] at s = refl
-written-length (b ∷ o) zero [] = refl
-written-length (b ∷ o) zero (x ∷ s) = ap suc (written-length o zero s)
-written-length (b ∷ o) (suc at) s = ap suc (written-length o at s)
+written_length [] at s = refl
+written_length (b ∷ o) zero [] = refl
+written_length (b ∷ o) zero (x ∷ s) = ap suc (written_length o zero s)
+written_length (b ∷ o) (suc at) s = ap suc (written_length o at s)
 
 -- a text and then another at k, which is past the first as far as the buffer goes, are their join
 written_then : (o : List ℕ) (at : ℕ) (s t : List ℕ) (k : ℕ) → min k (length o) ≡ min (at + length s) (length o)
@@ -49,11 +49,11 @@ written_start (b ∷ o) [] h = refl
 written_start (b ∷ o) (x ∷ s) h = ap (λ (l : List ℕ). x ∷ l) (written_start o s (omega arith))
 
 -- past the end nothing is written
-written-past : (o : List ℕ) (at : ℕ) (s : List ℕ) → length o ≤ at → written o at s ≡ o
+written_past : (o : List ℕ) (at : ℕ) (s : List ℕ) → length o ≤ at → written o at s ≡ o
 unfolding written
-written-past [] at s h = refl
-written-past (b ∷ o) zero s h = absurd (omega arith)
-written-past (b ∷ o) (suc at) s h = ap (λ (l : List ℕ). b ∷ l) (written-past o at s (omega arith))
+written_past [] at s h = refl
+written_past (b ∷ o) zero s h = absurd (omega arith)
+written_past (b ∷ o) (suc at) s h = ap (λ (l : List ℕ). b ∷ l) (written_past o at s (omega arith))
 
 -- ---- what the writers ensure
 
@@ -63,11 +63,11 @@ puts_none o {at} h = record { next = omega arith; buffer = sym (written_none o a
 pub puts_one : (o : List ℕ) (at b : ℕ) → at < largest → Puts o at (b ∷ []) (set o at b) (at + 1)
 puts_one o at b h = record { next = omega arith; buffer = sym (written_one o at b) }
 
-pub puts-beyond : (o : List ℕ) (at : ℕ) (s : List ℕ) {r : ℕ} → length o ≤ at → r ≡ min (at + length s) largest → Puts o at s o r
-puts-beyond o at s h e = record { next = e; buffer = sym (written-past o at s h) }
+pub puts_beyond : (o : List ℕ) (at : ℕ) (s : List ℕ) {r : ℕ} → length o ≤ at → r ≡ min (at + length s) largest → Puts o at s o r
+puts_beyond o at s h e = record { next = e; buffer = sym (written_past o at s h) }
 
-pub puts-past : (o : List ℕ) (at b : ℕ) {r : ℕ} → length o ≤ at → r ≡ min (at + 1) largest → Puts o at (b ∷ []) o r
-puts-past o at b h e = puts-beyond o at (b ∷ []) h e
+pub puts_past : (o : List ℕ) (at b : ℕ) {r : ℕ} → length o ≤ at → r ≡ min (at + 1) largest → Puts o at (b ∷ []) o r
+puts_past o at b h e = puts_beyond o at (b ∷ []) h e
 
 pub puts_then : {o s t o₁ o₂ : List ℕ} {at r₁ r₂ : ℕ} → length o ≤ largest → Puts o at s o₁ r₁ → Puts o₁ r₁ t o₂ r₂
     → Puts o at (s ++ t) o₂ r₂
@@ -76,17 +76,17 @@ puts_then {o} {s} {t} {o₁} {o₂} {at} {r₁} {r₂} h p q = record {
   buffer = q.buffer ∙ ap (λ (w : List ℕ). written w r₁ t) p.buffer ∙ written_then o at s t r₁ (omega (arith, p.next));
 }
 
-pub puts-length : {o s o' : List ℕ} {at r : ℕ} → Puts o at s o' r → length o' ≡ length o
-puts-length {o} {s} {o'} {at} p = ap length p.buffer ∙ written-length o at s
+pub puts_length : {o s o' : List ℕ} {at r : ℕ} → Puts o at s o' r → length o' ≡ length o
+puts_length {o} {s} {o'} {at} p = ap length p.buffer ∙ written_length o at s
 
 -- the part of a text that fits, and the rest past the end
-pub puts-over : {o o₁ : List ℕ} {at p r : ℕ} (n : ℕ) (t : List ℕ) → length o ≤ largest → n ≤ length t → length o ≤ at + n → Puts o at (take n t) o₁ p
+pub puts_over : {o o₁ : List ℕ} {at p r : ℕ} (n : ℕ) (t : List ℕ) → length o ≤ largest → n ≤ length t → length o ≤ at + n → Puts o at (take n t) o₁ p
     → r ≡ min (p + (length t - n)) largest → Puts o at t o₁ r
-puts-over {o} {o₁} {at} {p} {r} n t b h f q e =
+puts_over {o} {o₁} {at} {p} {r} n t b h f q e =
     let l = length-take-le n t h in
-    let past : length o₁ ≤ p = omega (arith, puts-length q, q.next, l, b, f) in
+    let past : length o₁ ≤ p = omega (arith, puts_length q, q.next, l, b, f) in
     let rest : r ≡ min (p + length (drop n t)) largest = omega (arith, length-drop n t, e) in
-    subst (λ (w : List ℕ). Puts o at w o₁ r) (take-append-drop n t) (puts_then b q (puts-beyond o₁ p (drop n t) past rest))
+    subst (λ (w : List ℕ). Puts o at w o₁ r) (take-append-drop n t) (puts_then b q (puts_beyond o₁ p (drop n t) past rest))
 
 pub counts : (r : ℕ) (o : List ℕ) → r ≤ length o → Counts r o
 counts r o h = (h, sym (length-take-le r o h))
@@ -111,8 +111,8 @@ writing_step s t w e q = record {
   parts = rw (append_assoc, ← e) w.parts;
 }
 
-pub writing-end : {o whole rest out : List ℕ} {at p : ℕ} → Writing o at whole rest out p → rest ≡ [] → Puts o at whole out p
-writing-end w e = rw (← w.parts, e, append-nil) w.puts
+pub writing_end : {o whole rest out : List ℕ} {at p : ℕ} → Writing o at whole rest out p → rest ≡ [] → Puts o at whole out p
+writing_end w e = rw (← w.parts, e, append-nil) w.puts
 
-pub writing-length : {o whole rest out : List ℕ} {at p : ℕ} → Writing o at whole rest out p → length out ≡ length o
-writing-length w = puts-length w.puts
+pub writing_length : {o whole rest out : List ℕ} {at p : ℕ} → Writing o at whole rest out p → length out ≡ length o
+writing_length w = puts_length w.puts

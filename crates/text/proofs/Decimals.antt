@@ -9,35 +9,35 @@ use native.Mathlib.Omega.{arith}
 use lib.Dec.{ltb}
 use lib.ListN.{length, length-append}
 use borrow.Author.Tests.{lt-ltb, le-ltb, ltb-true, ltb-false}
-use Rattle.text.specs.Text.{lastDigit, decimalIn, decimal}
+use Rattle.text.specs.Text.{last_digit, decimal_in, decimal}
 
-by-test : {A : Type 0} (b : Bool) → (b ≡ true → A) → (b ≡ false → A) → A
-by-test true f g = f refl
-by-test false f g = g refl
+by_test : {A : Type 0} (b : Bool) → (b ≡ true → A) → (b ≡ false → A) → A
+by_test true f g = f refl
+by_test false f g = g refl
 
 -- any number of steps that is enough gives the same digits
-steps-same : (j k n : ℕ) → n ≤ j → n ≤ k → decimalIn j n ≡ decimalIn k n
-unfolding decimalIn
-steps-same zero zero n h l = refl
-steps-same zero (suc k) n h l = rw (lt-ltb n 10 (omega arith))
-steps-same (suc j) zero n h l = rw (lt-ltb n 10 (omega arith))
-steps-same (suc j) (suc k) n h l = by-test (ltb n 10) (λ e. rw e) (λ e. rw (e, steps-same j k (n / 10) (omega arith) (omega arith)))
+steps_same : (j k n : ℕ) → n ≤ j → n ≤ k → decimal_in j n ≡ decimal_in k n
+unfolding decimal_in
+steps_same zero zero n h l = refl
+steps_same zero (suc k) n h l = rw (lt-ltb n 10 (omega arith))
+steps_same (suc j) zero n h l = rw (lt-ltb n 10 (omega arith))
+steps_same (suc j) (suc k) n h l = by_test (ltb n 10) (λ e. rw e) (λ e. rw (e, steps_same j k (n / 10) (omega arith) (omega arith)))
 
-pub decimal-one : (n : ℕ) → n < 10 → decimal n ≡ lastDigit n ∷ []
-unfolding decimal decimalIn
-decimal-one zero h = refl
-decimal-one (suc n) h = rw (lt-ltb (suc n) 10 h)
+pub decimal_one : (n : ℕ) → n < 10 → decimal n ≡ last_digit n ∷ []
+unfolding decimal decimal_in
+decimal_one zero h = refl
+decimal_one (suc n) h = rw (lt-ltb (suc n) 10 h)
 
-pub decimal-more : (n : ℕ) → 10 ≤ n → decimal n ≡ decimal (n / 10) ++ lastDigit n ∷ []
-unfolding decimal decimalIn
-decimal-more zero h = absurd (omega arith)
-decimal-more (suc n) h = rw (le-ltb (suc n) 10 h, steps-same n (suc n / 10) (suc n / 10) (omega arith) (omega arith))
+pub decimal_more : (n : ℕ) → 10 ≤ n → decimal n ≡ decimal (n / 10) ++ last_digit n ∷ []
+unfolding decimal decimal_in
+decimal_more zero h = absurd (omega arith)
+decimal_more (suc n) h = rw (le-ltb (suc n) 10 h, steps_same n (suc n / 10) (suc n / 10) (omega arith) (omega arith))
 
 -- a number below a power of ten has no more digits than the power
-pub decimal-length : (k n : ℕ) → n < 10 ^ suc k → length (decimal n) ≤ suc k
-decimal-length zero n h = rw (decimal-one n (omega arith)) (omega arith)
-decimal-length (suc k) n h =
-    let more = decimal-length k (n / 10) (omega (arith, rw (pow-suc 10 (suc k)) at h)) in
-    by-test (ltb n 10)
-    (λ e. rw (decimal-one n (ltb-true n 10 e)) (omega arith))
-    (λ e. rw (decimal-more n (ltb-false n 10 e), length-append) (omega arith))
+pub decimal_length : (k n : ℕ) → n < 10 ^ suc k → length (decimal n) ≤ suc k
+decimal_length zero n h = rw (decimal_one n (omega arith)) (omega arith)
+decimal_length (suc k) n h =
+    let more = decimal_length k (n / 10) (omega (arith, rw (pow-suc 10 (suc k)) at h)) in
+    by_test (ltb n 10)
+    (λ e. rw (decimal_one n (ltb-true n 10 e)) (omega arith))
+    (λ e. rw (decimal_more n (ltb-false n 10 e), length-append) (omega arith))

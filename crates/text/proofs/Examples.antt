@@ -3,13 +3,13 @@
 use mathlib.Core.Path.{◌≡◌, refl}
 use mathlib.Core.List.{[], ◌∷◌, map}
 use Prim.Native.Nat.{ℕ}
-use Rattle.text.specs.Text.{ascii, decimalIn, decimal}
+use Rattle.text.specs.Text.{ascii, decimal_in, decimal}
 use Rattle.text.specs.Buffer.{written}
 
 pub decimals :
     map decimal (0 ∷ 9 ∷ 10 ∷ 31 ∷ 100 ∷ 16384 ∷ 65535 ∷ [])
     ≡ map ascii ("0" ∷ "9" ∷ "10" ∷ "31" ∷ "100" ∷ "16384" ∷ "65535" ∷ [])
-unfolding ascii decimalIn decimal
+unfolding ascii decimal_in decimal
 decimals = refl
 
 pub buffers :

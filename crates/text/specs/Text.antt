@@ -14,14 +14,14 @@ ascii []ˢ = []
 ascii (c ∷ˢ s) = code c ∷ ascii s
 
 -- a number's last digit, where 48 is the character 0
-abbrev pub lastDigit : ℕ → ℕ
-lastDigit n = 48 + n % 10
+abbrev pub last_digit : ℕ → ℕ
+last_digit n = 48 + n % 10
 
 -- below ten its one digit; from ten on the digits of its tenth and then its last; in at most that many steps
-unfoldable pub decimalIn : ℕ → ℕ → Text
-decimalIn zero n = lastDigit n ∷ []
-decimalIn (suc steps) n = cond (ltb n 10) (lastDigit n ∷ []) (decimalIn steps (n / 10) ++ lastDigit n ∷ [])
+unfoldable pub decimal_in : ℕ → ℕ → Text
+decimal_in zero n = last_digit n ∷ []
+decimal_in (suc steps) n = cond (ltb n 10) (last_digit n ∷ []) (decimal_in steps (n / 10) ++ last_digit n ∷ [])
 
 -- a number in decimal, without leading zeros: a tenth is less than the number, so n steps are enough
 unfoldable pub decimal : ℕ → Text
-decimal n = decimalIn n n
+decimal n = decimal_in n n

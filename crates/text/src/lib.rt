@@ -1,5 +1,7 @@
 // Writing bytes, fixed texts and decimal numbers into a caller's buffer at a position.
 // No function has a `requires`: a byte past the buffer's end is not written, and the position goes on, so an empty buffer measures.
+#![tactic(auto)]
+
 pub mod direct;
 
 ghost use Rattle.std.specs.Prelude.{◌≡◌, [], ◌∷◌, min, ◌+◌, ◌≤◌, length};

@@ -1,6 +1,8 @@
 // Judges the records of vectors.bin, which the second model wrote, and compares what comes of each.
 // The file's form is in model/src/vectors.rs: tables to take, records with their outcome, tables that
 // must be reached, default lists, lists to load, older lists, the queue, hand-ins and takes.
+#![tactic(auto)]
+
 use fields::{be16, be32, skip};
 use list_convert::Converted;
 use rows::part;

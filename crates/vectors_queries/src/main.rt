@@ -1,5 +1,7 @@
 // Puts the queries of queries.bin, which the second model wrote, to the library, and compares the answers.
 // The file's form is in model/src/queries.rs: tables and lists of senders; stores and images, steps, whole runs and current images.
+#![tactic(auto)]
+
 use fields::{be16, be32, skip};
 use isolation::isolation_of;
 use rows::part;

@@ -1,9 +1,11 @@
 // What the programs of test vectors share: a byte, a count, and tables as their files have them.
 // Any bytes are tables.
+#![tactic(auto)]
+
 ghost use Rattle.std.specs.Prelude.{◌≡◌, ◌+◌, min, get_or, take, drop};
 ghost use Rattle.rules.specs.Bits.{bits};
-ghost use Rattle.rules.specs.Contracts.Words.{was};
-ghost use Rattle.vectors_reader.specs.Reader.{counted, afterCounted, tablesIn};
+ghost use Rattle.rules.specs.Promises.Words.{was};
+ghost use Rattle.vectors_reader.specs.Reader.{counted, after_counted, tables_in};
 
 use fields::{be16, skip};
 use rows::part;
@@ -26,7 +28,7 @@ fn counted(s: &[u8]) -> &[u8]
 
 // All after these.
 fn after_counted(s: &[u8]) -> &[u8]
-    ensures { result.now ≡ afterCounted (was s) }
+    ensures { result.now ≡ after_counted (was s) }
 {
     skip(skip(s, 2), be16(s) as usize)
 }
@@ -34,7 +36,7 @@ fn after_counted(s: &[u8]) -> &[u8]
 // The fields of the head, one after the other, then the credential rows and the access rows.
 // Rules out: the rows of one kind in the other's place; a byte of the head read late.
 pub fn tables_of(bytes: &[u8]) -> Tables
-    ensures { result ≡ tablesIn (was bytes) }
+    ensures { result ≡ tables_in (was bytes) }
 {
     let rows = skip(bytes, 84);
     let mut devowner = [0u8; 16];

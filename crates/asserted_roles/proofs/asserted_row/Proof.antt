@@ -11,6 +11,6 @@ returns c =
     row_is _ _ _ start.requires.0 start.requires.1 start.requires.2 start.requires.3 _ _ _
     _ _ body.before.body.ensures body.put.ensures roles.put-with.ensures
 
-pub asserted-row-spec : {M : Type 1} → Rattle.asserted_roles.proofs.asserted_row.Statement.statement M
-asserted-row-spec = tie.close (tie.spec
+pub asserted_row_spec : {M : Type 1} → Rattle.asserted_roles.proofs.asserted_row.Statement.statement M
+asserted_row_spec = tie.close (tie.spec
     (λ c. search rules) (λ c κs. search rules) (λ c κs. search rules) (λ c. search rules) (λ c κs. search rules) returns)

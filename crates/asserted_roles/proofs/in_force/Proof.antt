@@ -3,6 +3,6 @@ use Rattle.rules.specs.Roles.{free}
 use borrow.Author.Rules.{rules}
 use Rattle.asserted_roles.proofs.in_force.Tie as tie
 
-pub in-force-spec : {M : Type 1} → Rattle.asserted_roles.proofs.in_force.Statement.statement M
+pub in_force_spec : {M : Type 1} → Rattle.asserted_roles.proofs.in_force.Statement.statement M
 unfolding free
-in-force-spec = tie.close (tie.spec (λ c κs. search rules) (λ c κs. search rules) (λ c. rw (c.last.ensures, c.before.no-role.ensures)))
+in_force_spec = tie.close (tie.spec (λ c κs. search rules) (λ c κs. search rules) (λ c. rw (c.last.ensures, c.before.no-role.ensures)))

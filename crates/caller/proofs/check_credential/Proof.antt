@@ -5,29 +5,29 @@ use Rattle.rows.specs.declared.Found.TheVariants.{At, Nothing}
 use Rattle.rules.specs.declared.Sender.{Sender}
 use Rattle.rules.specs.declared.Sender.TheVariants.{Unauthenticated, Partner}
 use Rattle.rules.specs.declared.Check.TheVariants.{Pass, Refuse}
-use Rattle.rules.specs.Permission.{connectionOf}
-use Rattle.rules.specs.Checks.{refuseIf}
-use Rattle.rules.specs.Contracts.Callers.{lacksRow}
+use Rattle.rules.specs.Permission.{connection_of}
+use Rattle.rules.specs.Checks.{refuse_if}
+use Rattle.rules.specs.Promises.Callers.{lacks_row}
 use Rattle.caller.proofs.check_credential.Tie as tie
 
 -- over connection 0 nobody needs a row
-clear : (who : Sender) (found : Found) → connectionOf who ≡ 0 → Pass ≡ refuseIf 7 (lacksRow who found)
-unfolding refuseIf
+clear : (who : Sender) (found : Found) → connection_of who ≡ 0 → Pass ≡ refuse_if 7 (lacks_row who found)
+unfolding refuse_if
 clear Unauthenticated found e = refl
 clear (Partner n) found e = absurd (omega (arith, e))
 
-has-none : (who : Sender) → (connectionOf who ≡ 0 → ⊥) → Refuse 7 ≡ refuseIf 7 (lacksRow who Nothing)
-unfolding refuseIf
-has-none Unauthenticated f = absurd (f refl)
-has-none (Partner n) f = refl
+has_none : (who : Sender) → (connection_of who ≡ 0 → ⊥) → Refuse 7 ≡ refuse_if 7 (lacks_row who Nothing)
+unfolding refuse_if
+has_none Unauthenticated f = absurd (f refl)
+has_none (Partner n) f = refl
 
-has_one : (who : Sender) (i : ℕ) → Pass ≡ refuseIf 7 (lacksRow who (At i))
-unfolding refuseIf
+has_one : (who : Sender) (i : ℕ) → Pass ≡ refuse_if 7 (lacks_row who (At i))
+unfolding refuse_if
 has_one Unauthenticated i = refl
 has_one (Partner n) i = refl
 
-pub check-credential-spec : {M : Type 1} → Rattle.caller.proofs.check_credential.Statement.statement M
-check-credential-spec = tie.close (tie.spec
+pub check_credential_spec : {M : Type 1} → Rattle.caller.proofs.check_credential.Statement.statement M
+check_credential_spec = tie.close (tie.spec
     (λ c who e. clear who _ (e ∙ c.if1.true)) (λ c. search needs) (λ c. search needs)
-    (λ c who e. rw c.enum-told2.given.1 (has-none who (λ z. c.before.before.if1.false (sym e ∙ z))))
+    (λ c who e. rw c.enum-told2.given.1 (has_none who (λ z. c.before.before.if1.false (sym e ∙ z))))
     (λ c who e. rw c.enum_told.given.1 (has_one who _)))

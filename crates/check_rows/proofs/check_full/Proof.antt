@@ -1,9 +1,9 @@
 -- `check_full`: a full table holds as many rows as it has room for, and a number that it holds is replaced.
 use Rattle.rows.proofs.Prelude.{◌≡◌, refl, sym, ap, ◌∙◌, not, [], ◌∷◌, now, needs, le-leb, lt-leb}
-use Rattle.rows.proofs.Laws.{some-index, is_at}
+use Rattle.rows.proofs.Laws.{some_index, is_at}
 use Rattle.rules.specs.Tables.{tables_of}
-use Rattle.rules.specs.Checks.{refuseIf, full}
-use Rattle.rules.proofs.Others.{not-store}
+use Rattle.rules.specs.Checks.{refuse_if, full}
+use Rattle.rules.proofs.Others.{not_store}
 use Rattle.rules.specs.declared.Tables.{Tables}
 use Rattle.check_rows.proofs.check_full.Tie as tie
 
@@ -18,12 +18,12 @@ new_row c =
     let test = c.before in
     let at = test.before.before.before.before in
     rw (at.a.given.1, le-leb _ _ (rw (test.before.capacity-of.ensures, test.before.before.count_of.ensures) at test.if1.false))
-    (ap not (some-index 0 _ _ ∙ sym (ap is_at c.numbered-index.ensures)))
+    (ap not (some_index 0 _ _ ∙ sym (ap is_at c.numbered-index.ensures)))
 
-pub check-full-spec : {M : Type 1} → Rattle.check_rows.proofs.check_full.Statement.statement M
-unfolding refuseIf
-check-full-spec = tie.close (tie.spec
-    (λ c. search needs) (λ c. rw (not-store (0 ∷ 1 ∷ 2 ∷ 3 ∷ 4 ∷ 6 ∷ 7 ∷ 8 ∷ []) _ c.before.before.args.a _ refl c.match.keys2))
+pub check_full_spec : {M : Type 1} → Rattle.check_rows.proofs.check_full.Statement.statement M
+unfolding refuse_if
+check_full_spec = tie.close (tie.spec
+    (λ c. search needs) (λ c. rw (not_store (0 ∷ 1 ∷ 2 ∷ 3 ∷ 4 ∷ 6 ∷ 7 ∷ 8 ∷ []) _ c.before.before.args.a _ refl c.match.keys2))
     (λ c κs. search needs) (λ c κs. search needs)
     (λ c. let call = c.before in
     rw (call.before.before.before.a.given.1, lt-leb _ _ (rw (call.capacity-of.ensures, call.before.count_of.ensures) at c.if1.true)))

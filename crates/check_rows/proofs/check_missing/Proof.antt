@@ -1,9 +1,9 @@
 -- `check_missing`: a row is there where its place is found.
 use Rattle.rows.proofs.Prelude.{◌≡◌, refl, sym, ap, ◌∙◌, not, [], ◌∷◌, now, needs}
-use Rattle.rows.proofs.Laws.{some-index, is_at}
+use Rattle.rows.proofs.Laws.{some_index, is_at}
 use Rattle.rules.specs.Tables.{tables_of}
-use Rattle.rules.specs.Checks.{refuseIf, missing}
-use Rattle.rules.proofs.Others.{not-remove}
+use Rattle.rules.specs.Checks.{refuse_if, missing}
+use Rattle.rules.proofs.Others.{not_remove}
 use Rattle.rules.specs.declared.Tables.{Tables}
 use Rattle.check_rows.proofs.check_missing.Tie as tie
 
@@ -16,12 +16,12 @@ absent : (c : tie.After-picked) → let at = c.before.before.before.before in le
     missing (tables s) (now s.args.b) s.args.a ≡ not (is_at c.picked.result)
 absent c =
     rw (c.before.before.before.before.a.given.1, ← c.before.before.may-be-none.ensures, c.before.if1.false)
-    (ap not (some-index 0 _ _ ∙ sym (ap is_at c.picked.ensures)))
+    (ap not (some_index 0 _ _ ∙ sym (ap is_at c.picked.ensures)))
 
-pub check-missing-spec : {M : Type 1} → Rattle.check_rows.proofs.check_missing.Statement.statement M
-unfolding refuseIf
-check-missing-spec = tie.close (tie.spec
-    (λ c. search needs) (λ c. rw (not-remove (0 ∷ 1 ∷ 2 ∷ 3 ∷ 4 ∷ 5 ∷ 7 ∷ 8 ∷ []) _ c.before.before.args.a _ refl c.match.keys2))
+pub check_missing_spec : {M : Type 1} → Rattle.check_rows.proofs.check_missing.Statement.statement M
+unfolding refuse_if
+check_missing_spec = tie.close (tie.spec
+    (λ c. search needs) (λ c. rw (not_remove (0 ∷ 1 ∷ 2 ∷ 3 ∷ 4 ∷ 5 ∷ 7 ∷ 8 ∷ []) _ c.before.before.args.a _ refl c.match.keys2))
     (λ c κs. search needs) (λ c. rw (c.before.before.before.a.given.1, ← c.before.may-be-none.ensures, c.if1.true))
     (λ c κs. search needs) (λ c. search needs) (λ c. search needs) (λ c. rw (absent c.before.before, c.enum-told2.given.1))
     (λ c. rw (absent c.before.before, c.enum_told.given.1)))

@@ -1,11 +1,11 @@
 -- `check_state`: by the action.
 use Rattle.rows.proofs.Prelude.{needs}
-use Rattle.rules.specs.Checks.{refuseIf}
+use Rattle.rules.specs.Checks.{refuse_if}
 use Rattle.check_state.proofs.check_state.Tie as tie
 
-pub check-state-spec : {M : Type 1} → Rattle.check_state.proofs.check_state.Statement.statement M
-unfolding refuseIf
-check-state-spec = tie.close (tie.spec
+pub check_state_spec : {M : Type 1} → Rattle.check_state.proofs.check_state.Statement.statement M
+unfolding refuse_if
+check_state_spec = tie.close (tie.spec
     (λ c. search needs) (λ c κs. search needs) (λ c. search needs) (λ c. search needs) (λ c κs. search needs) (λ c κs. search needs)
     (λ c. search needs) (λ c κs. search needs) (λ c κs. search needs) (λ c. search needs) (λ c κs. search needs) (λ c κs. search needs)
     (λ c. search needs) (λ c κs. search needs) (λ c κs. search needs) (λ c. search needs) (λ c κs. search needs) (λ c κs. search needs)

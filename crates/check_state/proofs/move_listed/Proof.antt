@@ -1,11 +1,11 @@
 -- `move_listed` meets its contract: each arm rewrites by the numbers that it was reached by.
 use borrow.Author.Tests.{ne_eqb}
-use Rattle.rules.specs.States.{moveListed}
+use Rattle.rules.specs.States.{move_listed}
 use Rattle.check_state.proofs.move_listed.Tie as tie
 
-pub move-listed-spec : {M : Type 1} → Rattle.check_state.proofs.move_listed.Statement.statement M
-unfolding moveListed
-move-listed-spec = tie.close (tie.spec
+pub move_listed_spec : {M : Type 1} → Rattle.check_state.proofs.move_listed.Statement.statement M
+unfolding move_listed
+move_listed_spec = tie.close (tie.spec
     (λ c. simp (c.before.match.keys1, c.match2.keys1))
     (λ c. simp (c.before.match.keys1, c.match2.keys2))
     (λ c. simp (c.before.match.keys1, ne_eqb _ 0 c.match2.rest.0.1, ne_eqb _ 2 c.match2.rest.1))

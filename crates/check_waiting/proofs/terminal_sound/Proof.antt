@@ -1,11 +1,11 @@
 -- `terminal_sound`: both tests.
 use Rattle.rows.proofs.Prelude.{ap₂, Bool, ◌&&◌, needs}
-use Rattle.rules_terminal.specs.Terminal.{soundTerminal}
+use Rattle.rules_terminal.specs.Terminal.{sound_terminal}
 use Rattle.check_waiting.proofs.terminal_sound.Tie as tie
 
 returns : tie.Need-returns
-unfolding soundTerminal
-returns c = ap₂ (λ (a b : Bool). a && b) c.before.tables-sound.ensures c.queue-sound.ensures
+unfolding sound_terminal
+returns c = ap₂ (λ (a b : Bool). a && b) c.before.tables_sound.ensures c.queue_sound_lem.ensures
 
-pub terminal-sound-spec : {M : Type 1} → Rattle.check_waiting.proofs.terminal_sound.Statement.statement M
-terminal-sound-spec = tie.close (tie.spec (λ c κs. search needs) (λ c κs. search needs) returns)
+pub terminal_sound_spec : {M : Type 1} → Rattle.check_waiting.proofs.terminal_sound.Statement.statement M
+terminal_sound_spec = tie.close (tie.spec (λ c κs. search needs) (λ c κs. search needs) returns)

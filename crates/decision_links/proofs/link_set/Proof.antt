@@ -4,8 +4,8 @@ use Rattle.rules.specs.Tables.{tables_of}
 use Rattle.decision_links.proofs.Passes.{set_is}
 use Rattle.decision_links.proofs.link_set.Tie as tie
 
-pub link-set-spec : {M : Type 1} → Rattle.decision_links.proofs.link_set.Statement.statement M
-link-set-spec = tie.close (tie.spec
+pub link_set_spec : {M : Type 1} → Rattle.decision_links.proofs.link_set.Statement.statement M
+link_set_spec = tie.close (tie.spec
     (λ c κs. search needs) (λ c κs. search needs) (λ c κs. search needs) (λ c κs. search needs)
     (λ c. let given = c.before in
     let who = given.before in

@@ -4,20 +4,20 @@ use Rattle.rules.specs.declared.Tables.{Tables}
 use Rattle.rules.specs.Record.{Request, received}
 use Rattle.rules.specs.Tables.{tables_of}
 use Rattle.rules.specs.Defaults.{Defaults, defaults}
-use Rattle.rules.specs.Outcome.{tablesAfter}
-use Rattle.rules.specs.Contracts.Results.{Result}
+use Rattle.rules.specs.Outcome.{tables_after}
+use Rattle.rules.specs.Promises.Results.{Result}
 use Rattle.rows.specs.Rows.{without}
-use Rattle.rules_terminal.specs.Slots.{Round, waiting, queueOf}
-use Rattle.rules_terminal.specs.Round.{seats, orphaned, validRound}
-use Rattle.execute.proofs.QueueLaws.{cleared-queue, same_queue, moved-queue}
+use Rattle.rules_terminal.specs.Slots.{Round, waiting, queue_of}
+use Rattle.rules_terminal.specs.Round.{seats, orphaned, valid_round}
+use Rattle.execute.proofs.QueueLaws.{cleared_queue, same_queue, moved_queue}
 use Rattle.execute.proofs.execute_changing.Tie as tie
 
 -- back from the rows that changed to the round that was held, and to the start
-abbrev capped-of : tie.After-execute → tie.After-round-valid
-capped-of c = c.before.before.before.before
+abbrev capped_of : tie.After-execute → tie.After-round-valid
+capped_of c = c.before.before.before.before
 
 abbrev start : tie.After-execute → tie.Start
-start c = (capped-of c).before.before.before.before.before.before.before.before
+start c = (capped_of c).before.before.before.before.before.before.before.before
 
 -- back from the test of RESET, and from the rows that are counted
 abbrev ran : tie.After-is-reset → tie.After-execute
@@ -39,7 +39,7 @@ lists s = defaults (now s.args.default-creds) (now s.args.default-aces)
 abbrev left : tie.After-execute → Tables
 left c = tables_of c.execute.result.head c.execute.new.1.0 c.execute.new.1.1.0
 
-left_is : (c : tie.After-execute) → left c ≡ tablesAfter (lists (start c)) (tables (start c)) (request (start c))
+left_is : (c : tie.After-execute) → left c ≡ tables_after (lists (start c)) (tables (start c)) (request (start c))
 left_is c = ap (λ (s : Result). s.tables) c.execute.ensures.says
 
 returns : tie.Need-returns
@@ -50,12 +50,12 @@ returns c =
     let s = start call in (
       call.execute.ensures,
       c.clear.ensures
-          ∙ cleared-queue (tables s) (request s) s.args.d s.pre.0.1 s.pre.0.2 s.pre.0.0
+          ∙ cleared_queue (tables s) (request s) s.args.d s.pre.0.1 s.pre.0.2 s.pre.0.0
           (lists s) _ reset.is-reset.ensures (left call) (left_is call) _ _ test.if1.true,
     )
 
-returns-2 : tie.Need-returns-2
-returns-2 c =
+returns_2 : tie.Need-returns-2
+returns_2 c =
     let reset = tested c.before in
     let call = ran reset in
     let s = start call in (
@@ -65,24 +65,24 @@ returns-2 c =
           reset.is-reset.ensures (left call) (left_is call) _ _ c.before.before.before.before.if1.false c.if2.true,
     )
 
-returns-3 : tie.Need-returns-3
+returns_3 : tie.Need-returns-3
 unfolding seats
-returns-3 c =
+returns_3 c =
     let count = c.before.before.before in
     let reset = tested count.before in
     let call = ran reset in
     let s = start call in (
       call.execute.ensures,
       c.settle.ensures
-          ∙ ap (λ (k : Round). queueOf (validRound (seats (left call)) k) (without (orphaned (seats (left call))) (waiting (now s.args.queue))))
-          (sym (capped-of call).round-valid.ensures)
-          ∙ moved-queue (tables s) (request s) s.args.d s.pre.0.1 s.pre.0.2 s.pre.0.0 (lists s) _
+          ∙ ap (λ (k : Round). queue_of (valid_round (seats (left call)) k) (without (orphaned (seats (left call))) (waiting (now s.args.queue))))
+          (sym (capped_of call).round_valid.ensures)
+          ∙ moved_queue (tables s) (request s) s.args.d s.pre.0.1 s.pre.0.2 s.pre.0.0 (lists s) _
           reset.is-reset.ensures (left call) (left_is call) _ _ count.before.before.before.before.if1.false count.if2.false,
     )
 
-pub execute-changing-spec : {M : Type 1} → Rattle.execute.proofs.execute_changing.Statement.statement M
-execute-changing-spec = tie.close (tie.spec
+pub execute_changing_spec : {M : Type 1} → Rattle.execute.proofs.execute_changing.Statement.statement M
+execute_changing_spec = tie.close (tie.spec
     (λ c κs. search needs) (λ c κs. search needs) (λ c κs. search needs) (λ c κs. search needs) (λ c. search needs) returns
-    (λ c. search needs) returns-2
+    (λ c. search needs) returns_2
     (λ c κs. (start (ran (tested c.before.before.before))).requires.1.0)
-    (λ c. search needs) returns-3)
+    (λ c. search needs) returns_3)

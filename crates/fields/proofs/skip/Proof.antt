@@ -3,8 +3,8 @@ use Rattle.rows.proofs.Prelude.{sym, arith, drop_of_length-le, now, needs}
 use Rattle.rows.proofs.Laws.{take_rest}
 use Rattle.fields.proofs.skip.Tie as tie
 
-pub skip-spec : {M : Type 1} → Rattle.fields.proofs.skip.Statement.statement M
-skip-spec = tie.close (tie.spec
+pub skip_spec : {M : Type 1} → Rattle.fields.proofs.skip.Statement.statement M
+skip_spec = tie.close (tie.spec
     (λ c. search needs)
     (λ c. sym (drop_of_length-le _ {i = c.before.before.args.n} (omega (arith, c.before.if1.true))))
     (λ c. search needs) (λ c. search needs) (λ c. search needs) (λ c. take_rest c.before.before.args.n (now c.before.before.args.s)))

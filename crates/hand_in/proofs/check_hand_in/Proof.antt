@@ -2,10 +2,10 @@
 use Rattle.rows.proofs.Prelude.{sym, ◌∙◌, now, needs, not-false}
 use Rattle.rules.specs.declared.Tables.{Tables}
 use Rattle.rules.specs.Tables.{rows, tables_of}
-use Rattle.rules.specs.Contracts.Groups.{senderChecks}
-use Rattle.rules.proofs.Answers.{passed, long-enough}
-use Rattle.rules.proofs.CheckLaws.{stop, skip, last, stop-all, skip_all, not-applied}
-use Rattle.queue.proofs.Queues.{sound-queue}
+use Rattle.rules.specs.Promises.Groups.{sender_checks}
+use Rattle.rules.proofs.Answers.{passed, long_enough}
+use Rattle.rules.proofs.CheckLaws.{stop, skip, last, stop_all, skip_all, not_applied}
+use Rattle.queue.proofs.Queues.{sound_queue_lem}
 use Rattle.hand_in.proofs.check_hand_in.Tie as tie
 use Rattle.rules.specs.declared.Table.TheVariants.{Creds}
 
@@ -16,37 +16,37 @@ tables s = tables_of s.args.h (now s.args.creds) (now s.args.aces)
 abbrev start : tie.After-enum-told → tie.Start
 start p = p.before.before.before.before
 
-returns-2 : tie.Need-returns-2
-returns-2 c =
+returns_2 : tie.Need-returns-2
+returns_2 c =
     let p = c.before.before.before in
     let s = start p in
     skip _ _ _ p.before.before.check-terminal.ensures p.enum_told.given.1
-    (stop-all (senderChecks (rows Creds (tables s)) (now s.args.rec)) _ _ c.before.before.check-record.ensures c.enum-told4.given.1)
+    (stop_all (sender_checks (rows Creds (tables s)) (now s.args.rec)) _ _ c.before.before.check-record.ensures c.enum-told4.given.1)
 
-check-free-requires : tie.Need-check-free-requires
-check-free-requires c κs =
+check_free_requires : tie.Need-check-free-requires
+check_free_requires c κs =
     let told = c.before in
     let p = told.before.before.before in
     let s = start p in
-    let q = sound-queue (tables s) (now s.args.queue)
-    (not-false _ (not-applied _ _ p.before.before.check-terminal.ensures p.enum_told.given.1)) in (
+    let q = sound_queue_lem (tables s) (now s.args.queue)
+    (not-false _ (not_applied _ _ p.before.before.check-terminal.ensures p.enum_told.given.1)) in (
       q.long,
       q.few,
-      long-enough (now s.args.rec)
-          (passed (senderChecks (rows Creds (tables s)) (now s.args.rec)) (sym told.before.before.check-record.ensures ∙ told.enum-told3.given.1) 2),
+      long_enough (now s.args.rec)
+          (passed (sender_checks (rows Creds (tables s)) (now s.args.rec)) (sym told.before.before.check-record.ensures ∙ told.enum-told3.given.1) 2),
     )
 
-returns-3 : tie.Need-returns-3
-returns-3 c =
+returns_3 : tie.Need-returns-3
+returns_3 c =
     let q = c.before.before in
     let p = q.before.before.before in
     let s = start p in
     skip _ _ _ p.before.before.check-terminal.ensures p.enum_told.given.1
-    (skip_all (senderChecks (rows Creds (tables s)) (now s.args.rec)) _
+    (skip_all (sender_checks (rows Creds (tables s)) (now s.args.rec)) _
     q.before.before.check-record.ensures q.enum-told3.given.1 (last _ _ c.check-free.ensures))
 
-pub check-hand-in-spec : {M : Type 1} → Rattle.hand_in.proofs.check_hand_in.Statement.statement M
-check-hand-in-spec = tie.close (tie.spec
+pub check_hand_in_spec : {M : Type 1} → Rattle.hand_in.proofs.check_hand_in.Statement.statement M
+check_hand_in_spec = tie.close (tie.spec
     (λ c κs. search needs) (λ c. search needs) (λ c. search needs)
     (λ c. stop _ _ _ _ c.before.before.check-terminal.ensures c.enum-told2.given.1)
-    (λ c κs. search needs) (λ c. search needs) (λ c. search needs) returns-2 check-free-requires returns-3)
+    (λ c κs. search needs) (λ c. search needs) (λ c. search needs) returns_2 check_free_requires returns_3)

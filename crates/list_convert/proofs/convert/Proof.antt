@@ -1,25 +1,25 @@
 -- `convert`: a bad file, too many rows, a buffer that is too short, or the rows.
 use Rattle.rows.proofs.Prelude.{sym, ◌∙◌, arith, now, needs}
-use Rattle.rules_legacy.proofs.Stored.{rows-size}
-use Rattle.list_convert.proofs.Ends.{bad-file, too_many, too_short, all-put}
+use Rattle.rules_legacy.proofs.Stored.{rows_size}
+use Rattle.list_convert.proofs.Ends.{bad_file_lem, too_many, too_short, all_put}
 use Rattle.list_convert.proofs.convert.Tie as tie
 
 returns : tie.Need-returns
 returns c =
     let told = c.before.before in
     let s = told.before.before.before in
-    bad-file (now s.args.file) (now s.args.rows) (sym told.is-bad-file.ensures ∙ c.if1.true)
+    bad_file_lem (now s.args.file) (now s.args.rows) (sym told.is-bad-file.ensures ∙ c.if1.true)
 
-returns-2 : tie.Need-returns-2
-returns-2 c =
+returns_2 : tie.Need-returns-2
+returns_2 c =
     let test = c.before in
     let count = test.before in
     let told = count.before in
     let s = told.before.before.before in
     too_many (now s.args.file) (now s.args.rows) (sym told.is-bad-file.ensures ∙ test.if1.false) _ count.count-made.ensures c.if2.true
 
-returns-3 : tie.Need-returns-3
-returns-3 c =
+returns_3 : tie.Need-returns-3
+returns_3 c =
     let few = c.before in
     let test = few.before in
     let count = test.before in
@@ -28,14 +28,14 @@ returns-3 c =
     too_short (now s.args.file) (now s.args.rows) (sym told.is-bad-file.ensures ∙ test.if1.false) _
     count.count-made.ensures few.if2.false c.if3.true
 
-put-all-requires : tie.Need-put-all-requires
-put-all-requires c κs =
+put_all_requires : tie.Need-put-all-requires
+put_all_requires c κs =
     let count = c.before.before.before.before in
     let s = count.before.before.before.before in
-    (omega (arith, count.count-made.ensures), omega (arith, count.count-made.ensures, rows-size (now s.args.file)))
+    (omega (arith, count.count-made.ensures), omega (arith, count.count-made.ensures, rows_size (now s.args.file)))
 
-returns-4 : tie.Need-returns-4
-returns-4 c =
+returns_4 : tie.Need-returns-4
+returns_4 c =
     let put = c.before.before in
     let fits = put.before.before in
     let few = fits.before in
@@ -43,10 +43,10 @@ returns-4 c =
     let count = test.before in
     let told = count.before in
     let s = told.before.before.before in
-    all-put (now s.args.file) (now s.args.rows) (sym told.is-bad-file.ensures ∙ test.if1.false) _
+    all_put (now s.args.file) (now s.args.rows) (sym told.is-bad-file.ensures ∙ test.if1.false) _
     count.count-made.ensures few.if2.false _ fits.if3.false put.put_all_lem.ensures
 
-pub convert-spec : {M : Type 1} → Rattle.list_convert.proofs.convert.Statement.statement M
-convert-spec = tie.close (tie.spec
-    (λ c κs. search needs) (λ c κs. search needs) returns returns-2 (λ c. search needs) returns-3 put-all-requires
-    (λ c. search needs) returns-4)
+pub convert_spec : {M : Type 1} → Rattle.list_convert.proofs.convert.Statement.statement M
+convert_spec = tie.close (tie.spec
+    (λ c κs. search needs) (λ c κs. search needs) returns returns_2 (λ c. search needs) returns_3 put_all_requires
+    (λ c. search needs) returns_4)

@@ -1,34 +1,34 @@
 -- `has_bad_row`: whether some row is bad is whether some row of the rest is. The measure is the number of rows left.
 -- Assumes nothing.
 use Rattle.rows.proofs.Prelude.{◌≡◌, refl, sym, ◌∙◌, ◌*◌, ◌/◌, ◌≤◌, arith, length, take, length-take-le, needs}
-use Rattle.rows.proofs.Laws.{a-row, next_fits}
-use Rattle.rules_legacy.specs.OldList.{oldRows, badRow}
-use Rattle.list_convert.proofs.Files.{SomeInv, some-found, some_turn, some_end}
+use Rattle.rows.proofs.Laws.{a_row, next_fits}
+use Rattle.rules_legacy.specs.OldList.{old_rows, bad_row}
+use Rattle.list_convert.proofs.Files.{SomeInv, some_found, some_turn, some_end}
 use Rattle.list_convert.proofs.has_bad_row.Tie as tie
 
-abbrev invariant-loop : tie.invariant-loop
-invariant-loop file rest₀ left₀ rest left = (left * 25 ≤ length rest) × SomeInv badRow 25 (length file / 25) file rest left
+abbrev invariant_loop : tie.invariant_loop
+invariant_loop file rest₀ left₀ rest left = (left * 25 ≤ length rest) × SomeInv bad_row 25 (length file / 25) file rest left
 
-abbrev decreases-loop : tie.decreases-loop
-decreases-loop file rest₀ left₀ rest left = left
+abbrev decreases_loop : tie.decreases_loop
+decreases_loop file rest₀ left₀ rest left = left
 
-returns : tie.Need-returns invariant-loop decreases-loop
-unfolding oldRows
+returns : tie.Need-returns invariant_loop decreases_loop
+unfolding old_rows
 returns c =
     let told = c.before in
     let turn = told.before.before in
-    some-found _ _ _ _ _ _ turn.before.loop.invariant.1 turn.loop-test.true (sym told.is-bad.ensures ∙ c.if1.true)
+    some_found _ _ _ _ _ _ turn.before.loop.invariant.1 turn.loop-test.true (sym told.is-bad.ensures ∙ c.if1.true)
 
 -- a turn has a row
-row_here : (c : tie.In-loop invariant-loop decreases-loop) → 25 ≤ length c.before.loop.rest.now
-row_here c = a-row 25 _ c.before.loop.rest.now c.loop-test.true c.before.loop.invariant.0
+row_here : (c : tie.In-loop invariant_loop decreases_loop) → 25 ≤ length c.before.loop.rest.now
+row_here c = a_row 25 _ c.before.loop.rest.now c.loop-test.true c.before.loop.invariant.0
 
 -- and a row has 25 bytes
-row-long : (c : tie.In-loop invariant-loop decreases-loop) → length (take 25 c.before.loop.rest.now) ≡ 25
-row-long c = length-take-le 25 c.before.loop.rest.now (row_here c)
+row_long : (c : tie.In-loop invariant_loop decreases_loop) → length (take 25 c.before.loop.rest.now) ≡ 25
+row_long c = length-take-le 25 c.before.loop.rest.now (row_here c)
 
-loop-again : tie.Need-loop-preserved invariant-loop decreases-loop
-loop-again c =
+loop_again : tie.Need-loop-preserved invariant_loop decreases_loop
+loop_again c =
     let test = c.before in
     let told = test.before in
     let turn = told.before.before in
@@ -37,9 +37,9 @@ loop-again c =
       some_turn _ _ _ _ _ _ l.invariant.1 turn.loop-test.true (sym told.is-bad.ensures ∙ test.if1.false),
     )
 
-pub has-bad-row-spec : {M : Type 1} → Rattle.list_convert.proofs.has_bad_row.Statement.statement M
-unfolding oldRows
-has-bad-row-spec = tie.close (tie.spec
-    invariant-loop decreases-loop (λ c. (omega arith, refl)) (λ c. sym (row-long c.before)) (λ c κs. search needs) returns (λ c. row_here c.before.before.before)
-    (λ c. row_here c.before.before.before) (λ c. search needs) (λ c. search needs) (λ c. search needs) loop-again
+pub has_bad_row_spec : {M : Type 1} → Rattle.list_convert.proofs.has_bad_row.Statement.statement M
+unfolding old_rows
+has_bad_row_spec = tie.close (tie.spec
+    invariant_loop decreases_loop (λ c. (omega arith, refl)) (λ c. sym (row_long c.before)) (λ c κs. search needs) returns (λ c. row_here c.before.before.before)
+    (λ c. row_here c.before.before.before) (λ c. search needs) (λ c. search needs) (λ c. search needs) loop_again
     (λ c. some_end _ _ _ _ _ _ c.before.loop.invariant.1 c.loop-test.false))

@@ -1,8 +1,8 @@
 -- `put_made`: two rows for "*", one for a UUID.
 use Rattle.rows.proofs.Prelude.{◌≡◌, sym, ◌∙◌, ◌≤◌, arith, length, take, length-take-le, now, needs}
 use Rattle.text.specs.Buffer.{largest}
-use Rattle.text.proofs.Buffers.{puts-length}
-use Rattle.list_row.proofs.OldRows.{two-long, after_first, one-long, two-puts, one-puts}
+use Rattle.text.proofs.Buffers.{puts_length}
+use Rattle.list_row.proofs.OldRows.{two_long, after_first, one_long, two_puts, one_puts}
 use Rattle.list_row.proofs.put_made.Tie as tie
 
 bound : (c : tie.After-slice-known) → length (now c.before.args.out) ≤ largest
@@ -15,13 +15,13 @@ returns c =
     let test = crypt.before.before in
     let told = test.before in
     let e = sym told.is-anybody.ensures ∙ test.if1.true in
-    two-puts _ _ (bound told.before.before) e crypt.put-connection.ensures clear.put-connection2.ensures
+    two_puts _ _ (bound told.before.before) e crypt.put-connection.ensures clear.put-connection2.ensures
 
-returns-2 : tie.Need-returns-2
-returns-2 c =
+returns_2 : tie.Need-returns-2
+returns_2 c =
     let put = c.before.before in
     let test = put.before.before.before in
-    one-puts _ _ (sym test.before.is-anybody.ensures ∙ test.if1.false) put.put-row.ensures
+    one_puts _ _ (sym test.before.is-anybody.ensures ∙ test.if1.false) put.put-row.ensures
 
 -- two rows are 72 bytes
 first_fits : tie.Need-put-connection-requires
@@ -29,7 +29,7 @@ first_fits c κs =
     let test = c.before in
     let told = test.before in
     let s = told.before.before.before in
-    (s.requires.1, omega (arith, s.requires.2, two-long s.args.number (now s.args.row) s.requires.1 (sym told.is-anybody.ensures ∙ test.if1.true)))
+    (s.requires.1, omega (arith, s.requires.2, two_long s.args.number (now s.args.row) s.requires.1 (sym told.is-anybody.ensures ∙ test.if1.true)))
 
 second_fits : tie.Need-put-connection-requires-2
 second_fits c κs =
@@ -39,22 +39,22 @@ second_fits c κs =
     let s = told.before.before.before in
     let p = crypt.put-connection.ensures in
     let here = (first_fits crypt.before κs).1 in
-    let l = two-long s.args.number (now s.args.row) s.requires.1 (sym told.is-anybody.ensures ∙ test.if1.true) in
+    let l = two_long s.args.number (now s.args.row) s.requires.1 (sym told.is-anybody.ensures ∙ test.if1.true) in
     let next = after_first _ _ _ s.requires.1 (bound told.before.before) here p in
-    (s.requires.1, omega (arith, s.requires.2, l, next, puts-length p))
+    (s.requires.1, omega (arith, s.requires.2, l, next, puts_length p))
 
-subject-long : (c : tie.After-put-row-arg2) → length (take 16 c.before.before.before.before.before.before.args.row.now) ≡ 16
-subject-long c = length-take-le 16 (now c.before.before.before.before.before.before.args.row) (omega arith)
+subject_long : (c : tie.After-put-row-arg2) → length (take 16 c.before.before.before.before.before.before.args.row.now) ≡ 16
+subject_long c = length-take-le 16 (now c.before.before.before.before.before.before.args.row) (omega arith)
 
-one-fits : tie.Need-put-row-requires
-one-fits c κs =
+one_fits : tie.Need-put-row-requires
+one_fits c κs =
     let test = c.before.before in
     let told = test.before in
     let s = told.before.before.before in
-    let l = one-long s.args.number (now s.args.row) s.requires.1 (sym told.is-anybody.ensures ∙ test.if1.false) in
-    (omega arith, subject-long c, s.requires.1, omega (arith, s.requires.2, l))
+    let l = one_long s.args.number (now s.args.row) s.requires.1 (sym told.is-anybody.ensures ∙ test.if1.false) in
+    (omega arith, subject_long c, s.requires.1, omega (arith, s.requires.2, l))
 
-pub put-made-spec : {M : Type 1} → Rattle.list_row.proofs.put_made.Statement.statement M
-put-made-spec = tie.close (tie.spec
+pub put_made_spec : {M : Type 1} → Rattle.list_row.proofs.put_made.Statement.statement M
+put_made_spec = tie.close (tie.spec
     (λ c κs. search needs) first_fits (λ c. search needs) second_fits (λ c. search needs) returns
-    (λ c. sym (subject-long c)) one-fits (λ c. search needs) returns-2)
+    (λ c. sym (subject_long c)) one_fits (λ c. search needs) returns_2)

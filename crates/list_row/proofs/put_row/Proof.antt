@@ -16,7 +16,7 @@ returns c =
     let s = known.before in
     row_put _ _ _ _ _ (bound known) s.requires.3 (made _ _ _ _ s.requires.0 s.requires.2 s.requires.1).long row.row_made.ensures put.put-row.ensures
 
-pub put-row-spec : {M : Type 1} → Rattle.list_row.proofs.put_row.Statement.statement M
-put-row-spec = tie.close (tie.spec
+pub put_row_spec : {M : Type 1} → Rattle.list_row.proofs.put_row.Statement.statement M
+put_row_spec = tie.close (tie.spec
     (λ c κs. search needs) (λ c. search needs) (λ c. search needs) (λ c. search needs) (λ c. search needs) (λ c κs. search needs)
     (λ c. search needs) (λ c. search needs) returns)

@@ -11,14 +11,14 @@ returns c =
     let test = put.before.before.before in
     rw (sym test.before.is-dashed.ensures ∙ test.if1.true) put.put.ensures
 
-returns-2 : tie.Need-returns-2
+returns_2 : tie.Need-returns-2
 unfolding dash ascii
-returns-2 c =
+returns_2 c =
     let put = c.before.before in
     let test = put.before.before.before in
     rw (sym test.before.is-dashed.ensures ∙ test.if1.false) put.put2.ensures
 
-pub put-dash-spec : {M : Type 1} → Rattle.office_entry.proofs.put_dash.Statement.statement M
-put-dash-spec = tie.close (tie.spec
+pub put_dash_spec : {M : Type 1} → Rattle.office_entry.proofs.put_dash.Statement.statement M
+put_dash_spec = tie.close (tie.spec
     (λ c κs. search needs) (λ c. search needs) (λ c κs. search needs) (λ c. search needs) returns
-    (λ c. search needs) (λ c κs. search needs) (λ c. search needs) returns-2)
+    (λ c. search needs) (λ c κs. search needs) (λ c. search needs) returns_2)

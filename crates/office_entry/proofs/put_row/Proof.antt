@@ -3,7 +3,7 @@ use Rattle.rows.proofs.Prelude.{◌≤◌, arith, length, now, needs}
 use Rattle.text.specs.Buffer.{largest}
 use Rattle.text.specs.Text.{ascii}
 use Rattle.text.proofs.Buffers.{puts_then}
-use Rattle.office_entry.proofs.Parts.{row-puts}
+use Rattle.office_entry.proofs.Parts.{row_puts}
 use Rattle.office_entry.proofs.put_row.Tie as tie
 
 bound : (c : tie.After-slice-known) → length (now c.before.args.out) ≤ largest
@@ -18,13 +18,13 @@ returns c =
     let subject = resources.before.before.before.before in
     let number = subject.before.before.before.before in
     let h = bound number.before.before.before.before.before in
-    row-puts _ _ _ number.before.be16.ensures permission.before.permission.ensures
+    row_puts _ _ _ number.before.be16.ensures permission.before.permission.ensures
     (puts_then h
     (puts_then h (puts_then h (puts_then h number.put-number.ensures subject.put-keyed-subject.ensures) resources.put-keyed-resources.ensures)
     permission.put-number2.ensures)
     end.put.ensures)
 
-pub put-row-spec : {M : Type 1} → Rattle.office_entry.proofs.put_row.Statement.statement M
-put-row-spec = tie.close (tie.spec
+pub put_row_spec : {M : Type 1} → Rattle.office_entry.proofs.put_row.Statement.statement M
+put_row_spec = tie.close (tie.spec
     (λ c. search needs) (λ c κs. search needs) (λ c κs. search needs) (λ c κs. search needs) (λ c κs. search needs) (λ c. search needs)
     (λ c κs. search needs) (λ c κs. search needs) (λ c. search needs) (λ c κs. search needs) (λ c. search needs) returns)

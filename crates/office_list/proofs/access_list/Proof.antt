@@ -2,7 +2,7 @@
 use Rattle.rows.proofs.Prelude.{sym, ◌∙◌, now, needs, not-false, not-true}
 use Rattle.rules.specs.Tables.{tables_of}
 use Rattle.rules_terminal.specs.Terminal.{Terminal, terminal}
-use Rattle.office_list.proofs.Ends.{not_sound, too_short, all-written}
+use Rattle.office_list.proofs.Ends.{not_sound, too_short, all_written}
 use Rattle.office_list.proofs.access_list.Tie as tie
 
 -- the terminal that is passed in
@@ -18,8 +18,8 @@ returns c =
     let s = start told in
     not_sound (lent s) (now s.args.out) (sym told.terminal-sound.ensures ∙ not-true _ c.if1.true)
 
-returns-2 : tie.Need-returns-2
-returns-2 c =
+returns_2 : tie.Need-returns-2
+returns_2 c =
     let asked = c.before in
     let test = asked.before in
     let told = test.before in
@@ -27,17 +27,17 @@ returns-2 c =
     too_short (lent s) (now s.args.out)
     (sym told.terminal-sound.ensures ∙ not-false _ test.if1.false) (sym asked.is-too-short.ensures ∙ c.if2.true)
 
-returns-3 : tie.Need-returns-3
-returns-3 c =
+returns_3 : tie.Need-returns-3
+returns_3 c =
     let put = c.before.before in
     let fits = put.before.before in
     let asked = fits.before in
     let test = asked.before in
     let told = test.before in
     let s = start told in
-    all-written (lent s) (now s.args.out) _
+    all_written (lent s) (now s.args.out) _
     (sym told.terminal-sound.ensures ∙ not-false _ test.if1.false) (sym asked.is-too-short.ensures ∙ fits.if2.false) put.put-list.ensures
 
-pub access-list-spec : {M : Type 1} → Rattle.office_list.proofs.access_list.Statement.statement M
-access-list-spec = tie.close (tie.spec
-    (λ c κs. search needs) returns (λ c κs. search needs) returns-2 (λ c κs. search needs) (λ c. search needs) returns-3)
+pub access_list_spec : {M : Type 1} → Rattle.office_list.proofs.access_list.Statement.statement M
+access_list_spec = tie.close (tie.spec
+    (λ c κs. search needs) returns (λ c κs. search needs) returns_2 (λ c κs. search needs) (λ c. search needs) returns_3)

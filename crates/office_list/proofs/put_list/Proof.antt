@@ -19,7 +19,7 @@ returns c =
     list_puts known.before.args.naces (now known.before.args.aces) _ (bound known)
     count.capped.ensures key.put.ensures rows.put-rows.ensures end.put2.ensures
 
-pub put-list-spec : {M : Type 1} → Rattle.office_list.proofs.put_list.Statement.statement M
-put-list-spec = tie.close (tie.spec
+pub put_list_spec : {M : Type 1} → Rattle.office_list.proofs.put_list.Statement.statement M
+put_list_spec = tie.close (tie.spec
     (λ c. search needs) (λ c κs. search needs) (λ c κs. search needs) (λ c κs. search needs)
     (λ c. search needs) (λ c κs. search needs) (λ c. search needs) returns)

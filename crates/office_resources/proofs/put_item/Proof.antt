@@ -17,9 +17,9 @@ around : (x : List ℕ) → braced (joined (ascii "\"href\":\"" ∷ x ∷ ascii 
 unfolding braced joined ascii
 around x = ap (λ (l : List ℕ). ascii "{\"href\":\"" ++ l) (append_assoc x (ascii "\"") (ascii "}"))
 
-returns-2 : tie.Need-returns-2
+returns_2 : tie.Need-returns-2
 unfolding href ascii
-returns-2 c =
+returns_2 c =
     let end = c.before.before in
     let name = end.before.before.before.before.before in
     let start = name.before.before.before.before in
@@ -30,7 +30,7 @@ returns-2 c =
     (puts_then (omega arith) comma.put-comma.ensures
     (puts_then (omega arith) start.put2.ensures (puts_then (omega arith) name.put-name.ensures end.put3.ensures)))
 
-pub put-item-spec : {M : Type 1} → Rattle.office_resources.proofs.put_item.Statement.statement M
-put-item-spec = tie.close (tie.spec
+pub put_item_spec : {M : Type 1} → Rattle.office_resources.proofs.put_item.Statement.statement M
+put_item_spec = tie.close (tie.spec
     (λ c. search needs) (λ c κs. search needs) (λ c. search needs) returns (λ c κs. search needs) (λ c. search needs)
-    (λ c κs. search needs) (λ c κs. search needs) (λ c. search needs) (λ c κs. search needs) (λ c. search needs) returns-2)
+    (λ c κs. search needs) (λ c κs. search needs) (λ c. search needs) (λ c κs. search needs) (λ c. search needs) returns_2)

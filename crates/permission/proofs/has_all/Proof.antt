@@ -5,8 +5,8 @@ use Rattle.permission.proofs.has_all.Tie as tie
 abbrev start : tie.After-struct-known → tie.Start
 start c = c.before.before
 
-pub has-all-spec : {M : Type 1} → Rattle.permission.proofs.has_all.Statement.statement M
-has-all-spec = tie.close (tie.spec
+pub has_all_spec : {M : Type 1} → Rattle.permission.proofs.has_all.Statement.statement M
+has_all_spec = tie.close (tie.spec
     (λ c. rw (not-true (start c.before).args.e.configuration c.if1.true))
     (λ c. rw (not-false (start c.before.before.before).args.e.configuration c.before.before.if1.false, c.if2.true))
     (λ c κs. search needs)

@@ -1,14 +1,14 @@
 -- `subject_fits`: the match on the kind is the definition's lookup, an arm for each entry and the last for none.
 use Rattle.rows.proofs.Prelude.{sym, ◌∙◌, needs, ne_eqb}
-use Rattle.rules.specs.Permission.{subjectIs, subjectFits}
+use Rattle.rules.specs.Permission.{subject_is, subject_fits}
 use Rattle.permission_row.proofs.subject_fits.Tie as tie
 
-pub subject-fits-spec : {M : Type 1} → Rattle.permission_row.proofs.subject_fits.Statement.statement M
-unfolding subjectFits subjectIs
-subject-fits-spec = tie.close (tie.spec
+pub subject_fits_spec : {M : Type 1} → Rattle.permission_row.proofs.subject_fits.Statement.statement M
+unfolding subject_fits subject_is
+subject_fits_spec = tie.close (tie.spec
     (λ c κs. search needs) (λ c κs. search needs) (λ c κs. search needs) (λ c κs. search needs) (λ c κs. search needs) (λ c κs. search needs)
     (λ c. let at = c.before.before.before in
     rw (sym at.before.kind.ensures ∙ at.match.keys1, c.same-uuid.ensures, c.before.subject2.ensures, c.before.before.subject.ensures))
-    (λ c. rw (sym c.before.before.kind.ensures ∙ c.before.match.keys2, c.role-fits.ensures))
+    (λ c. rw (sym c.before.before.kind.ensures ∙ c.before.match.keys2, c.role_fits_lem.ensures))
     (λ c. rw (sym c.before.before.kind.ensures ∙ c.before.match.keys3, c.connection.ensures))
     (λ c. let none = c.match.rest in rw (← c.before.kind.ensures, ne_eqb _ 0 none.0.0.1, ne_eqb _ 1 none.0.1, ne_eqb _ 2 none.1)))

@@ -8,7 +8,7 @@ returns c =
     slot_is _ _ (c.before.before.before.before.before.shared-slice-known.given 2).fits
     (c.before.before.before.before.before.shared-slice-known.given 3).fits c.before.put-row.ensures
 
-pub slot-of-spec : {M : Type 1} → Rattle.queue.proofs.slot_of.Statement.statement M
-slot-of-spec = tie.close (tie.spec
+pub slot_of_spec : {M : Type 1} → Rattle.queue.proofs.slot_of.Statement.statement M
+slot_of_spec = tie.close (tie.spec
     (λ c. search rules) (λ c. search rules) (λ c. search rules) (λ c. search rules) (λ c. search rules) (λ c. search rules)
     (λ c. search rules) (λ c. search rules) (λ c. search rules) (λ c. search rules) (λ c. search rules) (λ c κs. search rules) returns)

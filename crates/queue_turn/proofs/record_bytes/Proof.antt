@@ -10,6 +10,6 @@ returns c =
     let b = call.before.before.before.before.args.slot.now in
     put_whole 256 (take (length b - 4) (drop 4 b)) _ _ refl call.put-row.ensures ∙ take_rest 4 b
 
-pub record-bytes-spec : {M : Type 1} → Rattle.queue_turn.proofs.record_bytes.Statement.statement M
-record-bytes-spec = tie.close (tie.spec
+pub record_bytes_spec : {M : Type 1} → Rattle.queue_turn.proofs.record_bytes.Statement.statement M
+record_bytes_spec = tie.close (tie.spec
     (λ c. search needs) (λ c. search needs) (λ c. search needs) (λ c. search needs) (λ c κs. search needs) returns)

@@ -4,27 +4,27 @@ use Rattle.rules.specs.declared.Head.{Head}
 use Rattle.rules.specs.declared.Tables.{Tables}
 use Rattle.rules.specs.Tables.{tables_of, head_of}
 use Rattle.rules.specs.Record.{Request}
-use Rattle.rules.specs.Defaults.{noDefaults}
+use Rattle.rules.specs.Defaults.{no_defaults}
 use Rattle.rules.specs.Outcome.{Response}
-use Rattle.rules.specs.Contracts.Results.{Result}
-use Rattle.rules_terminal.specs.Slots.{emptyQueue}
+use Rattle.rules.specs.Promises.Results.{Result}
+use Rattle.rules_terminal.specs.Slots.{empty_queue}
 use Rattle.rules_terminal.specs.Terminal.{terminal}
 use Rattle.rules_terminal.specs.Calls.{Judges}
-use Rattle.rules_terminal.proofs.Direct.{fresh-whole, as-outcome}
+use Rattle.rules_terminal.proofs.Direct.{fresh_whole, as_outcome}
 use Rattle.report.specs.declared.Judged.{Judged}
 use Rattle.report.specs.Run.{lent}
-use Rattle.report.specs.Judged.{judgedAs}
+use Rattle.report.specs.Judged.{judged_as}
 use Rattle.report.proofs.judge_one.Tie as tie
 
 -- what a line needs of what is reported
 abbrev told : Result → Judged
 told s = record { answer = s.answer; permission = s.permission; tables = s.tables }
 
-as-judged : (t : Tables) (h : Head) → h ≡ head_of t → (q : Request) (s : Result) (lent queue buffer : List ℕ)
-    → Judges noDefaults (terminal (tables_of h t.creds t.aces) emptyQueue) q s lent queue buffer → told s ≡ judgedAs t q
-as-judged t h is q s lent queue buffer g =
-    let a = as-outcome noDefaults (terminal t emptyQueue) q (fresh-whole t) in
-    let whole = subst (λ (k : Head). Judges noDefaults (terminal (tables_of k t.creds t.aces) emptyQueue) q s lent queue buffer) is g in
+as_judged : (t : Tables) (h : Head) → h ≡ head_of t → (q : Request) (s : Result) (lent queue buffer : List ℕ)
+    → Judges no_defaults (terminal (tables_of h t.creds t.aces) empty_queue) q s lent queue buffer → told s ≡ judged_as t q
+as_judged t h is q s lent queue buffer g =
+    let a = as_outcome no_defaults (terminal t empty_queue) q (fresh_whole t) in
+    let whole = subst (λ (k : Head). Judges no_defaults (terminal (tables_of k t.creds t.aces) empty_queue) q s lent queue buffer) is g in
     ap told whole.says
     ∙ ap₂ (λ (r : Response) (u : Tables). record { answer = r.answer; permission = r.permission; tables = u }) a.response a.tables
 
@@ -33,8 +33,8 @@ returns c =
     let call = c.before.before.before.before in
     let head = call.before.before.before.before.before.before.before in
     let s = head.before.before.before.before in
-    as-judged s.args.t _ head.head.ensures (lent s.args.clock (now s.args.rec)) _ _ _ _ call.judge.ensures
+    as_judged s.args.t _ head.head.ensures (lent s.args.clock (now s.args.rec)) _ _ _ _ call.judge.ensures
 
-pub judge-one-spec : {M : Type 1} → Rattle.report.proofs.judge_one.Statement.statement M
-judge-one-spec = tie.close (tie.spec
+pub judge_one_spec : {M : Type 1} → Rattle.report.proofs.judge_one.Statement.statement M
+judge_one_spec = tie.close (tie.spec
     (λ c κs. search needs) (λ c. search needs) (λ c. search needs) (λ c. search needs) (λ c κs. search needs) returns)

@@ -5,6 +5,6 @@ use Rattle.text.specs.Text.{ascii}
 use Rattle.report.specs.Run.{cut}
 use Rattle.report.proofs.put_cut.Tie as tie
 
-pub put-cut-spec : {M : Type 1} → Rattle.report.proofs.put_cut.Statement.statement M
+pub put_cut_spec : {M : Type 1} → Rattle.report.proofs.put_cut.Statement.statement M
 unfolding cut ascii
-put-cut-spec = tie.close (tie.spec (λ c. search rules) (λ c κs. search rules) (λ c. search rules) (λ c. c.before.before.put.ensures))
+put_cut_spec = tie.close (tie.spec (λ c. search rules) (λ c κs. search rules) (λ c. search rules) (λ c. c.before.before.put.ensures))

@@ -7,5 +7,5 @@ use Rattle.report.proofs.put_number.Tie as tie
 returns : tie.Need-returns
 returns c = puts_then (omega arith) c.before.before.before.before.before.before.put-decimal.ensures c.before.before.put_byte.ensures
 
-pub put-number-spec : {M : Type 1} → Rattle.report.proofs.put_number.Statement.statement M
-put-number-spec = tie.close (tie.spec (λ c κs. search needs) (λ c κs. search needs) (λ c. search needs) returns)
+pub put_number_spec : {M : Type 1} → Rattle.report.proofs.put_number.Statement.statement M
+put_number_spec = tie.close (tie.spec (λ c κs. search needs) (λ c κs. search needs) (λ c. search needs) returns)

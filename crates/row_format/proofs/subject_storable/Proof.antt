@@ -3,30 +3,30 @@ use Rattle.rows.proofs.Prelude.{◌≡◌, refl, sym, ap, ◌∙◌, Bool, false
 use Rattle.rows.proofs.Prelude.{length-take-le, length-drop, arith, eqb, needs, bool_cases, eq-eqb, ne_eqb, not-false, not-true}
 use mathlib.Core.Bool.{and_assoc}
 use lib.Seq.{take-add}
-use Rattle.rows.specs.Rows.{Row, allZero, same}
+use Rattle.rows.specs.Rows.{Row, all_zero, same}
 use Rattle.rules.specs.Bits.{bits}
-use Rattle.rules.specs.Bodies.{nil, isNil, aceKind, aceRole, aceSubject, subjectStorable}
+use Rattle.rules.specs.Bodies.{nil, is_nil, ace_kind, ace_role, ace_subject, subject_storable}
 use Rattle.rules.specs.Lookup.{lookup}
-use Rattle.rules.specs.Sizes.{aceRowSize}
+use Rattle.rules.specs.Sizes.{ace_row_size}
 use Rattle.row_format.proofs.subject_storable.Tie as tie
 
-zeros-same : (u : List ℕ) → allZero u ≡ same u (replicate (length u) 0)
-unfolding allZero same
-zeros-same [] = refl
-zeros-same (x ∷ u) = ap (λ (t : Bool). eqb x 0 && t) (zeros-same u)
+zeros_same : (u : List ℕ) → all_zero u ≡ same u (replicate (length u) 0)
+unfolding all_zero same
+zeros_same [] = refl
+zeros_same (x ∷ u) = ap (λ (t : Bool). eqb x 0 && t) (zeros_same u)
 
-zeros-append : (a b : List ℕ) → allZero (a ++ b) ≡ (allZero a && allZero b)
-unfolding allZero
-zeros-append [] b = refl
-zeros-append (x ∷ a) b = ap (λ (t : Bool). eqb x 0 && t) (zeros-append a b) ∙ sym (and_assoc (eqb x 0) (allZero a) (allZero b))
+zeros_append : (a b : List ℕ) → all_zero (a ++ b) ≡ (all_zero a && all_zero b)
+unfolding all_zero
+zeros_append [] b = refl
+zeros_append (x ∷ a) b = ap (λ (t : Bool). eqb x 0 && t) (zeros_append a b) ∙ sym (and_assoc (eqb x 0) (all_zero a) (all_zero b))
 
-in_two : (n m : ℕ) (s : List ℕ) (b : List ℕ) → b ≡ take n s ++ take m (drop n s) → allZero b ≡ (allZero (take n s) && allZero (take m (drop n s)))
-in_two n m s b e = ap allZero e ∙ zeros-append (take n s) (take m (drop n s))
+in_two : (n m : ℕ) (s : List ℕ) (b : List ℕ) → b ≡ take n s ++ take m (drop n s) → all_zero b ≡ (all_zero (take n s) && all_zero (take m (drop n s)))
+in_two n m s b e = ap all_zero e ∙ zeros_append (take n s) (take m (drop n s))
 
-whole : (s : List ℕ) → length s ≡ 16 → isNil s ≡ (allZero (take 8 s) && allZero (take 8 (drop 8 s)))
-unfolding isNil nil
+whole : (s : List ℕ) → length s ≡ 16 → is_nil s ≡ (all_zero (take 8 s) && all_zero (take 8 (drop 8 s)))
+unfolding is_nil nil
 whole s l =
-    sym (zeros-same s ∙ ap (λ (n : ℕ). same s (replicate n 0)) l)
+    sym (zeros_same s ∙ ap (λ (n : ℕ). same s (replicate n 0)) l)
     ∙ in_two 8 8 s s (sym (take_all 16 s (omega arith)) ∙ take-add 8 8 s)
 
 -- a subject by its parts: its first eight bytes, four, eight, and three more
@@ -34,73 +34,73 @@ abbrev by_parts : ℕ → Bool → Bool → Bool → Bool → Bool → Bool → 
 by_parts k first four eight three role zeros =
     lookup k ((0, not (first && eight)) ∷ (1, (first && four) && role) ∷ (2, ((first && four) && three) && zeros) ∷ []) false
 
-storable-parts : (w : Row) → length w ≡ aceRowSize → let s = aceSubject w in
-    subjectStorable w
-    ≡ by_parts (aceKind w) (allZero (take 8 s)) (allZero (take 4 (drop 8 s))) (allZero (take 8 (drop 8 s))) (allZero (take 3 (drop 12 s)))
-    (not (eqb (aceRole w) 0)) (eqb (bits w 216 7) 0)
-unfolding subjectStorable
-storable-parts w l =
-    let s = aceSubject w in
+storable_parts : (w : Row) → length w ≡ ace_row_size → let s = ace_subject w in
+    subject_storable w
+    ≡ by_parts (ace_kind w) (all_zero (take 8 s)) (all_zero (take 4 (drop 8 s))) (all_zero (take 8 (drop 8 s))) (all_zero (take 3 (drop 12 s)))
+    (not (eqb (ace_role w) 0)) (eqb (bits w 216 7) 0)
+unfolding subject_storable
+storable_parts w l =
+    let s = ace_subject w in
     rw (
       whole s (length-take-le 16 (drop 12 w) (omega (arith, length-drop 12 w))),
       in_two 12 3 s (take 15 s) (take-add 12 3 s),
       in_two 8 4 s (take 12 s) (take-add 8 4 s),
     )
 
-first-set : (k : ℕ) (four eight three role zeros : Bool) → eqb k 0 ≡ by_parts k false four eight three role zeros
-first-set k four eight three role zeros =
+first_set : (k : ℕ) (four eight three role zeros : Bool) → eqb k 0 ≡ by_parts k false four eight three role zeros
+first_set k four eight three role zeros =
     bool_cases (eqb k 0) (λ e. rw e) (λ e. rw e (bool_cases (eqb k 1) (λ f. rw f) (λ f. rw f (bool_cases (eqb k 2) (λ g. rw g) (λ g. rw g)))))
 
-four-set : (k : ℕ) (eight three role zeros : Bool) → eqb k 0 ≡ false → false ≡ by_parts k true false eight three role zeros
-four-set k eight three role zeros e = rw e (bool_cases (eqb k 1) (λ f. rw f) (λ f. rw f (bool_cases (eqb k 2) (λ g. rw g) (λ g. rw g))))
+four_set : (k : ℕ) (eight three role zeros : Bool) → eqb k 0 ≡ false → false ≡ by_parts k true false eight three role zeros
+four_set k eight three role zeros e = rw e (bool_cases (eqb k 1) (λ f. rw f) (λ f. rw f (bool_cases (eqb k 2) (λ g. rw g) (λ g. rw g))))
 
 connection : (k : ℕ) (eight three role zeros : Bool) → eqb k 0 ≡ false → eqb k 1 ≡ false → ((eqb k 2 && three) && zeros) ≡ by_parts k true true eight three role zeros
 connection k eight three role zeros e f = rw (e, f) (bool_cases (eqb k 2) (λ g. rw g) (λ g. rw g))
 
 -- what the first test says, and the kind
-first-is : (c : tie.After-short-zero) → let row = c.before.before.before.before.before.args.row.now in c.short-zero.result ≡ allZero (take 8 (aceSubject row))
-first-is c =
-    c.short-zero.ensures ∙ ap allZero (c.before.part.ensures ∙ ap (λ (s : List ℕ). take 8 s) c.before.before.before.subject.ensures)
+first_is : (c : tie.After-short-zero) → let row = c.before.before.before.before.before.args.row.now in c.short-zero.result ≡ all_zero (take 8 (ace_subject row))
+first_is c =
+    c.short-zero.ensures ∙ ap all_zero (c.before.part.ensures ∙ ap (λ (s : List ℕ). take 8 s) c.before.before.before.subject.ensures)
 
 returns : tie.Need-returns
 returns c =
     let z = c.before in
     let k = z.before.before in
     let start = k.before.before.before in
-    rw (storable-parts _ start.requires, sym (first-is z) ∙ not-true _ c.if1.true, ← k.kind.ensures) (first-set k.kind.result true true true true true)
+    rw (storable_parts _ start.requires, sym (first_is z) ∙ not-true _ c.if1.true, ← k.kind.ensures) (first_set k.kind.result true true true true true)
 
-returns-2 : tie.Need-returns-2
-returns-2 c =
+returns_2 : tie.Need-returns-2
+returns_2 c =
     let k0 = c.before.before in
     let z = k0.before.before in
     let k = z.before.before in
     let start = k.before.before.before in
     rw (
-      storable-parts _ start.requires,
-      sym (first-is z) ∙ not-false _ k0.before.if1.false,
+      storable_parts _ start.requires,
+      sym (first_is z) ∙ not-false _ k0.before.if1.false,
       sym k.kind.ensures ∙ k0.if2.true,
       c.short-zero2.ensures,
       c.before.part2.ensures,
       k.before.subject.ensures,
     )
 
-returns-3 : tie.Need-returns-3
-returns-3 c =
+returns_3 : tie.Need-returns-3
+returns_3 c =
     let four = c.before in
     let k0 = four.before.before in
     let z = k0.before.before in
     let k = z.before.before in
     let start = k.before.before.before in
     rw (
-      storable-parts _ start.requires,
-      sym (first-is z) ∙ not-false _ k0.before.if1.false,
-      sym (four.short-zero3.ensures ∙ ap allZero (four.before.part3.ensures ∙ ap (λ (s : List ℕ). take 4 (drop 8 s)) k.before.subject.ensures)) ∙ not-true _ c.if3.true,
+      storable_parts _ start.requires,
+      sym (first_is z) ∙ not-false _ k0.before.if1.false,
+      sym (four.short-zero3.ensures ∙ ap all_zero (four.before.part3.ensures ∙ ap (λ (s : List ℕ). take 4 (drop 8 s)) k.before.subject.ensures)) ∙ not-true _ c.if3.true,
       ← k.kind.ensures,
     )
-    (four-set k.kind.result (allZero (take 8 (drop 8 (aceSubject start.args.row.now)))) true true true (ne_eqb _ 0 k0.if2.false))
+    (four_set k.kind.result (all_zero (take 8 (drop 8 (ace_subject start.args.row.now)))) true true true (ne_eqb _ 0 k0.if2.false))
 
-returns-4 : tie.Need-returns-4
-returns-4 c =
+returns_4 : tie.Need-returns-4
+returns_4 c =
     let k1 = c.before in
     let four = k1.before.before in
     let k0 = four.before.before in
@@ -108,15 +108,15 @@ returns-4 c =
     let k = z.before.before in
     let start = k.before.before.before in
     rw (
-      storable-parts _ start.requires,
-      sym (first-is z) ∙ not-false _ k0.before.if1.false,
-      sym (four.short-zero3.ensures ∙ ap allZero (four.before.part3.ensures ∙ ap (λ (s : List ℕ). take 4 (drop 8 s)) k.before.subject.ensures)) ∙ not-false _ k1.before.if3.false,
+      storable_parts _ start.requires,
+      sym (first_is z) ∙ not-false _ k0.before.if1.false,
+      sym (four.short-zero3.ensures ∙ ap all_zero (four.before.part3.ensures ∙ ap (λ (s : List ℕ). take 4 (drop 8 s)) k.before.subject.ensures)) ∙ not-false _ k1.before.if3.false,
       sym k.kind.ensures ∙ k1.if4.true,
       c.role.ensures,
     )
 
-returns-5 : tie.Need-returns-5
-returns-5 c =
+returns_5 : tie.Need-returns-5
+returns_5 c =
     let three = c.before in
     let k1 = three.before.before in
     let four = k1.before.before in
@@ -125,22 +125,22 @@ returns-5 c =
     let k = z.before.before in
     let start = k.before.before.before in
     rw (
-      storable-parts _ start.requires,
-      sym (first-is z) ∙ not-false _ k0.before.if1.false,
-      sym (four.short-zero3.ensures ∙ ap allZero (four.before.part3.ensures ∙ ap (λ (s : List ℕ). take 4 (drop 8 s)) k.before.subject.ensures)) ∙ not-false _ k1.before.if3.false,
+      storable_parts _ start.requires,
+      sym (first_is z) ∙ not-false _ k0.before.if1.false,
+      sym (four.short-zero3.ensures ∙ ap all_zero (four.before.part3.ensures ∙ ap (λ (s : List ℕ). take 4 (drop 8 s)) k.before.subject.ensures)) ∙ not-false _ k1.before.if3.false,
       ← k.kind.ensures,
       c.connection-zeros.ensures,
       three.short-zero4.ensures,
       three.before.part4.ensures,
       k.before.subject.ensures,
     )
-    (connection k.kind.result (allZero (take 8 (drop 8 (aceSubject start.args.row.now)))) (allZero (take 3 (drop 12 (aceSubject start.args.row.now))))
-    (not (eqb (aceRole start.args.row.now) 0)) (eqb (bits start.args.row.now 216 7) 0) (ne_eqb _ 0 k0.if2.false) (ne_eqb _ 1 k1.if4.false))
+    (connection k.kind.result (all_zero (take 8 (drop 8 (ace_subject start.args.row.now)))) (all_zero (take 3 (drop 12 (ace_subject start.args.row.now))))
+    (not (eqb (ace_role start.args.row.now) 0)) (eqb (bits start.args.row.now 216 7) 0) (ne_eqb _ 0 k0.if2.false) (ne_eqb _ 1 k1.if4.false))
 
-pub subject-storable-spec : {M : Type 1} → Rattle.row_format.proofs.subject_storable.Statement.statement M
-subject-storable-spec = tie.close (tie.spec
+pub subject_storable_spec : {M : Type 1} → Rattle.row_format.proofs.subject_storable.Statement.statement M
+subject_storable_spec = tie.close (tie.spec
     (λ c κs. search needs) (λ c κs. search needs) (λ c κs. search needs) (λ c κs. search needs) returns
-    (λ c κs. search needs) (λ c κs. search needs) returns-2
-    (λ c κs. search needs) (λ c κs. search needs) returns-3
-    (λ c κs. search needs) returns-4
-    (λ c κs. search needs) (λ c κs. search needs) (λ c κs. search needs) returns-5)
+    (λ c κs. search needs) (λ c κs. search needs) returns_2
+    (λ c κs. search needs) (λ c κs. search needs) returns_3
+    (λ c κs. search needs) returns_4
+    (λ c κs. search needs) (λ c κs. search needs) (λ c κs. search needs) returns_5)

@@ -2,7 +2,7 @@
 -- Assumes nothing.
 use Rattle.rows.proofs.Prelude.{◌+◌, and-true, add-sub_cancel_left, arith, now, needs}
 use mathlib.Core.Bool.{and_assoc}
-use Rattle.rows.proofs.Zeros.{zeros-past, zeros-part}
+use Rattle.rows.proofs.Zeros.{zeros_past, zeros_part}
 use Rattle.rows.proofs.any_last.Tie as tie
 
 returns : tie.Need-returns
@@ -12,17 +12,17 @@ returns c =
     let i = s.args.at in
     rw (c.any-of-four.ensures, add-sub_cancel_left, add-sub_cancel_left, add-sub_cancel_left, add-sub_cancel_left)
     (rw (
-      zeros-part 32 i b,
-      zeros-part 32 (i + 32) b,
-      zeros-part 32 (i + 32 + 32) b,
-      zeros-part 32 (i + 32 + 32 + 32) b,
-      zeros-past b (i + 32 + 32 + 32 + 32) (omega (arith, s.requires)),
+      zeros_part 32 i b,
+      zeros_part 32 (i + 32) b,
+      zeros_part 32 (i + 32 + 32) b,
+      zeros_part 32 (i + 32 + 32 + 32) b,
+      zeros_past b (i + 32 + 32 + 32 + 32) (omega (arith, s.requires)),
       and-true,
       and_assoc,
     ))
 
-pub any-last-spec : {M : Type 1} → Rattle.rows.proofs.any_last.Statement.statement M
-any-last-spec = tie.close (tie.spec
+pub any_last_spec : {M : Type 1} → Rattle.rows.proofs.any_last.Statement.statement M
+any_last_spec = tie.close (tie.spec
     (λ c. search needs) (λ c. search needs) (λ c. search needs) (λ c. search needs)
     (λ c. search needs) (λ c. search needs) (λ c. search needs) (λ c. search needs) (λ c. search needs) (λ c. search needs)
     (λ c. search needs) (λ c. search needs) (λ c. search needs) (λ c. search needs) (λ c. search needs) (λ c. search needs)

@@ -5,14 +5,14 @@ use lib.Seq.{drop-length}
 use borrow.Author.Fill.{fill_more}
 use Rattle.rows_change.proofs.clear.Tie as tie
 
-abbrev invariant-loop : tie.invariant-loop
-invariant-loop bytes₀ i₀ bytes i = (i ≤ length bytes₀) × (length bytes ≡ length bytes₀) × (bytes ≡ replicate i 0 ++ drop i bytes₀)
+abbrev invariant_loop : tie.invariant_loop
+invariant_loop bytes₀ i₀ bytes i = (i ≤ length bytes₀) × (length bytes ≡ length bytes₀) × (bytes ≡ replicate i 0 ++ drop i bytes₀)
 
-abbrev decreases-loop : tie.decreases-loop
-decreases-loop bytes₀ i₀ bytes i = length bytes₀ - i
+abbrev decreases_loop : tie.decreases_loop
+decreases_loop bytes₀ i₀ bytes i = length bytes₀ - i
 
-module _ (bytes₀ bytes : List ℕ) (i : ℕ) (inv : invariant-loop bytes₀ 0 bytes i) where
-  turn : i < length bytes → invariant-loop bytes₀ 0 (set bytes i 0) (i + 1)
+module _ (bytes₀ bytes : List ℕ) (i : ℕ) (inv : invariant_loop bytes₀ 0 bytes i) where
+  turn : i < length bytes → invariant_loop bytes₀ 0 (set bytes i 0) (i + 1)
   turn h = (omega arith, length-set bytes i 0 ∙ inv.1, rw (inv.2, fill_more i 0 bytes₀ (omega arith)))
 
   end : length bytes ≤ i → bytes ≡ replicate (length bytes₀) 0
@@ -20,6 +20,6 @@ module _ (bytes₀ bytes : List ℕ) (i : ℕ) (inv : invariant-loop bytes₀ 0 
 
 pub clear_spec : {M : Type 1} → Rattle.rows_change.proofs.clear.Statement.statement M
 clear_spec = tie.close (tie.spec
-    invariant-loop decreases-loop (λ c. (search needs, refl, refl)) (λ c. search needs) (λ c. search needs) (λ c. search needs)
+    invariant_loop decreases_loop (λ c. (search needs, refl, refl)) (λ c. search needs) (λ c. search needs) (λ c. search needs)
     (λ c. turn _ _ _ c.before.loop.invariant c.loop-test.true)
     (λ c. c.before.loop.invariant.1) (λ c. end _ _ _ c.before.loop.invariant c.loop-test.false))

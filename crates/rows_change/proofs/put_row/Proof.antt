@@ -2,11 +2,11 @@
 -- Assumes nothing.
 use Rattle.rows.proofs.Prelude.{needs}
 use Rattle.rows.specs.Rows.{with_row}
-use Rattle.rows.proofs.Laws.{take_rest, lent-rest}
+use Rattle.rows.proofs.Laws.{take_rest, lent_rest}
 use Rattle.rows_change.proofs.put_row.Tie as tie
 
-pub put-row-spec : {M : Type 1} → Rattle.rows_change.proofs.put_row.Statement.statement M
+pub put_row_spec : {M : Type 1} → Rattle.rows_change.proofs.put_row.Statement.statement M
 unfolding with_row
-put-row-spec = tie.close (tie.spec
+put_row_spec = tie.close (tie.spec
     (λ c. search needs) (λ c. search needs) (λ c. search needs) (λ c. search needs) (λ c κs. search needs) (λ c. search needs)
-    (λ c. rw (lent-rest, c.before.before.copy-over.ensures, take_rest, c.before.before.before.before.before.before.requires.0)))
+    (λ c. rw (lent_rest, c.before.before.copy-over.ensures, take_rest, c.before.before.before.before.before.before.requires.0)))

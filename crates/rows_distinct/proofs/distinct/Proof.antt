@@ -1,9 +1,9 @@
 -- `distinct`: none of the rows repeats a number where all are before the first that does.
 -- Assumes nothing.
 use borrow.Author.Rules.{rules}
-use Rattle.rows.proofs.Laws.{length-rowsOf}
-use Rattle.rows.proofs.Repeat.{distinct-repeat}
+use Rattle.rows.proofs.Laws.{length_rows_of}
+use Rattle.rows.proofs.Repeat.{distinct_repeat}
 use Rattle.rows_distinct.proofs.distinct.Tie as tie
 
-pub distinct-spec : {M : Type 1} → Rattle.rows_distinct.proofs.distinct.Statement.statement M
-distinct-spec = tie.close (tie.spec (λ c κs. search rules) (λ c. rw (distinct-repeat _, length-rowsOf, c.before-repeat.ensures)))
+pub distinct_spec : {M : Type 1} → Rattle.rows_distinct.proofs.distinct.Statement.statement M
+distinct_spec = tie.close (tie.spec (λ c κs. search rules) (λ c. rw (distinct_repeat _, length_rows_of, c.before-repeat.ensures)))

@@ -2,7 +2,7 @@
 use Rattle.rows.proofs.Prelude.{◌%◌, eq-eqb, ne_eqb}
 use Rattle.store.proofs.by_parity.Tie as tie
 
-pub by-parity-spec : {M : Type 1} → Rattle.store.proofs.by_parity.Statement.statement M
-by-parity-spec = tie.close (tie.spec
+pub by_parity_spec : {M : Type 1} → Rattle.store.proofs.by_parity.Statement.statement M
+by_parity_spec = tie.close (tie.spec
     (λ c. rw (eq-eqb (c.before.args.counter % 2) 0 c.if1.true))
     (λ c. rw (ne_eqb (c.before.args.counter % 2) 0 c.if1.false)))

@@ -12,7 +12,7 @@ module _ (n : ℕ) (store : List ℕ) where
   unfolding counter marks
   all total e = e ∙ rw (take_all (length store) (drop (n + n) store) (rw length-drop (omega arith)))
 
-pub counter-spec : {M : Type 1} → Rattle.store.proofs.counter.Statement.statement M
-counter-spec = tie.close (tie.spec
+pub counter_spec : {M : Type 1} → Rattle.store.proofs.counter.Statement.statement M
+counter_spec = tie.close (tie.spec
     (λ c. none _ _ c.if1.true) (λ c. search needs) (λ c κs. search needs) (λ c κs. search needs)
     (λ c. all _ _ _ (c.sum.ensures ∙ ap (λ (l : List ℕ). sum l % 256) c.before.part.ensures)))

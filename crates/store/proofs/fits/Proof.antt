@@ -10,5 +10,5 @@ rest length n h = bool_cases (eqb length (n + n + 8))
     (λ e. rw e (eq-eqb (length - (n + n)) 8 (omega (arith, eqb-true length (n + n + 8) e))))
     (λ e. rw e (ne_eqb (length - (n + n)) 8 (λ q. eqb-false length (n + n + 8) e (omega arith))))
 
-pub fits-spec : {M : Type 1} → Rattle.store.proofs.fits.Statement.statement M
-fits-spec = tie.close (tie.spec (λ c. short _ _ c.if1.true) (λ c. search needs) (λ c. search needs) (λ c. rest _ _ c.if1.false))
+pub fits_spec : {M : Type 1} → Rattle.store.proofs.fits.Statement.statement M
+fits_spec = tie.close (tie.spec (λ c. short _ _ c.if1.true) (λ c. search needs) (λ c. search needs) (λ c. rest _ _ c.if1.false))

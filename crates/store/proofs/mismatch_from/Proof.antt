@@ -1,41 +1,41 @@
 -- `store::mismatch_from`. The loop's invariant: the place to find is the first one from `i` on.
 use Rattle.rows.proofs.Prelude.{◌≡◌, refl, ◌∙◌, List, [], ◌∷◌, ℕ, ◌+◌, ◌-◌, ◌≤◌, ◌<◌, add-one, add-zero, arith, length, drop, get_or, drop_of_length-le}
 use Rattle.rows.proofs.Prelude.{drop-cons, needs, eq-eqb, ne_eqb}
-use Rattle.rules_store.specs.Store.{mismatch, mismatchFrom}
+use Rattle.rules_store.specs.Store.{mismatch, mismatch_from}
 use Rattle.store.proofs.mismatch_from.Tie as tie
 
-abbrev invariant-loop : tie.invariant-loop
-invariant-loop from old new i₀ i = mismatchFrom i old new ≡ mismatchFrom from old new
+abbrev invariant_loop : tie.invariant_loop
+invariant_loop from old new i₀ i = mismatch_from i old new ≡ mismatch_from from old new
 
-abbrev decreases-loop : tie.decreases-loop
-decreases-loop from old new i₀ i = length old - i
+abbrev decreases_loop : tie.decreases_loop
+decreases_loop from old new i₀ i = length old - i
 
-mismatch-none : (old : List ℕ) → mismatch old [] ≡ 0
+mismatch_none : (old : List ℕ) → mismatch old [] ≡ 0
 unfolding mismatch
-mismatch-none [] = refl
-mismatch-none (x ∷ old) = refl
+mismatch_none [] = refl
+mismatch_none (x ∷ old) = refl
 
 module _ (old new : List ℕ) (i : ℕ) where
-  ended : length old ≤ i → i ≡ mismatchFrom i old new
-  unfolding mismatchFrom mismatch
+  ended : length old ≤ i → i ≡ mismatch_from i old new
+  unfolding mismatch_from mismatch
   ended h = rw (drop_of_length-le old h, add-zero)
 
-  short : length new ≤ i → i ≡ mismatchFrom i old new
-  unfolding mismatchFrom
-  short h = rw (drop_of_length-le new h, mismatch-none (drop i old), add-zero)
+  short : length new ≤ i → i ≡ mismatch_from i old new
+  unfolding mismatch_from
+  short h = rw (drop_of_length-le new h, mismatch_none (drop i old), add-zero)
 
   module _ (h : i < length old) (k : i < length new) where
-    stop : (get_or old i 0 ≡ get_or new i 0 → ⊥) → i ≡ mismatchFrom i old new
-    unfolding mismatchFrom mismatch
+    stop : (get_or old i 0 ≡ get_or new i 0 → ⊥) → i ≡ mismatch_from i old new
+    unfolding mismatch_from mismatch
     stop d = rw (drop-cons old i 0 h, drop-cons new i 0 k, ne_eqb (get_or old i 0) (get_or new i 0) d, add-zero)
 
-    turn : get_or old i 0 ≡ get_or new i 0 → mismatchFrom (i + 1) old new ≡ mismatchFrom i old new
-    unfolding mismatchFrom mismatch
+    turn : get_or old i 0 ≡ get_or new i 0 → mismatch_from (i + 1) old new ≡ mismatch_from i old new
+    unfolding mismatch_from mismatch
     turn e = rw (drop-cons old i 0 h, drop-cons new i 0 k, eq-eqb (get_or old i 0) (get_or new i 0) e, add-one) (omega arith)
 
-pub mismatch-from-spec : {M : Type 1} → Rattle.store.proofs.mismatch_from.Statement.statement M
-mismatch-from-spec = tie.close (tie.spec
-    invariant-loop decreases-loop (λ c. refl) (λ c. short _ _ _ c.if1.true ∙ c.before.before.loop.invariant)
+pub mismatch_from_spec : {M : Type 1} → Rattle.store.proofs.mismatch_from.Statement.statement M
+mismatch_from_spec = tie.close (tie.spec
+    invariant_loop decreases_loop (λ c. refl) (λ c. short _ _ _ c.if1.true ∙ c.before.before.loop.invariant)
     (λ c. search needs) (λ c. search needs)
     (λ c.
     let test = c.before.before.before.before in

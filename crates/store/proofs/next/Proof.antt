@@ -21,24 +21,24 @@ module _ (store new : List ℕ) (from : ℕ) (fit : Bool) (e : fit ≡ eqb (leng
     unfolding next fits
     more d = rw (← e, not-false fit q, d)
 
-settled-requires : tie.Need-settled-requires
-settled-requires c κs =
+settled_requires : tie.Need-settled-requires
+settled_requires c κs =
     let a = c.before.before.before.before.args in
     size (now a.store) (now a.new) 0 _ c.before.fits2.ensures c.if1.false
 
-write-requires : tie.Need-write-requires
-write-requires c κs =
+write_requires : tie.Need-write-requires
+write_requires c κs =
     let b = c.before.before in
     let a = b.before.before.before.before.args in
     size (now a.store) (now a.new) 0 _ b.before.fits2.ensures b.if1.false
 
-pub next-spec : {M : Type 1} → Rattle.store.proofs.next.Statement.statement M
-next-spec = tie.close (tie.spec
-    (λ c κs. search needs) (λ c. unfit _ _ _ _ c.before.fits2.ensures c.if1.true) settled-requires
+pub next_spec : {M : Type 1} → Rattle.store.proofs.next.Statement.statement M
+next_spec = tie.close (tie.spec
+    (λ c κs. search needs) (λ c. unfit _ _ _ _ c.before.fits2.ensures c.if1.true) settled_requires
     (λ c.
     let b = c.before.before in
     done _ _ _ _ b.before.fits2.ensures b.if1.false (sym c.before.settled.ensures ∙ c.if2.true))
-    write-requires
+    write_requires
     (λ c.
     let b = c.before.before.before in
     c.write.ensures ∙ more _ _ _ _ b.before.fits2.ensures b.if1.false (sym c.before.before.settled.ensures ∙ c.before.if2.false)))

@@ -3,23 +3,23 @@ use Rattle.rows.proofs.Prelude.{◌≡◌, List, ℕ, ◌+◌, ◌-◌, ◌%◌,
 use Rattle.rules_store.specs.Store.{sum}
 use Rattle.store.proofs.sum.Tie as tie
 
-abbrev invariant-loop : tie.invariant-loop
-invariant-loop bytes total₀ i₀ total i = (total < 256) × ((total + sum (drop i bytes)) % 256 ≡ sum bytes % 256)
+abbrev invariant_loop : tie.invariant_loop
+invariant_loop bytes total₀ i₀ total i = (total < 256) × ((total + sum (drop i bytes)) % 256 ≡ sum bytes % 256)
 
-abbrev decreases-loop : tie.decreases-loop
-decreases-loop bytes total₀ i₀ total i = length bytes - i
+abbrev decreases_loop : tie.decreases_loop
+decreases_loop bytes total₀ i₀ total i = length bytes - i
 
-module _ (bytes : List ℕ) (total i : ℕ) (inv : invariant-loop bytes 0 0 total i) where
+module _ (bytes : List ℕ) (total i : ℕ) (inv : invariant_loop bytes 0 0 total i) where
   ended : length bytes ≤ i → total ≡ sum bytes % 256
   unfolding sum
   ended h = let e = rw (drop_of_length-le bytes h) at inv.1 in omega arith
 
-  turn : i < length bytes → (t : ℕ) → t ≡ (total + get_or bytes i 0) % 256 → invariant-loop bytes 0 0 t (i + 1)
+  turn : i < length bytes → (t : ℕ) → t ≡ (total + get_or bytes i 0) % 256 → invariant_loop bytes 0 0 t (i + 1)
   unfolding sum
   turn h t q = let e = rw (drop-cons bytes i 0 h) at inv.1 in rw (add-one i) (omega arith)
 
-pub sum-spec : {M : Type 1} → Rattle.store.proofs.sum.Statement.statement M
-sum-spec = tie.close (tie.spec
-    invariant-loop decreases-loop (λ c. omega arith) (λ c. search needs) (λ c κs. search needs) (λ c. search needs) (λ c. search needs)
+pub sum_spec : {M : Type 1} → Rattle.store.proofs.sum.Statement.statement M
+sum_spec = tie.close (tie.spec
+    invariant_loop decreases_loop (λ c. omega arith) (λ c. search needs) (λ c κs. search needs) (λ c. search needs) (λ c. search needs)
     (λ c. let test = c.before.before in turn _ _ _ test.before.loop.invariant test.loop-test.true _ c.wrapping-add-u8.ensures)
     (λ c. ended _ _ _ c.before.loop.invariant c.loop-test.false))

@@ -1,35 +1,35 @@
 -- `store::write`: the byte to copy, and the mark whose turn it is where no byte is left.
 use Rattle.rows.proofs.Prelude.{◌≡◌, refl, sym, ◌∙◌, cond, List, ℕ, ◌+◌, ◌-◌, ◌%◌, ◌≤◌, ◌<◌, arith, length, take, drop, get_or, eqb, lt-ltb, le-ltb, needs, now}
 use Rattle.rules_store.specs.declared.Step.TheVariants.{Write}
-use Rattle.rules_store.specs.Store.{counter, evenCounter, spareAt, imageAt, spare, toCopy, markAt, raised, raise, writeAt, write}
-use Rattle.rules_store.proofs.Parts.{spare-at-most}
+use Rattle.rules_store.specs.Store.{counter, even_counter, spare_at, image_at, spare, to_copy, mark_at, raised, raise, write_at, write}
+use Rattle.rules_store.proofs.Parts.{spare_at_most}
 use Rattle.store.proofs.write.Tie as tie
 
 module _ (store new : List ℕ) (count at : ℕ) (e : count ≡ counter (length new) store) (s : at ≡ cond (eqb (count % 2) 0) (length new) 0) where
-  spare-is : at ≡ spareAt (length new) store
-  unfolding spareAt evenCounter
-  spare-is = s ∙ rw e
+  spare_is : at ≡ spare_at (length new) store
+  unfolding spare_at even_counter
+  spare_is = s ∙ rw e
 
   within : at ≤ length new
-  within = rw spare-is (spare-at-most (length new) store)
+  within = rw spare_is (spare_at_most (length new) store)
 
   -- where the search begins, in which image, and what it gives
-  module _ (from start offset : ℕ) (old : List ℕ) (b : start ≡ from - at) (o : old ≡ take (length new) (drop at store)) (p : offset ≡ toCopy start old new) where
-    offset-is : toCopy (from - spareAt (length new) store) (spare (length new) store) new ≡ offset
-    unfolding spare imageAt
-    offset-is = rw (← spare-is, ← b, ← o) (sym p)
+  module _ (from start offset : ℕ) (old : List ℕ) (b : start ≡ from - at) (o : old ≡ take (length new) (drop at store)) (p : offset ≡ to_copy start old new) where
+    offset_is : to_copy (from - spare_at (length new) store) (spare (length new) store) new ≡ offset
+    unfolding spare image_at
+    offset_is = rw (← spare_is, ← b, ← o) (sym p)
 
     copies : offset < length new → Write (at + offset) (get_or new offset 0) ≡ write store new from
-    unfolding write writeAt
-    copies h = rw (offset-is, lt-ltb offset (length new) h, ← spare-is)
+    unfolding write write_at
+    copies h = rw (offset_is, lt-ltb offset (length new) h, ← spare_is)
 
     raises : length new ≤ offset → (mark byte : ℕ) → mark ≡ length new + length new + count % 8 → byte ≡ (get_or store mark 0 + 1) % 256
         → Write mark byte ≡ write store new from
-    unfolding write writeAt raise markAt raised
-    raises h mark byte q v = rw (offset-is, le-ltb offset (length new) h, ← e, ← q, ← v)
+    unfolding write write_at raise mark_at raised
+    raises h mark byte q v = rw (offset_is, le-ltb offset (length new) h, ← e, ← q, ← v)
 
-add-t13 : tie.Need-overflow-add-t13
-add-t13 c =
+add_t13 : tie.Need-overflow-add-t13
+add_t13 c =
     let b = c.before.before.before.before in
     let s = b.before.before.before.before in
     omega (arith, within (now s.args.store) (now s.args.new) _ _ b.before.counter.ensures b.by-parity.ensures, s.requires)
@@ -41,8 +41,8 @@ returns c =
     copies _ _ _ _ b.before.counter.ensures b.by-parity.ensures _ _ _ _ t.before.before.less.ensures t.before.part.ensures
     t.to-copy.ensures c.before.if1.true
 
-returns-2 : tie.Need-returns-2
-returns-2 c =
+returns_2 : tie.Need-returns-2
+returns_2 c =
     let t = c.before.before.before in
     let b = t.before.before.before in
     raises _ _ _ _ b.before.counter.ensures b.by-parity.ensures _ _ _ _ t.before.before.less.ensures t.before.part.ensures
@@ -51,5 +51,5 @@ returns-2 c =
 pub write_spec : {M : Type 1} → Rattle.store.proofs.write.Statement.statement M
 write_spec = tie.close (tie.spec
     (λ c κs. search needs) (λ c κs. search needs) (λ c κs. search needs) (λ c κs. search needs) (λ c κs. search needs)
-    add-t13 (λ c. search needs) returns (λ c. search needs)
-    (λ c. search needs) (λ c. search needs) (λ c. search needs) (λ c κs. search needs) returns-2)
+    add_t13 (λ c. search needs) returns (λ c. search needs)
+    (λ c. search needs) (λ c. search needs) (λ c. search needs) (λ c κs. search needs) returns_2)

@@ -10,5 +10,5 @@ returns c =
     fresh_at _ _ _ (record { counts = put.put-head.ensures.0; devowner = put.put-head.ensures.1.0; rowners = put.put-head.ensures.1.1 })
     made.Fresh-in.ensures c.clear.ensures
 
-pub tillerclover-fresh-at-spec : {M : Type 1} → Rattle.terminal.proofs.tillerclover_fresh_at.Statement.statement M
-tillerclover-fresh-at-spec = tie.close (tie.spec (λ c κs. search needs) (λ c κs. search needs) (λ c κs. search needs) returns)
+pub tillerclover_fresh_at_spec : {M : Type 1} → Rattle.terminal.proofs.tillerclover_fresh_at.Statement.statement M
+tillerclover_fresh_at_spec = tie.close (tie.spec (λ c κs. search needs) (λ c κs. search needs) (λ c κs. search needs) returns)

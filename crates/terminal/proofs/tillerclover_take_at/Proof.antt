@@ -11,6 +11,6 @@ returns c =
     takes_at _ _ head.head_at.ensures _ _ _ call.take.result _ _ _ _ _ _ call.take.ensures c.words_of.ensures refl refl
     (record { counts = put.put-head.ensures.0; devowner = put.put-head.ensures.1.0; rowners = put.put-head.ensures.1.1 })
 
-pub tillerclover-take-at-spec : {M : Type 1} → Rattle.terminal.proofs.tillerclover_take_at.Statement.statement M
-tillerclover-take-at-spec = tie.close (tie.spec
+pub tillerclover_take_at_spec : {M : Type 1} → Rattle.terminal.proofs.tillerclover_take_at.Statement.statement M
+tillerclover_take_at_spec = tie.close (tie.spec
     (λ c κs. search needs) (λ c κs. search needs) (λ c κs. search needs) (λ c κs. search needs) (λ c. search needs) returns)

@@ -5,7 +5,7 @@ use native.Mathlib.Omega.{arith}
 use borrow.Author.Rules.{rules}
 use lib.ListN.{length}
 use lib.Seq.{length-take-le}
-use Rattle.text.proofs.Buffers.{puts-beyond, puts-over}
+use Rattle.text.proofs.Buffers.{puts_beyond, puts_over}
 use Prim.Native.Nat.{ℕ, ◌-◌, ◌<◌}
 use borrow.Fn.PlainCycle.{Measures, is, falls, and}
 use Rattle.text.proofs.put.Reads as put
@@ -34,7 +34,7 @@ pub +put-spec : {M : Type 1} → statement M
     (and 2 put-kinds.ps (is 2 put-kinds.ps μ-put t) put.Pre)
     put.Post
     (λ c κs. search rules)
-    (λ c. puts-beyond _ _ _ (omega arith) c.advance.ensures)
+    (λ c. puts_beyond _ _ _ (omega arith) c.advance.ensures)
     (λ c. search rules)
     (λ c κs. search rules)
     (λ c. search rules)
@@ -47,4 +47,4 @@ pub +put-spec : {M : Type 1} → statement M
     (λ c κs. search rules)
     (λ c. search rules)
     (λ c. let call = c.before.before.before in
-    puts-over _ _ (omega arith) (omega arith) (omega arith) call.put.ensures c.advance2.ensures)
+    puts_over _ _ (omega arith) (omega arith) (omega arith) call.put.ensures c.advance2.ensures)

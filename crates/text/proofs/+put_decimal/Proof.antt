@@ -2,7 +2,7 @@
 -- The two cases of its digits are the two ways through the code.
 use native.Mathlib.Omega.{arith}
 use borrow.Author.Rules.{rules}
-use Rattle.text.proofs.Decimals.{decimal-one, decimal-more}
+use Rattle.text.proofs.Decimals.{decimal_one, decimal_more}
 use Rattle.text.proofs.Buffers.{puts_then}
 use Prim.Native.Nat.{ℕ, ◌<◌}
 use borrow.Fn.PlainCycle.{Measures, is, falls, and}
@@ -32,10 +32,10 @@ pub +put-decimal-spec : {M : Type 1} → statement M
     (λ c. search rules)
     (λ c κs. search rules)
     (λ c. search rules)
-    (λ c. rw (decimal-one _ c.before.before.before.before.if1.true) c.before.before.put_byte.ensures)
+    (λ c. rw (decimal_one _ c.before.before.before.before.if1.true) c.before.before.put_byte.ensures)
     (λ c κs. (omega arith, tt))
     (λ c κs. search rules)
     (λ c. search rules)
     (λ c.
-    rw (decimal-more _ c.before.before.before.before.before.before.before.before.if1.false)
+    rw (decimal_more _ c.before.before.before.before.before.before.before.before.if1.false)
     (puts_then (omega arith) c.before.before.before.before.before.before.put-decimal.ensures c.before.before.put-byte2.ensures))

@@ -8,17 +8,17 @@ use mathlib.Core.List.{[], ◌∷◌}
 use borrow.Author.Rules.{rules}
 use lib.ListN.{length, drop, get_or, drop_of_length-le}
 use lib.Seq.{drop-cons}
-use Rattle.text.proofs.Buffers.{Writing, puts_one, writing_start, writing_step, writing-end, writing-length}
+use Rattle.text.proofs.Buffers.{Writing, puts_one, writing_start, writing_step, writing_end, writing_length}
 use Rattle.text.proofs.copy.Tie as tie
 
-abbrev invariant-loop : tie.invariant-loop
-invariant-loop out₀ at text p₀ i₀ out p i = (i ≤ length text) × (p ≡ at + i) × Writing out₀ at text (drop i text) out p
+abbrev invariant_loop : tie.invariant_loop
+invariant_loop out₀ at text p₀ i₀ out p i = (i ≤ length text) × (p ≡ at + i) × Writing out₀ at text (drop i text) out p
 
-abbrev decreases-loop : tie.decreases-loop
-decreases-loop out₀ at text p₀ i₀ out p i = length text - i
+abbrev decreases_loop : tie.decreases_loop
+decreases_loop out₀ at text p₀ i₀ out p i = length text - i
 
-loop-again : tie.Need-loop-preserved invariant-loop decreases-loop
-loop-again c =
+loop_again : tie.Need-loop-preserved invariant_loop decreases_loop
+loop_again c =
     let l = c.before.before.loop in
     let t = c.before.before.before.args.text.now in (
       omega arith,
@@ -27,14 +27,14 @@ loop-again c =
           (writing_step (get_or t l.i 0 ∷ []) (drop (suc l.i) t) l.invariant.2 (drop-cons t l.i 0 (omega arith)) (puts_one _ l.p _ (omega arith))),
     )
 
-returns : tie.Need-returns invariant-loop decreases-loop
+returns : tie.Need-returns invariant_loop decreases_loop
 returns c =
-    writing-end c.before.loop.invariant.2
+    writing_end c.before.loop.invariant.2
     (drop_of_length-le c.before.before.args.text.now {i = c.before.loop.i} (omega arith))
 
 pub copy_spec : {M : Type 1} → Rattle.text.proofs.copy.Statement.statement M
 copy_spec = tie.close (tie.spec
-    invariant-loop decreases-loop
+    invariant_loop decreases_loop
     (λ c. (omega arith, omega arith, writing_start _ _ _ (omega arith) (omega arith)))
-    (λ c. search rules) (λ c. omega (arith, writing-length c.before.before.loop.invariant.2)) (λ c. omega arith) (λ c. omega arith) (λ c. omega arith)
-    loop-again (λ c. writing-length c.before.loop.invariant.2) returns)
+    (λ c. search rules) (λ c. omega (arith, writing_length c.before.before.loop.invariant.2)) (λ c. omega arith) (λ c. omega arith) (λ c. omega arith)
+    loop_again (λ c. writing_length c.before.loop.invariant.2) returns)

@@ -4,5 +4,5 @@ use native.Mathlib.Omega.{arith}
 use Rattle.text.proofs.Buffers.{counts}
 use Rattle.text.proofs.within.Tie as tie
 
-pub within-spec : {M : Type 1} → Rattle.text.proofs.within.Statement.statement M
-within-spec = tie.close (tie.spec (λ c. (omega arith, counts _ _ (omega arith))) (λ c. (omega arith, counts _ _ (omega arith))))
+pub within_spec : {M : Type 1} → Rattle.text.proofs.within.Statement.statement M
+within_spec = tie.close (tie.spec (λ c. (omega arith, counts _ _ (omega arith))) (λ c. (omega arith, counts _ _ (omega arith))))

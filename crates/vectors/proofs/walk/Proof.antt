@@ -3,14 +3,14 @@
 use Rattle.rows.proofs.Prelude.{length, needs}
 use Rattle.vectors.proofs.walk.Tie as tie
 
-abbrev invariant-loop : tie.invariant-loop
-invariant-loop bytes p₀ rest₀ p rest = Unit {0}
+abbrev invariant_loop : tie.invariant_loop
+invariant_loop bytes p₀ rest₀ p rest = Unit {0}
 
-abbrev decreases-loop : tie.decreases-loop
-decreases-loop bytes p₀ rest₀ p rest = length rest
+abbrev decreases_loop : tie.decreases_loop
+decreases_loop bytes p₀ rest₀ p rest = length rest
 
-pub walk-spec : {M : Type 1} → Rattle.vectors.proofs.walk.Statement.statement M
-walk-spec = tie.close (tie.spec
-    invariant-loop decreases-loop (λ c κs. search needs) (λ c. search needs) (λ c κs. search needs) (λ c κs. search needs) (λ c κs. search needs)
+pub walk_spec : {M : Type 1} → Rattle.vectors.proofs.walk.Statement.statement M
+walk_spec = tie.close (tie.spec
+    invariant_loop decreases_loop (λ c κs. search needs) (λ c. search needs) (λ c κs. search needs) (λ c κs. search needs) (λ c κs. search needs)
     (λ c. search needs) (λ c κs. search needs) (λ c. search needs) (λ c κs. search needs) (λ c κs. search needs) (λ c κs. search needs)
     (λ c κs. search needs) (λ c. search needs) (λ c. search needs) (λ c. search needs) (λ c. search needs) (λ c. search needs) (λ c. search needs))

@@ -3,15 +3,15 @@
 use Rattle.rows.proofs.Prelude.{◌≡◌, ◌∙◌, length, length-set, needs}
 use Rattle.vectors_queries.proofs.same_run.Tie as tie
 
-abbrev invariant-loop : tie.invariant-loop
-invariant-loop memory₀ image expected from₀ rest₀ memory from rest = length memory ≡ length memory₀
+abbrev invariant_loop : tie.invariant_loop
+invariant_loop memory₀ image expected from₀ rest₀ memory from rest = length memory ≡ length memory₀
 
-abbrev decreases-loop : tie.decreases-loop
-decreases-loop memory₀ image expected from₀ rest₀ memory from rest = length rest
+abbrev decreases_loop : tie.decreases_loop
+decreases_loop memory₀ image expected from₀ rest₀ memory from rest = length rest
 
-pub same-run-spec : {M : Type 1} → Rattle.vectors_queries.proofs.same_run.Statement.statement M
-same-run-spec = tie.close (tie.spec
-    invariant-loop decreases-loop (λ c. search needs) (λ c κs. search needs) (λ c κs. search needs) (λ c. search needs) (λ c. search needs)
+pub same_run_spec : {M : Type 1} → Rattle.vectors_queries.proofs.same_run.Statement.statement M
+same_run_spec = tie.close (tie.spec
+    invariant_loop decreases_loop (λ c. search needs) (λ c κs. search needs) (λ c κs. search needs) (λ c. search needs) (λ c. search needs)
     (λ c. search needs) (λ c. search needs) (λ c. search needs) (λ c. search needs) (λ c. search needs) (λ c. search needs)
     (λ c. search needs) (λ c. search needs)
     (λ c. let w = c.before.before.before.before in let l = w.before.before.before.loop in

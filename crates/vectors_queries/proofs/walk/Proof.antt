@@ -3,15 +3,15 @@
 use Rattle.rows.proofs.Prelude.{length, needs}
 use Rattle.vectors_queries.proofs.walk.Tie as tie
 
-abbrev invariant-loop : tie.invariant-loop
-invariant-loop bytes p₀ tables₀ store₀ image₀ rest₀ p tables store image rest = Unit {0}
+abbrev invariant_loop : tie.invariant_loop
+invariant_loop bytes p₀ tables₀ store₀ image₀ rest₀ p tables store image rest = Unit {0}
 
-abbrev decreases-loop : tie.decreases-loop
-decreases-loop bytes p₀ tables₀ store₀ image₀ rest₀ p tables store image rest = length rest
+abbrev decreases_loop : tie.decreases_loop
+decreases_loop bytes p₀ tables₀ store₀ image₀ rest₀ p tables store image rest = length rest
 
-pub walk-spec : {M : Type 1} → Rattle.vectors_queries.proofs.walk.Statement.statement M
-walk-spec = tie.close (tie.spec
-    invariant-loop decreases-loop (λ c κs. search needs) (λ c. search needs) (λ c κs. search needs) (λ c κs. search needs) (λ c κs. search needs)
+pub walk_spec : {M : Type 1} → Rattle.vectors_queries.proofs.walk.Statement.statement M
+walk_spec = tie.close (tie.spec
+    invariant_loop decreases_loop (λ c κs. search needs) (λ c. search needs) (λ c κs. search needs) (λ c κs. search needs) (λ c κs. search needs)
     (λ c κs. search needs) (λ c. search needs) (λ c. search needs) (λ c κs. search needs) (λ c. search needs) (λ c κs. search needs)
     (λ c κs. search needs) (λ c κs. search needs) (λ c κs. search needs) (λ c κs. search needs) (λ c κs. search needs) (λ c. search needs)
     (λ c. search needs) (λ c. search needs) (λ c. search needs) (λ c. search needs) (λ c. search needs))

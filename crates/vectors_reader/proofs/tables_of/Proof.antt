@@ -26,8 +26,8 @@ returns c =
       c.byte-at4.ensures,
     )
 
-pub tables-of-spec : {M : Type 1} → Rattle.vectors_reader.proofs.tables_of.Statement.statement M
-tables-of-spec = tie.close (tie.spec
+pub tables_of_spec : {M : Type 1} → Rattle.vectors_reader.proofs.tables_of.Statement.statement M
+tables_of_spec = tie.close (tie.spec
     (λ c κs. search needs) (λ c. search needs) (λ c κs. search needs) (λ c κs. search needs) (λ c. search needs) (λ c κs. search needs)
     (λ c κs. search needs) (λ c. search needs) (λ c κs. search needs) (λ c κs. search needs) (λ c. search needs) (λ c κs. search needs)
     (λ c κs. search needs) (λ c κs. search needs) (λ c κs. search needs) (λ c κs. search needs) (λ c κs. search needs) (λ c κs. search needs)

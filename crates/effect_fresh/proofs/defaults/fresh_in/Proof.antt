@@ -6,13 +6,13 @@ use Rattle.rules.specs.Tables.{empty}
 use Rattle.rules.specs.Defaults.{fresh}
 use Rattle.effect_fresh.proofs.defaults.fresh_in.Tie as tie
 
-no-creds : tie.Need-put-defaults-requires
+no_creds : tie.Need-put-defaults-requires
 unfolding empty
-no-creds c κs = ap (λ (t : Tables). t.creds) c.before.before.before.empty.ensures
+no_creds c κs = ap (λ (t : Tables). t.creds) c.before.before.before.empty.ensures
 
-no-aces : tie.Need-put-defaults-requires-2
+no_aces_lem : tie.Need-put-defaults-requires-2
 unfolding empty
-no-aces c κs = ap (λ (t : Tables). t.aces) c.before.before.before.before.before.empty.ensures
+no_aces_lem c κs = ap (λ (t : Tables). t.aces) c.before.before.before.before.before.empty.ensures
 
 returns : tie.Need-returns
 unfolding fresh empty nil
@@ -28,6 +28,6 @@ returns c =
       aces.put-defaults2.ensures.1,
     )
 
-pub fresh-in-spec : {M : Type 1} → Rattle.effect_fresh.proofs.defaults.fresh_in.Statement.statement M
-fresh-in-spec = tie.close (tie.spec
-    (λ c κs. search needs) no-creds no-aces (λ c κs. search needs) (λ c. search needs) (λ c. search needs) returns)
+pub fresh_in_spec : {M : Type 1} → Rattle.effect_fresh.proofs.defaults.fresh_in.Statement.statement M
+fresh_in_spec = tie.close (tie.spec
+    (λ c κs. search needs) no_creds no_aces_lem (λ c κs. search needs) (λ c. search needs) (λ c. search needs) returns)

@@ -3,6 +3,6 @@ use borrow.Author.Rules.{rules}
 use Rattle.rules.specs.Bits.{bit}
 use Rattle.fields.proofs.bits.bit_at.Tie as tie
 
-pub bit-at-spec : {M : Type 1} → Rattle.fields.proofs.bits.bit_at.Statement.statement M
+pub bit_at_spec : {M : Type 1} → Rattle.fields.proofs.bits.bit_at.Statement.statement M
 unfolding bit
-bit-at-spec = tie.close (tie.spec (λ c. search rules) (λ c κs. search rules) (λ c. search rules) (λ c. search rules) (λ c. rw c.byte_at.ensures))
+bit_at_spec = tie.close (tie.spec (λ c. search rules) (λ c κs. search rules) (λ c. search rules) (λ c. search rules) (λ c. rw c.byte_at.ensures))

@@ -2,21 +2,21 @@
 use Rattle.rows.proofs.Prelude.{◌≡◌, sym, ap, ap₂, ◌∙◌, List, ℕ, ◌+◌, ◌-◌, ◌*◌, ◌/◌, ◌%◌, ◌^◌, ◌≤◌, ◌<◌, arith, needs}
 use lib.Pow.{pow_pos}
 use Rattle.rules.specs.Bits.{bits}
-use Rattle.rules.proofs.BitLaws.{bits-part, bits_below}
+use Rattle.rules.proofs.BitLaws.{bits_part, bits_below}
 use Rattle.fields.proofs.bits.field.Tie as tie
 
 module _ (r : List ℕ) (start width three size : ℕ) (w : width ≤ 16) (t : three ≡ bits r (8 * (start / 8)) 24) (p : size ≡ 2 ^ width) where
   is : three / 2 ^ (24 - (start % 8 + width)) % size ≡ bits r start width
   is =
       ap₂ (λ (x y : ℕ). x / 2 ^ (24 - (start % 8 + width)) % y) t p
-      ∙ sym (bits-part r (8 * (start / 8)) (start % 8) width 24 (omega arith))
+      ∙ sym (bits_part r (8 * (start / 8)) (start % 8) width 24 (omega arith))
       ∙ ap (λ (s : ℕ). bits r s width) (omega arith)
 
   small : three / 2 ^ (24 - (start % 8 + width)) % size < 65536
   small = rw is (bits_below r start width 16 w)
 
-pub field-spec : {M : Type 1} → Rattle.fields.proofs.bits.field.Statement.statement M
-field-spec = tie.close (tie.spec
+pub field_spec : {M : Type 1} → Rattle.fields.proofs.bits.field.Statement.statement M
+field_spec = tie.close (tie.spec
     (λ c κs. search needs) (λ c. search needs) (λ c. search needs) (λ c κs. search needs) (λ c. search needs) (λ c. search needs)
     (λ c. rw c.power.ensures (pow_pos _))
     (λ c. omega (arith, small _ _ _ _ _ c.before.before.before.requires.1 c.before.three-at.ensures c.power.ensures))

@@ -4,6 +4,6 @@ use Rattle.rules.specs.Bodies.{nil}
 use Rattle.rules.specs.Tables.{empty}
 use Rattle.rules.proofs.Head.empty.Tie as tie
 
-pub empty-spec : {M : Type 1} → Rattle.rules.proofs.Head.empty.Statement.statement M
+pub empty_spec : {M : Type 1} → Rattle.rules.proofs.Head.empty.Statement.statement M
 unfolding empty nil
-empty-spec = tie.close (tie.spec (λ c. refl))
+empty_spec = tie.close (tie.spec (λ c. refl))

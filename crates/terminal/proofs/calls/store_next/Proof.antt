@@ -2,5 +2,5 @@
 use Rattle.rows.proofs.Prelude.{needs}
 use Rattle.terminal.proofs.calls.store_next.Tie as tie
 
-pub store-next-spec : {M : Type 1} → Rattle.terminal.proofs.calls.store_next.Statement.statement M
-store-next-spec = tie.close (tie.spec (λ c κs. search needs) (λ c. c.tillerclover-store-next.ensures))
+pub store_next_spec : {M : Type 1} → Rattle.terminal.proofs.calls.store_next.Statement.statement M
+store_next_spec = tie.close (tie.spec (λ c κs. search needs) (λ c. c.tillerclover-store-next.ensures))

@@ -2,5 +2,5 @@
 use Rattle.rows.proofs.Prelude.{needs}
 use Rattle.terminal.proofs.isolated.isolated.Tie as tie
 
-pub isolated-spec : {M : Type 1} → Rattle.terminal.proofs.isolated.isolated.Statement.statement M
-isolated-spec = tie.close (tie.spec (λ c κs. search needs) (λ c. c.tillerclover-isolated-at.ensures))
+pub isolated_spec : {M : Type 1} → Rattle.terminal.proofs.isolated.isolated.Statement.statement M
+isolated_spec = tie.close (tie.spec (λ c κs. search needs) (λ c. c.tillerclover-isolated-at.ensures))

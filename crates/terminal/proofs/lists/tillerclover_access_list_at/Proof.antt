@@ -9,6 +9,6 @@ returns c =
     let list = call.access-list.ensures in
     lists_at _ _ call.before.before.head_at.ensures _ _ _ _ list.0 list.1.0 list.1.1
 
-pub tillerclover-access-list-at-spec : {M : Type 1} → Rattle.terminal.proofs.lists.tillerclover_access_list_at.Statement.statement M
-tillerclover-access-list-at-spec = tie.close (tie.spec
+pub tillerclover_access_list_at_spec : {M : Type 1} → Rattle.terminal.proofs.lists.tillerclover_access_list_at.Statement.statement M
+tillerclover_access_list_at_spec = tie.close (tie.spec
     (λ c κs. search needs) (λ c κs. search needs) (λ c. search needs) (λ c. search needs) returns)

@@ -7,5 +7,5 @@ returns c =
     let list = c.before.before.before.before.convert.ensures in
     record { says = ap₂ (λ (answer n : ℕ). answer ∷ n ∷ []) list.0 list.1.0; fills = list.1.1 }
 
-pub tillerclover-convert-list-at-spec : {M : Type 1} → Rattle.terminal.proofs.lists.tillerclover_convert_list_at.Statement.statement M
-tillerclover-convert-list-at-spec = tie.close (tie.spec (λ c κs. search needs) (λ c. search needs) (λ c. search needs) returns)
+pub tillerclover_convert_list_at_spec : {M : Type 1} → Rattle.terminal.proofs.lists.tillerclover_convert_list_at.Statement.statement M
+tillerclover_convert_list_at_spec = tie.close (tie.spec (λ c κs. search needs) (λ c. search needs) (λ c. search needs) returns)
