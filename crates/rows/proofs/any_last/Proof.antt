@@ -1,6 +1,6 @@
 -- `rows::any_last`: four parts of 32 bytes, and none after them.
 -- Assumes nothing.
-use Rattle.rows.proofs.Prelude.{◌+◌, and-true, add-sub_cancel_left, arith, now, needs}
+use Rattle.rows.proofs.Prelude.{◌+◌, and-true, add-sub_cancel_left, arith, rules}
 use mathlib.Core.Bool.{and_assoc}
 use Rattle.rows.proofs.Zeros.{zeros_past, zeros_part}
 use Rattle.rows.proofs.any_last.Tie as tie
@@ -8,9 +8,9 @@ use Rattle.rows.proofs.any_last.Tie as tie
 returns : tie.Need-returns
 returns c =
     let s = c.before.before.before.before.before.before in
-    let b = now s.args.bytes in
+    let b = s.args.bytes.now in
     let i = s.args.at in
-    rw (c.any-of-four.ensures, add-sub_cancel_left, add-sub_cancel_left, add-sub_cancel_left, add-sub_cancel_left)
+    rw (c.any_of_four.ensures, add-sub_cancel_left, add-sub_cancel_left, add-sub_cancel_left, add-sub_cancel_left)
     (rw (
       zeros_part 32 i b,
       zeros_part 32 (i + 32) b,
@@ -23,7 +23,7 @@ returns c =
 
 pub any_last_spec : {M : Type 1} → Rattle.rows.proofs.any_last.Statement.statement M
 any_last_spec = tie.close (tie.spec
-    (λ c. search needs) (λ c. search needs) (λ c. search needs) (λ c. search needs)
-    (λ c. search needs) (λ c. search needs) (λ c. search needs) (λ c. search needs) (λ c. search needs) (λ c. search needs)
-    (λ c. search needs) (λ c. search needs) (λ c. search needs) (λ c. search needs) (λ c. search needs) (λ c. search needs)
-    (λ c κs. search needs) returns)
+    (λ c. search rules) (λ c. search rules) (λ c. search rules) (λ c. search rules)
+    (λ c. search rules) (λ c. search rules) (λ c. search rules) (λ c. search rules) (λ c. search rules) (λ c. search rules)
+    (λ c. search rules) (λ c. search rules) (λ c. search rules) (λ c. search rules) (λ c. search rules) (λ c. search rules)
+    (λ c κs. search rules) returns)
