@@ -14,11 +14,11 @@ EDITS = ["docs/MUST-FAIL.md", "docs/MUST-FAIL-RULES.md"]
 
 
 def files_of(cells):
-    """The .antt files that a row names: one that is named alone stands beside the one before it, or in rules_bytes/proofs."""
+    """The .antt files that a row names: one that is named alone stands beside the one before it, or in rules/proofs."""
     folder, paths = None, []
     for name in re.findall(r"[\w/]+\.antt", " ".join(cells)):
         choices = (
-            [f"crates/{name}"] if "/" in name else [f"{f}/{name}" for f in (folder, "crates/rules_bytes/proofs") if f]
+            [f"crates/{name}"] if "/" in name else [f"{f}/{name}" for f in (folder, "crates/rules/proofs") if f]
         )
         path = next((choice for choice in choices if os.path.exists(choice)), None)
         if path is None:
@@ -140,7 +140,7 @@ def check_changelog():
         ("the tables", struct_fields()[1]),
         ("a credential row", number("Tables", "stride Creds")),
         ("an access row", number("Tables", "stride Aces")),
-        ("waiting records", number("Slots", "queueSize")),
+        ("waiting records", number("Slots", "queue_size")),
     ):
         if said.get(row) != f"{long:,}":
             fault(f"CHANGELOG.md: {row}: {said.get(row)}, and today {long:,}")

@@ -47,19 +47,19 @@ def definitions(path):
 SPECS = {
     name: definitions(f"crates/{path}.antt")
     for name, path in {
-        "Sizes": "rules_bytes/specs/Sizes",
-        "Record": "rules_bytes/specs/Record",
-        "Bodies": "rules_bytes/specs/Bodies",
-        "Roles": "rules_bytes/specs/Roles",
-        "Action": "rules_bytes/specs/Action",
-        "States": "rules_bytes/specs/States",
-        "Tables": "rules_bytes/specs/Tables",
+        "Sizes": "rules/specs/Sizes",
+        "Record": "rules/specs/Record",
+        "Bodies": "rules/specs/Bodies",
+        "Roles": "rules/specs/Roles",
+        "Action": "rules/specs/Action",
+        "States": "rules/specs/States",
+        "Tables": "rules/specs/Tables",
         "Old": "rules_legacy/specs/OldList",
         "Slots": "rules_terminal/specs/Slots",
         "Waiting": "rules_terminal/specs/Terminal",
-        "Checks": "rules_bytes/specs/Checks",
-        "Groups": "rules_bytes/specs/Contracts/Groups",
-        "Directory": "rules_bytes/specs/Directory",
+        "Checks": "rules/specs/Checks",
+        "Groups": "rules/specs/Promises/Groups",
+        "Directory": "rules/specs/Directory",
     }.items()
 }
 
@@ -120,8 +120,9 @@ def crates():
     listed = {}
     for line in read("crates.txt").split("\n"):
         if line and not line.startswith("#"):
+            # a name may have words behind it, as `staticlib`
             name, rest = line.split(":")
-            listed[name] = rest.split()
+            listed[name.split()[0]] = rest.split()
     return listed
 
 

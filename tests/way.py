@@ -18,7 +18,7 @@ from sources import crates, read  # noqa: E402
 
 START = ("terminal", "tillerclover_judge_at")
 # what all others read bytes with
-LEFT_OUT = {"rules_bytes", "rows", "fields", "text"}
+LEFT_OUT = {"rules", "rows", "fields", "text"}
 OUT = "docs/record.svg"
 ROW, STEP, LEFT = 26, 22, 12
 
@@ -32,13 +32,30 @@ def bodies_of(text):
         if not head:
             continue
         begin = at - 1
-        while not re.fullmatch(rf"(?:{head.group(1)}|.*[^⌝] )\{{", lines[begin]):
+        while not re.fullmatch(rf"(?:{head.group(1)}|(?! *(?:requires|ensures)\b).* )\{{", lines[begin]):
             begin += 1
         end = begin + 1
         while lines[end] != head.group(1) + "}":
             end += 1
         yield head.group(2), "\n".join(line.split("//")[0] for line in lines[begin + 1 : end])
         at = end
+
+
+def imported(tree):
+    """Each path of a `use` as its parts: `a::{b, c::d}` brings a::b and a::c::d."""
+    head, brace, inner = tree.partition("{")
+    before = [part for part in head.strip().split("::") if part]
+    if not brace:
+        return [before] if before else []
+    paths, depth, entry = [], 0, ""
+    for letter in inner[: inner.rindex("}")] + ",":
+        depth += {"{": 1, "}": -1}.get(letter, 0)
+        if letter == "," and not depth:
+            paths += [before + path for path in imported(entry)]
+            entry = ""
+        else:
+            entry += letter
+    return paths
 
 
 def functions():
@@ -48,8 +65,7 @@ def functions():
         for path in sorted(glob.glob(f"crates/{crate}/src/**/*.rt", recursive=True)):
             text = read(path)
             used = {}
-            for path_used in re.findall(r"(?m)^use ([\w:]+);", text):
-                parts = path_used.split("::")
+            for parts in (path for tree in re.findall(r"(?m)^(?:pub )?use ([^;]+);", text) for path in imported(tree)):
                 used[parts[-1]] = parts[0] if parts[0] in names else crate
             for name, body in bodies_of(text):
                 bodies.append(((crate, name), used, body))
