@@ -170,7 +170,6 @@ def calls_table():
             "| `tillerclover_convert_list` | 23, 24, 25; else 0 |",
             "| `tillerclover_fresh`, `_clear` | none: they make a new terminal |",
             "| `tillerclover_is_sound` | none: false exactly where the others give 1 or 17 |",
-            "| `tillerclover_is_fresh` | none: true exactly of a new terminal |",
         ]
     )
 
