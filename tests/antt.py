@@ -18,9 +18,9 @@ FIELD = re.compile(r"(?<=[\s)])\.[\w′-]+")
 
 
 def path_of(module):
-    """The file of a module of this project; None for the modules of the kit and of std, and for the types that code declares."""
+    """The file of a module of this project; None for the modules of the kit and of std, and for those that Rattle makes of the code."""
     match = re.fullmatch(r"Rattle\.(\w+)\.(specs|proofs)\.([\w.+]+)", module)
-    if not match or match.group(1) not in OWN or match.group(3).startswith("declared."):
+    if not match or match.group(1) not in OWN or match.group(3).startswith(("declared.", "contracts.")):
         return None
     return f"crates/{match.group(1)}/{match.group(2)}/{match.group(3).replace('.', '/')}.antt"
 
