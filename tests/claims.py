@@ -87,10 +87,14 @@ def check_asked_for(named):
 
 
 def check_entry_points(named):
-    """An entry point has no `requires`, and two edits of its crate whose rows name it. Each function for C is one."""
+    """An entry point has no `requires`, and two edits of its crate whose rows name it. Each function for C is one, or has the name, the
+    parameters and the contract of one, to the letter."""
     public = {(crate, name): contract for crate, name, contract in contracts()}
-    for crate, name in sorted(key for key, contract in public.items() if 'extern "C"' in contract and key not in named):
-        fault(f"PROOFS.md: {crate}::{name} is no entry point of the table, and C calls it")
+    for (crate, name), contract in sorted(public.items()):
+        if 'extern "C"' in contract and (crate, name) not in named:
+            same = [public.get(key, "").split() for key in named if key[1] == name]
+            if contract.replace('extern "C" ', "", 1).split() not in same:
+                fault(f"PROOFS.md: {crate}::{name} is no entry point of the table and promises otherwise, and C calls it")
     rows = [row for page in EDITS for row in rows_of(read(page))[1:]]
     for crate, name in named:
         if asks(public.get((crate, name), "requires")):

@@ -126,6 +126,29 @@ def crates():
     return listed
 
 
+def imported(tree):
+    """Each path of a `use` as its parts: `a::{b, c::d}` brings a::b and a::c::d."""
+    head, brace, inner = tree.partition("{")
+    before = [part for part in head.strip().split("::") if part]
+    if not brace:
+        return [before] if before else []
+    paths, depth, entry = [], 0, ""
+    for letter in inner[: inner.rindex("}")] + ",":
+        depth += {"{": 1, "}": -1}.get(letter, 0)
+        if letter == "," and not depth:
+            paths += [before + path for path in imported(entry)]
+            entry = ""
+        else:
+            entry += letter
+    return paths
+
+
+def imports(text, word="use"):
+    """The paths that the `use` items of a source bring; with "pub use" those that it passes on."""
+    pattern = r"^(?:pub )?use ([^;]+);" if word == "use" else rf"^{word} ([^;]+);"
+    return [path for tree in re.findall(pattern, text, re.M) for path in imported(tree)]
+
+
 def functions_of(path):
     files = [path] if path.endswith(".rt") else glob.glob(f"{path}/**/*.rt", recursive=True)
     return {name for file in files if os.path.exists(file) for name in re.findall(r"\bfn (\w+)", read(file))}
@@ -147,9 +170,12 @@ def contracts():
     """(crate, function, contract) of each public function that another crate, or C, can call; the contract with the parameters."""
     for path in sorted(glob.glob("crates/*/src/**/*.rt", recursive=True)):
         crate, module = path.split("/")[1], os.path.basename(path)[:-3]
-        seen = module in ("lib", "main") or re.search(rf"^pub mod {module};", read(f"crates/{crate}/src/lib.rt"), re.M)
+        root = f"crates/{crate}/src/lib.rt"
+        head = read(root) if os.path.exists(root) else ""
+        seen = module in ("lib", "main") or re.search(rf"^pub mod {module};", head, re.M)
+        passed_on = {parts[-1] for parts in imports(head, "pub use") if parts[:-1] in (["crate", module], [module])}
         for c, name, contract in re.findall(r"^ *pub (extern \"C\" )?fn (\w+)(.*?)^ *\{$", read(path), re.M | re.S):
-            if seen or c:
+            if seen or c or name in passed_on:
                 yield crate, name, c + contract
 
 

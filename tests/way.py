@@ -14,9 +14,9 @@ from xml.sax.saxutils import escape
 
 sys.dont_write_bytecode = True
 from draw import STYLE  # noqa: E402
-from sources import crates, read  # noqa: E402
+from sources import Changed, crates, imports, read  # noqa: E402
 
-START = ("terminal", "tillerclover_judge_at")
+START = "tillerclover_judge_at"
 # what all others read bytes with
 LEFT_OUT = {"rules", "rows", "fields", "text"}
 OUT = "docs/record.svg"
@@ -41,23 +41,6 @@ def bodies_of(text):
         at = end
 
 
-def imported(tree):
-    """Each path of a `use` as its parts: `a::{b, c::d}` brings a::b and a::c::d."""
-    head, brace, inner = tree.partition("{")
-    before = [part for part in head.strip().split("::") if part]
-    if not brace:
-        return [before] if before else []
-    paths, depth, entry = [], 0, ""
-    for letter in inner[: inner.rindex("}")] + ",":
-        depth += {"{": 1, "}": -1}.get(letter, 0)
-        if letter == "," and not depth:
-            paths += [before + path for path in imported(entry)]
-            entry = ""
-        else:
-            entry += letter
-    return paths
-
-
 def functions():
     """(crate, function) to the calls in its body, as (crate, function), in their order."""
     names, result, bodies = set(crates()), {}, []
@@ -65,7 +48,7 @@ def functions():
         for path in sorted(glob.glob(f"crates/{crate}/src/**/*.rt", recursive=True)):
             text = read(path)
             used = {}
-            for parts in (path for tree in re.findall(r"(?m)^(?:pub )?use ([^;]+);", text) for path in imported(tree)):
+            for parts in imports(text):
                 used[parts[-1]] = parts[0] if parts[0] in names else crate
             for name, body in bodies_of(text):
                 bodies.append(((crate, name), used, body))
@@ -79,9 +62,23 @@ def functions():
     return result
 
 
+def exporting():
+    """The crate that exports the function to C."""
+    found = [
+        crate
+        for crate in crates()
+        for path in glob.glob(f"crates/{crate}/src/**/*.rt", recursive=True)
+        if re.search(rf'^pub extern "C" fn {START}\b', read(path), re.M)
+    ]
+    if len(found) != 1:
+        raise Changed(f"{START} is exported by {' and '.join(found) or 'no crate'}")
+    return found[0]
+
+
 def way():
     """(depth, crate) in the order in which they are entered."""
-    calls, seen, entered, order = functions(), set(), {START[0]}, [(0, START[0])]
+    first = exporting()
+    calls, seen, entered, order = functions(), set(), {first}, [(0, first)]
 
     def walk(function, depth):
         if function in seen:
@@ -95,7 +92,7 @@ def way():
                 order.append((below, callee[0]))
             walk(callee, below)
 
-    walk(START, 0)
+    walk((first, START), 0)
     return order
 
 
