@@ -17,9 +17,7 @@ def files_of(cells):
     """The .antt files that a row names: one that is named alone stands beside the one before it, or in rules/proofs."""
     folder, paths = None, []
     for name in re.findall(r"[\w/]+\.antt", " ".join(cells)):
-        choices = (
-            [f"crates/{name}"] if "/" in name else [f"{f}/{name}" for f in (folder, "crates/rules/proofs") if f]
-        )
+        choices = [f"crates/{name}"] if "/" in name else [f"{f}/{name}" for f in (folder, "crates/rules/proofs") if f]
         path = next((choice for choice in choices if os.path.exists(choice)), None)
         if path is None:
             fault(f"PROOFS.md: there is no file {choices[0]}")
@@ -94,7 +92,9 @@ def check_entry_points(named):
         if 'extern "C"' in contract and (crate, name) not in named:
             same = [public.get(key, "").split() for key in named if key[1] == name]
             if contract.replace('extern "C" ', "", 1).split() not in same:
-                fault(f"PROOFS.md: {crate}::{name} is no entry point of the table and promises otherwise, and C calls it")
+                fault(
+                    f"PROOFS.md: {crate}::{name} is no entry point of the table and promises otherwise, and C calls it"
+                )
     rows = [row for page in EDITS for row in rows_of(read(page))[1:]]
     for crate, name in named:
         if asks(public.get((crate, name), "requires")):
