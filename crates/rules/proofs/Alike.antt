@@ -264,7 +264,7 @@ module _ (chosen : Sender → Bool) where
           (λ v.
           let y = passed_all t p q v in
           rw (response_to, tables_after, v) (
-            rw (reply_alike q c, (asked q c).gap, links_alike q.clock q.bytes (long_enough q.bytes y.long) c),
+            rw (permission_alike q.bytes c q.clock, reply_alike q c, (asked q c).gap, links_alike q.clock q.bytes (long_enough q.bytes y.long) c),
             effect_alike d q (action q.bytes) c (passed_all s p q (ap verdict (checks_alike q c p) ∙ v)) y,
           ))
           (λ n v. rw (response_to, tables_after, v) (refl, e)))

@@ -1,10 +1,10 @@
 -- `after`: past the end there is nothing, else the part is what `drop` leaves.
-use Rattle.rows.proofs.Prelude.{sym, arith, drop_of_length-le, now, needs}
+use Rattle.rows.proofs.Prelude.{sym, arith, drop_of_length-le, rules}
 use Rattle.rows.proofs.Laws.{take_rest}
 use Rattle.fields.proofs.skip.Tie as tie
 
 pub skip_spec : {M : Type 1} → Rattle.fields.proofs.skip.Statement.statement M
 skip_spec = tie.close (tie.spec
-    (λ c. search needs)
-    (λ c. sym (drop_of_length-le _ {i = c.before.before.args.n} (omega (arith, c.before.if1.true))))
-    (λ c. search needs) (λ c. search needs) (λ c. search needs) (λ c. take_rest c.before.before.args.n (now c.before.before.args.s)))
+    (λ c. search rules)
+    (λ c. sym (drop_of_length-le _ {i = c.before.args.n} (omega (arith, c.if-s-n.true))))
+    (λ c. search rules) (λ c. search rules) (λ c. search rules) (λ c. take_rest c.before.before.args.n (c.before.before.args.s.now)))

@@ -7,16 +7,15 @@ use Rattle.rows.proofs.any_last.Tie as tie
 
 returns : tie.Need-returns
 returns c =
-    let s = c.before.before.before.before.before.before in
-    let b = s.args.bytes.now in
-    let i = s.args.at in
+    let b = c.before.before.before.before.before.before.args.bytes.now in
+    let i = c.before.before.before.before.before.before.args.at in
     rw (c.any_of_four.ensures, add-sub_cancel_left, add-sub_cancel_left, add-sub_cancel_left, add-sub_cancel_left)
     (rw (
       zeros_part 32 i b,
       zeros_part 32 (i + 32) b,
       zeros_part 32 (i + 32 + 32) b,
       zeros_part 32 (i + 32 + 32 + 32) b,
-      zeros_past b (i + 32 + 32 + 32 + 32) (omega (arith, s.requires)),
+      zeros_past b (i + 32 + 32 + 32 + 32) (omega (arith, c.before.before.before.before.before.before.requires)),
       and-true,
       and_assoc,
     ))

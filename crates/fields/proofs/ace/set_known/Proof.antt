@@ -1,5 +1,5 @@
 -- `ace::set_known`: the ranges between and after the known numbers are fields of zeros, and the bytes of such a field are 0 too.
-use Rattle.rows.proofs.Prelude.{◌≡◌, sym, ap, ◌∙◌, Bool, ◌&&◌, List, ℕ, zero, suc, ◌+◌, ◌*◌, ◌%◌, ◌<◌, arith, get_or, eqb, bit_or, needs, ne_eqb}
+use Rattle.rows.proofs.Prelude.{◌≡◌, sym, ap, ◌∙◌, Bool, ◌&&◌, List, ℕ, zero, suc, ◌+◌, ◌*◌, ◌%◌, ◌<◌, arith, get_or, eqb, bit_or, rules, ne_eqb}
 use native.Mathlib.Nat.{zero-add}
 use Rattle.rows.proofs.Zeros.{zero_both}
 use Rattle.rules.specs.Bits.{bits}
@@ -31,20 +31,19 @@ module _ (r : List ℕ) where
 returns : tie.Need-returns
 returns c =
     let p5 = c.before.before.before in
-    let p2 = p5.before.before.before in
     rw (
-      p2.before.byte_at.ensures,
-      p2.byte-at2.ensures,
-      p5.before.before.byte-at3.ensures,
-      p5.before.byte-at4.ensures,
-      p5.byte-at5.ensures,
-      c.before.before.byte-at6.ensures,
-      c.before.byte-at7.ensures,
-      c.byte-at8.ensures,
+      c.before.before.before.before.before.before.before.byte_at.ensures,
+      c.before.before.before.before.before.before.byte_at-2.ensures,
+      c.before.before.before.before.before.byte_at-3.ensures,
+      c.before.before.before.before.byte_at-4.ensures,
+      c.before.before.before.byte_at-5.ensures,
+      c.before.before.byte_at-6.ensures,
+      c.before.byte_at-7.ensures,
+      c.byte_at-8.ensures,
     )
-    (by_bytes _ (search needs) (search needs) (search needs) (search needs) (search needs))
+    (by_bytes _ (search rules) (search rules) (search rules) (search rules) (search rules))
 
 pub set_known_spec : {M : Type 1} → Rattle.fields.proofs.ace.set_known.Statement.statement M
 set_known_spec = tie.close (tie.spec
-    (λ c κs. search needs) (λ c κs. search needs) (λ c κs. search needs) (λ c κs. search needs)
-    (λ c κs. search needs) (λ c κs. search needs) (λ c κs. search needs) (λ c κs. search needs) returns)
+    (λ c κs. search rules) (λ c κs. search rules) (λ c κs. search rules) (λ c κs. search rules)
+    (λ c κs. search rules) (λ c κs. search rules) (λ c κs. search rules) (λ c κs. search rules) returns)

@@ -1,5 +1,5 @@
 -- `bits::field`: a field within three bytes is a quotient and a remainder of their number.
-use Rattle.rows.proofs.Prelude.{◌≡◌, sym, ap, ap₂, ◌∙◌, List, ℕ, ◌+◌, ◌-◌, ◌*◌, ◌/◌, ◌%◌, ◌^◌, ◌≤◌, ◌<◌, arith, needs}
+use Rattle.rows.proofs.Prelude.{◌≡◌, sym, ap, ap₂, ◌∙◌, List, ℕ, ◌+◌, ◌-◌, ◌*◌, ◌/◌, ◌%◌, ◌^◌, ◌≤◌, ◌<◌, arith, rules}
 use lib.Pow.{pow_pos}
 use Rattle.rules.specs.Bits.{bits}
 use Rattle.rules.proofs.BitLaws.{bits_part, bits_below}
@@ -17,7 +17,7 @@ module _ (r : List ℕ) (start width three size : ℕ) (w : width ≤ 16) (t : t
 
 pub field_spec : {M : Type 1} → Rattle.fields.proofs.bits.field.Statement.statement M
 field_spec = tie.close (tie.spec
-    (λ c κs. search needs) (λ c. search needs) (λ c. search needs) (λ c κs. search needs) (λ c. search needs) (λ c. search needs)
-    (λ c. rw c.power.ensures (pow_pos _))
-    (λ c. omega (arith, small _ _ _ _ _ c.before.before.before.requires.1 c.before.three-at.ensures c.power.ensures))
-    (λ c. is _ _ _ _ _ c.before.before.before.requires.1 c.before.three-at.ensures c.power.ensures))
+    (λ c κs. search rules) (λ c. search rules) (λ c. search rules) (λ c κs. search rules) (λ c. search rules) (λ c. search rules)
+    (λ c. rw c.power-size.ensures (pow_pos _))
+    (λ c. omega (arith, small _ _ _ _ _ c.before.before.before.requires.1 c.before.three_at-three.ensures c.power-size.ensures))
+    (λ c. is _ _ _ _ _ c.before.before.before.requires.1 c.before.three_at-three.ensures c.power-size.ensures))

@@ -1,0 +1,8 @@
+-- The empty head, and rows of zeros.
+use Rattle.rules.specs.Bodies.{nil}
+use Rattle.rules.specs.Tables.{empty}
+use Rattle.rules.proofs.Tables.empty.Goals as goal
+
+pub returns : goal.returns
+unfolding empty nil
+returns c = rw c.empty-h.ensures
