@@ -7,7 +7,7 @@ use Rattle.text.proofs.Buffers.{puts_then, written_start}
 use Rattle.rows.specs.Rows.{Row, joined, with_row}
 use Rattle.rows.proofs.Laws.{take_rest, lent_rest}
 use Rattle.rules.specs.Bits.{bit, be16}
-use Rattle.rules.specs.Bodies.{set_known_lem, every_second}
+use Rattle.rules.specs.Bodies.{set_known, every_second}
 use Rattle.rules.proofs.BitLaws.{bits_in_byte}
 use Rattle.rules_legacy.specs.OldList.{old_subject, old_permission, old_zeros, old_set, is_anybody, bad_row}
 use Rattle.rules_legacy.specs.Conversion.{entry, uuid_entry, connection_entry, entries_of, numbered_from}
@@ -26,7 +26,7 @@ zeros_byte : (o : Row) → old_zeros o ≡ get_or o 16 0 % 8
 zeros_byte o = bits_in_byte o 16 5 3 (omega arith) ∙ omega arith
 
 -- the set is 13 bytes later than in an access row
-pub bad_is : (o : Row) (b : ℕ) → b ≡ get_or o 16 0 → (not (eqb (b % 8) 0) || not (set_known_lem (drop 13 o) 64)) ≡ bad_row o
+pub bad_is : (o : Row) (b : ℕ) → b ≡ get_or o 16 0 → (not (eqb (b % 8) 0) || not (set_known (drop 13 o) 64)) ≡ bad_row o
 unfolding bad_row
 bad_is o b e =
     rw (
