@@ -1,5 +1,5 @@
 -- `check_credential`: by the connection, and then by the place.
-use Rattle.rows.proofs.Prelude.{◌≡◌, refl, sym, ◌∙◌, ℕ, arith, needs}
+use Rattle.rows.proofs.Prelude.{◌≡◌, refl, sym, ◌∙◌, ℕ, arith}
 use Rattle.rows.specs.declared.Found.{Found}
 use Rattle.rows.specs.declared.Found.TheVariants.{At, Nothing}
 use Rattle.rules.specs.declared.Sender.{Sender}
@@ -8,7 +8,7 @@ use Rattle.rules.specs.declared.Check.TheVariants.{Pass, Refuse}
 use Rattle.rules.specs.Permission.{connection_of}
 use Rattle.rules.specs.Checks.{refuse_if}
 use Rattle.rules.specs.Promises.Callers.{lacks_row}
-use Rattle.caller.proofs.check_credential.Tie as tie
+use Rattle.caller.proofs.check_credential.Goals as goal
 
 -- over connection 0 nobody needs a row
 clear : (who : Sender) (found : Found) → connection_of who ≡ 0 → Pass ≡ refuse_if 7 (lacks_row who found)
@@ -26,8 +26,11 @@ unfolding refuse_if
 has_one Unauthenticated i = refl
 has_one (Partner n) i = refl
 
-pub check_credential_spec : {M : Type 1} → Rattle.caller.proofs.check_credential.Statement.statement M
-check_credential_spec = tie.close (tie.spec
-    (λ c who e. clear who _ (e ∙ c.if1.true)) (λ c. search needs) (λ c. search needs)
-    (λ c who e. rw c.enum-told2.given.1 (has_none who (λ z. c.before.before.if1.false (sym e ∙ z))))
-    (λ c who e. rw c.enum_told.given.1 (has_one who _)))
+pub returns-then-connection-eq0 : goal.returns-then-connection-eq0
+returns-then-connection-eq0 c = λ who e. clear who _ (e ∙ c.if-connection-eq0.true)
+
+pub returns-in_default : goal.returns-in_default
+returns-in_default c = λ who e. rw c.in_default.is (has_none who (λ z. c.if-connection-eq0.false (sym e ∙ z)))
+
+pub returns : goal.returns
+returns c = λ who e. rw c.in-At.is (has_one who _)
