@@ -401,7 +401,7 @@ credential_valid w g =
 access_is_valid : (w : Row) → Good ace_storable w → valid_access (access_of w) ≡ true
 access_is_valid w g = and_left _ _ (sym (access_exact w g.1) ∙ g.0)
 
-all_valid : {A : Type 0} (read : Row → A) (passes : A → Bool) (Q : Row → Type 0) → ((w : Row) → Q w → passes (read w) ≡ true) → (ws : List Row) → Each Q ws
+pub all_valid : {A : Type 0} (read : Row → A) (passes : A → Bool) (Q : Row → Type 0) → ((w : Row) → Q w → passes (read w) ≡ true) → (ws : List Row) → Each Q ws
     → all passes (map read ws) ≡ true
 unfolding all
 all_valid read passes Q e [] q = refl

@@ -41,7 +41,7 @@ unfolding joined is_bytes
 bytes_joined [] q = refl
 bytes_joined (w ∷ ws) q = bytes_join w (joined ws) q.0 (bytes_joined ws q.1)
 
-bytes_packed : (n : ℕ) (ws : List Row) → Each IsBytes ws → is_bytes (packed n ws) ≡ true
+pub bytes_packed : (n : ℕ) (ws : List Row) → Each IsBytes ws → is_bytes (packed n ws) ≡ true
 unfolding packed
 bytes_packed n ws q = bytes_join (joined ws) (replicate (n - length (joined ws)) 0) (bytes_joined ws q) (zero_bytes (n - length (joined ws)))
 
