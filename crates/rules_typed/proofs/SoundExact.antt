@@ -297,7 +297,7 @@ module _ (T : Tables) (s : sound T ≡ true) where
     owners_long = owners_size T.row_owners four_good;
     creds_long = length-replicate {A = ℕ} 936 0;
     aces_long = length-replicate {A = ℕ} 1152 0;
-    owner_bytes_lem = uuid_good T.owner owner_good;
+    owner_bytes = uuid_good T.owner owner_good;
     owners_bytes = owners_bytes T.row_owners four_good;
     creds_bytes = zero_bytes 936;
     aces_bytes = zero_bytes 1152;
@@ -436,7 +436,7 @@ module _ (t : ByteTables) (g : Given t) where
       let creds-apart =
       distinct_read credential_as (Good cred_sound) same_credential same_credential_lem (rows Creds t) cs ∙ (table_parts Creds t g.is_sound).distinct in
       let aces-apart = distinct_read access_of (Good ace_storable) same_access same_access_lem (rows Aces t) xs ∙ (table_parts Aces t g.is_sound).distinct in
-      let owner = owner_valid t.devowner g.struct.owner_long g.struct.owner_bytes_lem in
+      let owner = owner_valid t.devowner g.struct.owner_long g.struct.owner_bytes in
       let owners =
       and_both _ _ (and_both _ _ (and_both _ _ (and_both _ _ owner (row_owner_good 0 (omega arith))) (row_owner_good 1 (omega arith)))
       (row_owner_good 2 (omega arith))) (row_owner_good 3 (omega arith)) in
