@@ -1,10 +1,10 @@
 -- `isolation_of`: each return is a case of the definition, in its order.
-use Rattle.rows.proofs.Prelude.{◌≡◌, sym, ◌∙◌, true, false, List, ℕ, ◌%◌, length, needs, eq-eqb, ne_eqb, not-false, not-true}
+use Rattle.rows.proofs.Prelude.{◌≡◌, sym, ◌∙◌, true, false, List, ℕ, ◌%◌, length, eq-eqb, ne_eqb}
 use Rattle.rules.specs.declared.Tables.{Tables}
 use Rattle.rules.specs.Tables.{sound}
 use Rattle.rules_isolation.specs.declared.Isolation.TheVariants.{OddLength, Unsound, NoOwner}
 use Rattle.rules_isolation.specs.Question.{entries, odd_length, lacks_owner, entries_answer, isolation_of}
-use Rattle.isolation.proofs.isolation_of.Tie as tie
+use Rattle.isolation.proofs.isolation_of.Goals as goal
 
 module _ (t : Tables) (list : List ℕ) where
   odd : length list % 2 ≡ 1 → OddLength ≡ isolation_of t list
@@ -24,16 +24,18 @@ module _ (t : Tables) (list : List ℕ) where
     unfolding isolation_of odd_length
     by_entries h o = rw (ne_eqb (length list % 2) 1 u, h, o)
 
-pub isolation_of_spec : {M : Type 1} → Rattle.isolation.proofs.isolation_of.Statement.statement M
+pub returns-then-list-eq1 : goal.returns-then-list-eq1
 unfolding lacks_owner
-isolation_of_spec = tie.close (tie.spec
-    (λ c. odd _ _ c.if1.true) (λ c κs. search needs)
-    (λ c. let t = c.before in unsound _ _ t.before.if1.false (sym t.tables_sound.ensures ∙ not-true _ c.if2.true))
-    (λ c. let s = c.before.before in
-    let t = s.before in
-    unowned _ _ t.before.if1.false (sym t.tables_sound.ensures ∙ not-false _ s.if2.false) c.if3.true)
-    (λ c κs. search needs)
-    (λ c. let o = c.before in
-    let s = o.before.before in
-    let t = s.before in
-    c.entries-answer.ensures ∙ by_entries _ _ t.before.if1.false (sym t.tables_sound.ensures ∙ not-false _ s.if2.false) o.if3.false))
+returns-then-list-eq1 c = odd _ _ c.if-list-eq1.true
+
+pub returns-then-not-tables_sound : goal.returns-then-not-tables_sound
+unfolding lacks_owner
+returns-then-not-tables_sound c = unsound _ _ c.if-list-eq1.false (sym c.tables_sound.ensures ∙ c.if-not-tables_sound.true)
+
+pub returns-then-list-h : goal.returns-then-list-h
+unfolding lacks_owner
+returns-then-list-h c = unowned _ _ c.if-list-eq1.false (sym c.tables_sound.ensures ∙ c.if-not-tables_sound.false) c.if-list-h.true
+
+pub returns : goal.returns
+unfolding lacks_owner
+returns c = c.entries_answer.ensures ∙ by_entries _ _ c.if-list-eq1.false (sym c.tables_sound.ensures ∙ c.if-not-tables_sound.false) c.if-list-h.false
