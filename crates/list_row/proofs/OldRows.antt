@@ -1,7 +1,7 @@
 -- An old row's fields as code reads them, and the bytes of the rows made of it.
 use Rattle.rows.proofs.Prelude.{◌≡◌, sym, ap, ◌∙◌, true, false, not, ◌||◌, List, [], ◌∷◌, ◌++◌, append_assoc, append-nil, ℕ, ◌+◌, ◌*◌, ◌/◌, ◌%◌, ◌≤◌, ◌<◌}
 use Rattle.rows.proofs.Prelude.{arith, zero, suc, ◌-◌, length, take, drop, get_or, replicate, length-append, drop_of_length-le, take_all, eqb}
-use mathlib.Core.Bool.{not_not}
+use mathlib.Core.Bool.{not-not}
 use Rattle.text.specs.Buffer.{written, largest, Puts}
 use Rattle.text.proofs.Buffers.{puts_then, written_start}
 use Rattle.rows.specs.Rows.{Row, joined, with_row}
@@ -33,7 +33,7 @@ bad_is o b e =
       e,
       zeros_byte o,
       set_known_lem o (drop 13 o) (λ n h. ap (λ (x : ℕ). eqb x 1) (bit_drop 13 o (32 + n) ∙ ap (bit o) (omega arith))) 64 (omega arith),
-      not_not,
+      not-not,
     )
 
 -- ---- a row made, in the four parts in which it is put
