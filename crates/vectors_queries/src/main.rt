@@ -151,7 +151,9 @@ fn answered(
 // Asks whether the senders after reason, entry and row are isolated.
 fn asked(rt: &impl Print, p: &mut Progress, s: &[u8], tables: &[u8]) {
     let t = tables_of(tables);
-    let found = isolation_of(t.head(), &t.creds, &t.aces, skip(s, 4)).report();
+    let creds = t.creds;
+    let aces = t.aces;
+    let found = isolation_of(t.head(), &creds, &aces, skip(s, 4)).report();
     p.questions = more(p.questions);
     let is_same = (found.reason == byte_at(s, 0))
         & (found.entry == be16(skip(s, 1)) as usize)
