@@ -46,13 +46,8 @@ fn left_over(stored: &Stored, defaults: &Given) -> Option<String> {
         return Some(damage.clone());
     }
     let beside = |terminal: &Terminal| {
-        // The library says whether a byte differs, and the changes only which.
-        let held = Terminal { tables: terminal.tables, waiting: terminal.waiting.clone(), defaults: defaults.clone() };
-        if held.is_fresh() {
-            return None;
-        }
         let changes = changes(&fresh, terminal);
-        let first = changes.first().map_or("other bytes".into(), |change| change.text());
+        let first = changes.first()?.text();
         Some(match changes.len() {
             _ if !terminal.is_sound() => "tables that are not sound".into(),
             1 => first,
