@@ -6,7 +6,7 @@ use Rattle.rules.specs.Bits.{bits}
 use Rattle.rules.specs.Bodies.{set_known}
 use Rattle.rules.proofs.BitLaws.{bits_split, bits_in_byte, bits_byte, bits_word}
 use Rattle.rules.proofs.SetLaws.{set_ranges}
-use Rattle.fields.proofs.ace.set_known.Tie as tie
+use Rattle.fields.proofs.ace.set_known.Goals as goal
 
 -- a number of two bytes is 0 where they are
 zero_pair : (x y : ℕ) → eqb (x * 256 + y) 0 ≡ (eqb x 0 && eqb y 0)
@@ -28,22 +28,16 @@ module _ (r : List ℕ) where
       let fifteen : bits r 49 15 ≡ get_or r 6 0 % 128 * 256 + get_or r 7 0 = bits_split r 49 7 8 ∙ rw (seven, bits_byte r 7 h7) in
       simp zero_both (rw (set_ranges r, three, one, fifteen, zero_pair, word_zero 8 h8 h9, word_zero 10 h10 h11))
 
-returns : tie.Need-returns
+pub returns : goal.returns
 returns c =
-    let p5 = c.before.before.before in
     rw (
-      c.before.before.before.before.before.before.before.byte_at.ensures,
-      c.before.before.before.before.before.before.byte_at-2.ensures,
-      c.before.before.before.before.before.byte_at-3.ensures,
-      c.before.before.before.before.byte_at-4.ensures,
-      c.before.before.before.byte_at-5.ensures,
-      c.before.before.byte_at-6.ensures,
-      c.before.byte_at-7.ensures,
+      c.byte_at.ensures,
+      c.byte_at-2.ensures,
+      c.byte_at-3.ensures,
+      c.byte_at-4.ensures,
+      c.byte_at-5.ensures,
+      c.byte_at-6.ensures,
+      c.byte_at-7.ensures,
       c.byte_at-8.ensures,
     )
     (by_bytes _ (search rules) (search rules) (search rules) (search rules) (search rules))
-
-pub set_known_spec : {M : Type 1} → Rattle.fields.proofs.ace.set_known.Statement.statement M
-set_known_spec = tie.close (tie.spec
-    (λ c κs. search rules) (λ c κs. search rules) (λ c κs. search rules) (λ c κs. search rules)
-    (λ c κs. search rules) (λ c κs. search rules) (λ c κs. search rules) (λ c κs. search rules) returns)
