@@ -5,10 +5,18 @@
 # The C files.
 c_files() { find include bench tests targets examples page -name '*.[ch]' | sort; }
 
+# The files of the crates: `rt fmt` itself lays them out, a crate at a time.
+rattle_files() {
+    local files
+    mapfile -t files < <(find crates/*/{src,specs,proofs} \( -name '*.rt' -o -name '*.antt' \) 2>/dev/null | sort)
+    log "$(kit)/bin/rattle" fmt --check "${files[@]}" || { echo "layout: rt fmt, in the folder of each crate that is named" && return 1; }
+}
+
 test_layout() {
+    . packaging/below.sh
     need_component fmt rustfmt rustfmt && need clang-format clang-format && need shellcheck shellcheck && need black black || return 1
     local files failed=0
-    log rt fmt --check || failed=1
+    rattle_files || failed=1
     log in_model cargo fmt --check || failed=1
     log in_binding cargo fmt --check || failed=1
     log in_answers cargo fmt --check || failed=1
