@@ -15,7 +15,7 @@ def states():
 
 
 def moves():
-    """(state, target, condition) by the definition; the condition is 'true' or 'hasOwner'."""
+    """(state, target, condition) by the definition; the condition is 'true' or 'has_owner'."""
     text = re.sub(
         r"\b(reset|rfotm|rfpro|rfnop|sreset)\b",
         lambda name: right_side("States", name.group()),
@@ -26,21 +26,21 @@ def moves():
         listed += [
             (int(state), int(target), condition) for target, condition in re.findall(r"\((\d+), (\w+)\)", targets)
         ]
-    if not listed or {c for _, _, c in listed} - {"true", "hasOwner"}:
+    if not listed or {c for _, _, c in listed} - {"true", "has_owner"}:
         raise Changed("States.antt: moves has another form")
     return listed
 
 
 # What the table of writes says of the actions that are no plain column, with the definition that it rests on.
 ALLOWED = {
-    "stateAllows state Serve": "eqb state rfnop",
-    "stateAllows state Read": "true",
-    "stateAllows state (SetRowOwner n)": "writeAllowed state rowOwnerWrite",
-    "stateAllows state (SetOwner owned)": "writeAllowed state doxmWrite && (not (eqb state sreset) || eqb owned 1)",
-    "stateAllows state (SetState target)": "writeAllowed state targetWrite",
-    "stateAllows state (Store table)": "writeAllowed state rowWrite",
-    "stateAllows state (Remove table key)": "writeAllowed state rowWrite",
-    "stateAllows state (Assert connection)": "eqb state rfnop && eqb connection 1",
+    "state_allows state Serve": "eqb state rfnop",
+    "state_allows state Read": "true",
+    "state_allows state (SetRowOwner n)": "write_allowed state row_owner_write",
+    "state_allows state (SetOwner owned)": "write_allowed state doxm_write && (not (eqb state sreset) || eqb owned 1)",
+    "state_allows state (SetState target)": "write_allowed state target_write",
+    "state_allows state (Store table)": "write_allowed state row_write",
+    "state_allows state (Remove table key)": "write_allowed state row_write",
+    "state_allows state (Assert connection)": "eqb state rfnop && eqb connection 1",
 }
 
 
@@ -154,7 +154,7 @@ def answers_table(page):
 def calls_table():
     """The answers of each call, in their order. The list of checks is the definition's; 26 and 27 are looked up there too."""
     checks = order()
-    for left, last in (("handInChecks", 26), ("takeChecks", 27)):
+    for left, last in (("hand_in_checks", 26), ("take_checks", 27)):
         if f"({last}, " not in right_side("Waiting", left):
             raise Changed(f"Terminal.antt: {left} has no {last}")
     sender = ranges(checks[: checks.index(7) + 1])
@@ -170,7 +170,6 @@ def calls_table():
             "| `tillerclover_convert_list` | 23, 24, 25; else 0 |",
             "| `tillerclover_fresh`, `_clear` | none: they make a new terminal |",
             "| `tillerclover_is_sound` | none: false exactly where the others give 1 or 17 |",
-            "| `tillerclover_is_fresh` | none: true exactly of a new terminal |",
         ]
     )
 
@@ -220,11 +219,11 @@ def header_rules():
     for state in sorted(set(names) - {0}):
         targets = {
             condition: ", ".join(names[t] for s, t, c in moves() if s == state and c == condition)
-            for condition in ("true", "hasOwner")
+            for condition in ("true", "has_owner")
         }
         lines.append(
             f"{names[state]} to {targets['true']}"
-            + (f"; to {targets['hasOwner']} if owned is 1" if targets["hasOwner"] else "")
+            + (f"; to {targets['has_owner']} if owned is 1" if targets["has_owner"] else "")
         )
     words = ("doxm", "row owners", "rows of cred and acl2", "target")
     for row in rows_of(writes_table())[1:]:

@@ -4,20 +4,23 @@ A word of a statement is found through the `use` lines of its file, and never by
 """
 import re
 
-from sources import read
+from sources import crates, read
+
+# the crates of this repository; `Rattle.std` and others of that form are the kit's
+OWN = set(crates())
 
 # the start of a declaration: indentation, how it unfolds, `pub`, the kind of type, the name, the rest of the line
 DECLARED = re.compile(r"^( *)(unfoldable |abbrev )?(pub )?(?:(record|data) )?([^\s(){}:]+)(?= |$)(.*)$")
 # a word, with the words that follow a dot right after it, as in `alias.name`
 WORD = re.compile(r"[^\s(){};,.:λ→=]+(?:\.[^\s(){};,.:λ→=]+)*")
-# a field that is read, as in `x .tables`, is no name of a definition
+# a field that is read, as in `(f x).tables`, is no name of a definition
 FIELD = re.compile(r"(?<=[\s)])\.[\w′-]+")
 
 
 def path_of(module):
-    """The file of a module of this project; None for the kit's modules and for the types that code declares."""
-    match = re.fullmatch(r"Rattle·(\w+?)(?:·(?:specs|proofs))?\.(specs|proofs)\.([\w.+]+)", module)
-    if not match or match.group(3).startswith("declared."):
+    """The file of a module of this project; None for the modules of the kit and of std, and for those that Rattle makes of the code."""
+    match = re.fullmatch(r"Rattle\.(\w+)\.(specs|proofs)\.([\w.+]+)", module)
+    if not match or match.group(1) not in OWN or match.group(3).startswith(("declared.", "contracts.")):
         return None
     return f"crates/{match.group(1)}/{match.group(2)}/{match.group(3).replace('.', '/')}.antt"
 
@@ -43,9 +46,9 @@ class Uses:
         self.names[here] = (module, there)
         if passed:
             self.passed_on.add(here)
-        # an operator, as `_++_`, is written between its arguments
-        if here.startswith("_") or here.endswith("_"):
-            for part in filter(None, here.split("_")):
+        # an operator, as `◌++◌`, is written between its arguments
+        if here.startswith("◌") or here.endswith("◌"):
+            for part in filter(None, here.split("◌")):
                 self.names.setdefault(part, (module, there))
 
     def find(self, word):

@@ -14,12 +14,10 @@ EDITS = ["docs/MUST-FAIL.md", "docs/MUST-FAIL-RULES.md"]
 
 
 def files_of(cells):
-    """The .antt files that a row names: one that is named alone stands beside the one before it, or in rules_bytes/proofs."""
+    """The .antt files that a row names: one that is named alone stands beside the one before it, or in rules/proofs."""
     folder, paths = None, []
     for name in re.findall(r"[\w/]+\.antt", " ".join(cells)):
-        choices = (
-            [f"crates/{name}"] if "/" in name else [f"{f}/{name}" for f in (folder, "crates/rules_bytes/proofs") if f]
-        )
+        choices = [f"crates/{name}"] if "/" in name else [f"{f}/{name}" for f in (folder, "crates/rules/proofs") if f]
         path = next((choice for choice in choices if os.path.exists(choice)), None)
         if path is None:
             fault(f"PROOFS.md: there is no file {choices[0]}")
@@ -87,10 +85,16 @@ def check_asked_for(named):
 
 
 def check_entry_points(named):
-    """An entry point has no `requires`, and two edits of its crate whose rows name it. Each function for C is one."""
+    """An entry point has no `requires`, and two edits of its crate whose rows name it. Each function for C is one, or has the name, the
+    parameters and the contract of one, to the letter."""
     public = {(crate, name): contract for crate, name, contract in contracts()}
-    for crate, name in sorted(key for key, contract in public.items() if 'extern "C"' in contract and key not in named):
-        fault(f"PROOFS.md: {crate}::{name} is no entry point of the table, and C calls it")
+    for (crate, name), contract in sorted(public.items()):
+        if 'extern "C"' in contract and (crate, name) not in named:
+            same = [public.get(key, "").split() for key in named if key[1] == name]
+            if contract.replace('extern "C" ', "", 1).split() not in same:
+                fault(
+                    f"PROOFS.md: {crate}::{name} is no entry point of the table and promises otherwise, and C calls it"
+                )
     rows = [row for page in EDITS for row in rows_of(read(page))[1:]]
     for crate, name in named:
         if asks(public.get((crate, name), "requires")):
@@ -140,7 +144,7 @@ def check_changelog():
         ("the tables", struct_fields()[1]),
         ("a credential row", number("Tables", "stride Creds")),
         ("an access row", number("Tables", "stride Aces")),
-        ("waiting records", number("Slots", "queueSize")),
+        ("waiting records", number("Slots", "queue_size")),
     ):
         if said.get(row) != f"{long:,}":
             fault(f"CHANGELOG.md: {row}: {said.get(row)}, and today {long:,}")

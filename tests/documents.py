@@ -121,7 +121,7 @@ def check_believed():
     """ARCHITECTURE names the crates whose specs/ a contract cites."""
     cited = set()
     for path in glob.glob("crates/*/src/**/*.rt", recursive=True):
-        cited |= set(re.findall(r"^ghost use Rattle·(\w+?)(?:·specs)?\.specs\.", read(path), re.M))
+        cited |= set(re.findall(r"^ *ghost use Rattle\.(\w+)\.specs\.", read(path), re.M)) & set(crates())
     sentence = re.search(r"^What must be believed is (.*?)\. The theorem", read(HOUSE), re.M)
     if not sentence:
         raise Changed(f"{HOUSE} does not say what must be believed")

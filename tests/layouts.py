@@ -10,17 +10,17 @@ from sources import HEADER, Changed, fault, found, number, read, right_side
 
 
 def header_field(name):
-    """A field of the header that `headerOf` reads."""
-    match = re.search(rf"\b{name} = (?:resourceOf \()?(bits r \d+ \d+)\)?;", right_side("Record", "headerOf"))
+    """A field of the header that `header_of` reads."""
+    match = re.search(rf"\b{name} = (?:resource_of \()?(bits r \d+ \d+)\)?;", right_side("Record", "header_of"))
     if not match:
-        raise Changed(f"Record.antt: headerOf has no field {name}")
+        raise Changed(f"Record.antt: header_of has no field {name}")
     return match.group(1)
 
 
 def span(spec, name, end):
     """First bit and number of bits of a field, by its definition; `end` is where its layout ends."""
     text = header_field(name) if spec == "Record" else right_side(spec, name)
-    text = re.sub(r"\w+Size\b", lambda size: str(number("Sizes", size.group())), text)
+    text = re.sub(r"\w+_size\b", lambda size: str(number("Sizes", size.group())), text)
     for pattern, bits_of in (
         (r"(?:eqb \()?bits \w+ (\d+) (\d+)(?:\) 1)?", lambda a, b: (a, b)),
         (r"eqb \(bit \w+ \((\d+) \+ n\)\) 1", lambda a: (a, 64)),
@@ -37,7 +37,7 @@ def span(spec, name, end):
 def places(spec, name):
     """First bit and number of bits of each row of a table within a row, by its definition."""
     text = right_side(spec, name)
-    match = re.fullmatch(r"rowsOf (\w+) (\w+) \(drop (\w+) \w+\)", text)
+    match = re.fullmatch(r"rows_of (\w+) (\w+) \(drop (\w+) \w+\)", text)
     if not match:
         raise Changed(f"{spec}.antt: {name} is '{text}', which is no table")
     stride, count, start = (number("Sizes", size) for size in match.groups())
@@ -159,61 +159,61 @@ def layouts():
         ],
     )
     doxm = Layout(
-        found("Action", "updateDoxm", r"\((\d+), ifAllowed \(ownerBody"),
-        [("o", "Bodies", "newOwned"), ("device owner UUID", "Bodies", "newOwner")],
-        [("Bodies", "ownerBody")],
+        found("Action", "update_doxm", r"\((\d+), if_allowed \(owner_body"),
+        [("o", "Bodies", "new_owned"), ("device owner UUID", "Bodies", "new_owner")],
+        [("Bodies", "owner_body")],
     )
     pstat = Layout(
-        found("Action", "updatePstat", r"\((\d+), ifAllowed \(stateBody"),
+        found("Action", "update_pstat", r"\((\d+), if_allowed \(state_body"),
         [("target", "Bodies", "target")],
-        [("Bodies", "stateBody")],
+        [("Bodies", "state_body")],
     )
     cred = Layout(
         number("Tables", "stride Creds"),
         [
-            ("number", "Bodies", "rowNumber"),
-            ("subject UUID", "Bodies", "credSubject"),
-            ("role", "Bodies", "credRole"),
-            ("authority", "Bodies", "credAuthority"),
-            ("type", "Bodies", "credType"),
+            ("number", "Bodies", "row_number"),
+            ("subject UUID", "Bodies", "cred_subject"),
+            ("role", "Bodies", "cred_role"),
+            ("authority", "Bodies", "cred_authority"),
+            ("type", "Bodies", "cred_type"),
         ],
-        [("Bodies", "credStorable")],
-        more=[(*place, f"{nth} asserted role") for place, nth in zip(places("Roles", "rolesOf"), ("first", "second"))],
+        [("Bodies", "cred_storable")],
+        more=[(*place, f"{nth} asserted role") for place, nth in zip(places("Roles", "roles_of"), ("first", "second"))],
     )
     asserted = Layout(
-        found("Action", "updateRoles", r"\((\d+), ifAllowed \(not \(noRole"),
+        found("Action", "update_roles", r"\((\d+), if_allowed \(not \(no_role"),
         [
-            ("authority", "Roles", "assertedAuthority"),
-            ("role", "Roles", "assertedRole"),
-            ("last second", "Roles", "assertedLast"),
+            ("authority", "Roles", "asserted_authority"),
+            ("role", "Roles", "asserted_role"),
+            ("last second", "Roles", "asserted_last"),
         ],
     )
     ace = Layout(
         number("Tables", "stride Aces"),
         [
-            ("number", "Bodies", "rowNumber"),
-            ("kind", "Bodies", "aceKind"),
-            ("permission", "Bodies", "acePermission"),
-            ("+", "Bodies", "acePlus"),
-            ("-", "Bodies", "aceMinus"),
-            ("*", "Bodies", "aceStar"),
-            ("set of resources", "Bodies", "inSet"),
-            ("subject", "Bodies", "aceSubject"),
-            ("first second", "Bodies", "aceFirst"),
-            ("last second", "Bodies", "aceLast"),
+            ("number", "Bodies", "row_number"),
+            ("kind", "Bodies", "ace_kind"),
+            ("permission", "Bodies", "ace_permission"),
+            ("+", "Bodies", "ace_plus"),
+            ("-", "Bodies", "ace_minus"),
+            ("*", "Bodies", "ace_star"),
+            ("set of resources", "Bodies", "in_set"),
+            ("subject", "Bodies", "ace_subject"),
+            ("first second", "Bodies", "ace_first"),
+            ("last second", "Bodies", "ace_last"),
         ],
-        [("Bodies", "aceStorable")],
+        [("Bodies", "ace_storable")],
     )
     # the subject's last four bytes, by its kind; the zeros before them are tested as bytes
-    end = sum(span("Bodies", "aceSubject", 0)) // 8
-    role = Layout(end, [("authority", "Bodies", "aceAuthority"), ("role", "Bodies", "aceRole")], start=8 * end - 32)
+    end = sum(span("Bodies", "ace_subject", 0)) // 8
+    role = Layout(end, [("authority", "Bodies", "ace_authority"), ("role", "Bodies", "ace_role")], start=8 * end - 32)
     old = Layout(
-        found("Old", "oldRows", r"rowsOf (\d+)"),
+        found("Old", "old_rows", r"rows_of (\d+)"),
         [
-            ("subject UUID", "Old", "oldSubject"),
-            ("permission", "Old", "oldPermission"),
-            ("zeros", "Old", "oldZeros"),
-            ("set of resources", "Old", "oldSet"),
+            ("subject UUID", "Old", "old_subject"),
+            ("permission", "Old", "old_permission"),
+            ("zeros", "Old", "old_zeros"),
+            ("set of resources", "Old", "old_set"),
         ],
     )
     return {
@@ -240,13 +240,13 @@ def plain_number(text, constants):
 
 
 def struct_fields():
-    source = read("crates/rules_bytes/src/lib.rt")
+    source = read("crates/rules/src/lib.rt")
     constants = {}
     for name, value in re.findall(r"pub const (\w+): (?:usize|u8) = ([^;]+);", source):
         constants[name] = plain_number(value.replace(" as usize", ""), constants)
     block = re.search(r"pub struct Tables \{(.*?)\n\}", source, re.S)
     if not block:
-        raise Changed("crates/rules_bytes/src/lib.rt has no struct Tables")
+        raise Changed("crates/rules/src/lib.rt has no struct Tables")
     fields, at = [], 0
     for name, array, one in re.findall(r"pub (\w+): (?:\[u8; (\w+)\]|(u8)),", block.group(1)):
         long = 1 if one else plain_number(array, constants)
@@ -287,16 +287,16 @@ def tables_table():
 
 def waiting_offsets():
     """Of the memory: round, slots; of a slot: length, record."""
-    rounds = found("Slots", "roundOf", r"getD queue (\d+) 0")
+    rounds = found("Slots", "round_of", r"get_or queue (\d+) 0")
     slots = found("Slots", "waiting", r"drop (\d+) queue")
-    length = found("Slots", "recordOf", r"bits \(drop (\d+) slot\) 0 16")
-    record = found("Slots", "recordOf", r"\(drop (\d+) slot\)$")
+    length = found("Slots", "record_of", r"bits \(drop (\d+) slot\) 0 16")
+    record = found("Slots", "record_of", r"\(drop (\d+) slot\)$")
     return rounds, slots, length, record
 
 
 def waiting_table():
     rounds, slots, length, record = waiting_offsets()
-    long, most, whole = (number("Slots", name) for name in ("slotSize", "queueCapacity", "queueSize"))
+    long, most, whole = (number("Slots", name) for name in ("slot_size", "queue_capacity", "queue_size"))
     if slots + most * long != whole:
         raise Changed("the memory of waiting records is not its head and its slots")
     return "\n".join(
@@ -333,17 +333,17 @@ def check_header(drawn):
         "CRED_LENGTH": number("Tables", "longest Creds"),
         "CRED_ROW_LENGTH": number("Tables", "stride Creds"),
         "CRED_CAPACITY": number("Tables", "capacity Creds"),
-        "CRED_ROLES_AT": places("Roles", "rolesOf")[0][0] // 8,
+        "CRED_ROLES_AT": places("Roles", "roles_of")[0][0] // 8,
         "ROLE_LENGTH": drawn["asserted"].end // 8,
         "ACE_LENGTH": number("Tables", "stride Aces"),
         "ACE_CAPACITY": number("Tables", "capacity Aces"),
-        "ACE_WORD": span("Bodies", "aceKind", 0)[0] // 8,
+        "ACE_WORD": span("Bodies", "ace_kind", 0)[0] // 8,
         "OLD_ROW_LENGTH": drawn["old"].end // 8,
-        "WAITING_LENGTH": number("Slots", "queueSize"),
+        "WAITING_LENGTH": number("Slots", "queue_size"),
         "WAITING_COUNT_AT": 0,
         "WAITING_ROUND_AT": rounds,
         "WAITING_SLOTS_AT": slots,
-        "SLOT_LENGTH": number("Slots", "slotSize"),
+        "SLOT_LENGTH": number("Slots", "slot_size"),
         "SLOT_SENDER_AT": 0,
         "SLOT_LENGTH_AT": length,
         "SLOT_RECORD_AT": record,
@@ -351,26 +351,26 @@ def check_header(drawn):
     # the first byte of a field
     for name, spec, field in (
         ("SENDER", "Record", "credential"),
-        ("DOXM_OWNER", "Bodies", "newOwner"),
-        ("CRED_NUMBER", "Bodies", "rowNumber"),
-        ("CRED_SUBJECT", "Bodies", "credSubject"),
-        ("CRED_ROLE", "Bodies", "credRole"),
-        ("CRED_AUTHORITY", "Bodies", "credAuthority"),
-        ("CRED_TYPE", "Bodies", "credType"),
-        ("ASSERTED_AUTHORITY", "Roles", "assertedAuthority"),
-        ("ASSERTED_ROLE", "Roles", "assertedRole"),
-        ("ASSERTED_LAST", "Roles", "assertedLast"),
-        ("ACE_NUMBER", "Bodies", "rowNumber"),
-        ("ACE_SET", "Bodies", "inSet"),
-        ("ACE_SUBJECT", "Bodies", "aceSubject"),
-        ("ACE_AUTHORITY", "Bodies", "aceAuthority"),
-        ("ACE_ROLE", "Bodies", "aceRole"),
-        ("ACE_CONNECTION", "Bodies", "aceConnection"),
-        ("ACE_FIRST", "Bodies", "aceFirst"),
-        ("ACE_LAST", "Bodies", "aceLast"),
-        ("OLD_SUBJECT", "Old", "oldSubject"),
-        ("OLD_PERMISSION", "Old", "oldPermission"),
-        ("OLD_SET", "Old", "oldSet"),
+        ("DOXM_OWNER", "Bodies", "new_owner"),
+        ("CRED_NUMBER", "Bodies", "row_number"),
+        ("CRED_SUBJECT", "Bodies", "cred_subject"),
+        ("CRED_ROLE", "Bodies", "cred_role"),
+        ("CRED_AUTHORITY", "Bodies", "cred_authority"),
+        ("CRED_TYPE", "Bodies", "cred_type"),
+        ("ASSERTED_AUTHORITY", "Roles", "asserted_authority"),
+        ("ASSERTED_ROLE", "Roles", "asserted_role"),
+        ("ASSERTED_LAST", "Roles", "asserted_last"),
+        ("ACE_NUMBER", "Bodies", "row_number"),
+        ("ACE_SET", "Bodies", "in_set"),
+        ("ACE_SUBJECT", "Bodies", "ace_subject"),
+        ("ACE_AUTHORITY", "Bodies", "ace_authority"),
+        ("ACE_ROLE", "Bodies", "ace_role"),
+        ("ACE_CONNECTION", "Bodies", "ace_connection"),
+        ("ACE_FIRST", "Bodies", "ace_first"),
+        ("ACE_LAST", "Bodies", "ace_last"),
+        ("OLD_SUBJECT", "Old", "old_subject"),
+        ("OLD_PERMISSION", "Old", "old_permission"),
+        ("OLD_SET", "Old", "old_set"),
     ):
         expected[name + "_AT"] = span(spec, field, 0)[0] // 8
     # how far a field is from the end of its byte or word
@@ -378,18 +378,18 @@ def check_header(drawn):
         ("VERB", "Record", "verb", 16),
         ("CONNECTION", "Record", "connection", 16),
         ("RESOURCE", "Record", "resource", 16),
-        ("DOXM_OWNED", "Bodies", "newOwned", 8),
+        ("DOXM_OWNED", "Bodies", "new_owned", 8),
         ("PSTAT_TARGET", "Bodies", "target", 8),
-        ("CRED_TYPE", "Bodies", "credType", 8),
-        ("ACE_KIND", "Bodies", "aceKind", 16),
-        ("ACE_PERMISSION", "Bodies", "acePermission", 16),
-        ("ACE_WILDCARDS", "Bodies", "aceStar", 16),
-        ("OLD_PERMISSION", "Old", "oldPermission", 8),
+        ("CRED_TYPE", "Bodies", "cred_type", 8),
+        ("ACE_KIND", "Bodies", "ace_kind", 16),
+        ("ACE_PERMISSION", "Bodies", "ace_permission", 16),
+        ("ACE_WILDCARDS", "Bodies", "ace_star", 16),
+        ("OLD_PERMISSION", "Old", "old_permission", 8),
     ):
         first, width = span(spec, field, 0)
         expected[name + "_SHIFT"] = -(first + width) % unit
-    for name, field in (("PLUS", "acePlus"), ("MINUS", "aceMinus"), ("STAR", "aceStar")):
-        expected["WILDCARD_" + name] = 1 << (span("Bodies", "aceStar", 0)[0] - span("Bodies", field, 0)[0])
+    for name, field in (("PLUS", "ace_plus"), ("MINUS", "ace_minus"), ("STAR", "ace_star")):
+        expected["WILDCARD_" + name] = 1 << (span("Bodies", "ace_star", 0)[0] - span("Bodies", field, 0)[0])
     for name in sorted(n for n in has if re.search(r"_(AT|SHIFT|WORD)$", n) and n not in expected):
         fault(f"{HEADER}: TILLERCLOVER_{name} is compared with no definition")
     for name, value in expected.items():
@@ -402,7 +402,7 @@ def check_yards():
     header, definitions = read("include/tillerclover_yards.h"), read("crates/rules_interface/specs/Isolated.antt")
     versions = [
         int(re.search(rf"^{name} = (\d+)$", definitions, re.M).group(1))
-        for name in ("formatVersion", "interfaceVersion")
+        for name in ("format_version", "interface_version")
     ]
     said = re.search(r"#define TILLERCLOVER_IDENTITY UINT64_C\((\d+)\)", header)
     if not said or int(said.group(1)) != 1000000 * versions[0] + versions[1]:
@@ -416,6 +416,6 @@ def check_yards():
         ("ISOLATION_NAMES_OWNER", "NamesOwner"),
         ("ISOLATION_MAY_ALTER", "MayAlter"),
     ):
-        number_of = re.search(rf"^reportOf \(?{variant}\b.*reason = (\d+);", reports, re.M)
+        number_of = re.search(rf"^report_of \(?{variant}\b.*reason = (\d+);", reports, re.M)
         if not number_of or f"TILLERCLOVER_{name} = {number_of.group(1)}" not in header:
-            fault(f"tillerclover_yards.h: TILLERCLOVER_{name} is not the number that reportOf gives {variant}")
+            fault(f"tillerclover_yards.h: TILLERCLOVER_{name} is not the number that report_of gives {variant}")

@@ -25,7 +25,7 @@ def states_picture():
     listed = [(names[a], names[b], condition) for a, b, condition in moves()] + [("RESET", fresh, "at once")]
     both = {(a, b) for a, b, _ in listed}
     for a, b, condition in listed:
-        words = {"hasOwner": "if owned is 1", "at once": "at once, fresh tables", "true": ""}[condition]
+        words = {"has_owner": "if owned is 1", "at once": "at once, fresh tables", "true": ""}[condition]
         drawing.arrow(
             a, b, words, aside=9 if (b, a) in both else 0, shift=(62, 16) if condition == "at once" else (0, -9)
         )
@@ -40,12 +40,12 @@ def states_picture():
 # The crate that makes a group of checks, the definition of the group, and the one number of a group without a definition.
 GROUPS = (
     ("check_waiting", None, 1),
-    ("check_header", "headerChecks", None),
+    ("check_header", "header_checks", None),
     ("caller", None, 7),
-    ("check_request", "requestChecks", None),
-    ("check_state", "stateChecks", None),
-    ("check_rows", "rowChecks", None),
-    ("reply", "capacityChecks", None),
+    ("check_request", "request_checks", None),
+    ("check_state", "state_checks", None),
+    ("check_rows", "row_checks", None),
+    ("reply", "capacity_checks", None),
 )
 
 

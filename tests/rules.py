@@ -37,7 +37,7 @@ OPENING = f"""# The rules as one reads them
 
 Made by `tests/documents.py --write` from the definitions in crates/{RULES}/specs, crates/{QUEUE}/specs and crates/{FILES}/specs, with the comments above them, for readers who do not have the toolchain. A line 'sentences' above a definition names those of the papers that it answers, by section and number, as docs/trace.txt has them: `permission.5` is the fifth sentence of 01's 'Permission', `U8.7` the seventh of that request.
 
-How to read a definition: `f : A → B` says that f makes a B of an A, and the lines below it say which, a line for each case. `Maybe A` is a value or `none`; `cond b x y` is x if b holds, else y; `eqb`, `leb` and `ltb` compare numbers (equal, at most, less); `any`, `all`, `find`, `put` and `without` are in the last section. `same` compares bytes, and `x ∷ xs` is a list that begins with x.
+How to read a definition: `f : A → B` says that f makes a B of an A, and the lines below it say which, a line for each case. `Maybe A` is a value or `none`; `x.f` is the field f of x; `cond b x y` is x if b holds, else y; `eqb`, `leb` and `ltb` compare numbers (equal, at most, less); `any`, `all`, `find`, `put` and `without` are in the last section. `same` compares bytes, and `x ∷ xs` is a list that begins with x.
 
 Words that are defined below these pages:
 
@@ -45,14 +45,14 @@ Words that are defined below these pages:
 - `be16 n` is the two bytes of a number of 16 bits, the higher byte first.
 - `lookup n entries x` is what the first entry with the number n has beside it, or x if there is none.
 - `joined rows` is the bytes of the rows, one row after the other; `packed n rows` is the same, with zeros up to n bytes.
-- `rowsOf s n b` is the first n rows, of s bytes each, of the bytes b; `rows table t` is the rows in use of one of the tables t.
-- `allZero b` holds if each byte is 0.
-- `ones n` counts the bits of n that are 1; `bitOr m n` has the bits that m or n has.
-- `setOf p ns` is a number of 64 bits, with a bit for each n of ns for which p holds; the top bit is resource 0.
-- `rolesOf w` is the two role places of a credential row, in use or not; `noRole w` holds if a place is not in use.
-- `waiting b` is the slots in use of a queue of bytes, and `recordOf slot` the record that one keeps. `roundOf b` is the round: `anew`, or `afterSeat` with the two bytes of a place.
+- `rows_of s n b` is the first n rows, of s bytes each, of the bytes b; `rows table t` is the rows in use of one of the tables t.
+- `all_zero b` holds if each byte is 0.
+- `ones n` counts the bits of n that are 1; `bit_or m n` has the bits that m or n has.
+- `set_of p ns` is a number of 64 bits, with a bit for each n of ns for which p holds; the top bit is resource 0.
+- `roles_of w` is the two role places of a credential row, in use or not; `no_role w` holds if a place is not in use.
+- `waiting b` is the slots in use of a queue of bytes, and `record_of slot` the record that one keeps. `round_of b` is the round: `anew`, or `after_seat` with the two bytes of a place.
 
-What is proved of them, for every record and tables of any content: the outcome over bytes is this outcome, written (`outcome-written`, {RULES}/proofs/Whole.antt). Of the code: what `judge` and `take` promise is this outcome, written (`judge-typed`, `take-typed`, rules_demands/proofs/OneCall.antt); of C calls `c-typed-rules` and, for demand 3, `c-typed-isolation` (rules_demands/proofs/Calls.antt). Waiting records: in a terminal of any content a hand-in, a take and a record judged at once give what these rules give, written, with the queue that is left (`steps-written`, {QUEUE}/proofs/Steps.antt; of C calls `c-typed-queue`). The test of a list of bytes is that of its typed rows (`list-tested`, {FILES}/proofs/ListRead.antt), and the fields of the rows that an old list becomes, of at most 32, are those of its typed rows (`rows-converted`, {FILES}/proofs/ConversionRead.antt). Bytes are read as tables, and as a terminal, exactly where they are the written form of sound ones (`sound-exact`, {RULES}/proofs/SoundExact.antt; `terminal-exact`, {QUEUE}/proofs/QueueExact.antt), so that of 'Values as bytes' and 'Bytes as values' the first is enough, except for a record's header and the build's default lists: these are in the second.
+What is proved of them, for every record and tables of any content: the outcome over bytes is this outcome, written (`outcome_written`, {RULES}/proofs/Whole.antt). Of the code: what `judge` and `take` promise is this outcome, written (`judge_typed`, `take_typed`, rules_demands/proofs/OneCall.antt); of C calls `c_typed_rules` and, for demand 3, `c_typed_isolation` (rules_demands/proofs/Calls.antt). Waiting records: in a terminal of any content a hand-in, a take and a record judged at once give what these rules give, written, with the queue that is left (`steps_written`, {QUEUE}/proofs/Steps.antt). The test of a list of bytes is that of its typed rows (`list_tested_lem`, {FILES}/proofs/ListRead.antt), and the fields of the rows that an old list becomes, of at most 32, are those of its typed rows (`rows_converted`, {FILES}/proofs/ConversionRead.antt). Bytes are read as tables, and as a terminal, exactly where they are the written form of sound ones (`sound_exact`, {RULES}/proofs/SoundExact.antt; `terminal_exact`, {QUEUE}/proofs/QueueExact.antt), so that of 'Values as bytes' and 'Bytes as values' the first is enough, except for a record's header and the build's default lists: these are in the second.
 
 Not on this page: the office's list (U6) is in crates/rules_office/specs, what the older terminals' lists gave and checks 23 to 25 (U12) in rules_legacy, access rows in any order (U14) in rules_order, what the book of demand 3 is fed (U13) in rules_runs and rules_demands, the 25 takes in rules_runs, and the text of a run in report.
 """

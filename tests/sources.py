@@ -47,19 +47,19 @@ def definitions(path):
 SPECS = {
     name: definitions(f"crates/{path}.antt")
     for name, path in {
-        "Sizes": "rules_bytes/specs/Sizes",
-        "Record": "rules_bytes/specs/Record",
-        "Bodies": "rules_bytes/specs/Bodies",
-        "Roles": "rules_bytes/specs/Roles",
-        "Action": "rules_bytes/specs/Action",
-        "States": "rules_bytes/specs/States",
-        "Tables": "rules_bytes/specs/Tables",
+        "Sizes": "rules/specs/Sizes",
+        "Record": "rules/specs/Record",
+        "Bodies": "rules/specs/Bodies",
+        "Roles": "rules/specs/Roles",
+        "Action": "rules/specs/Action",
+        "States": "rules/specs/States",
+        "Tables": "rules/specs/Tables",
         "Old": "rules_legacy/specs/OldList",
         "Slots": "rules_terminal/specs/Slots",
         "Waiting": "rules_terminal/specs/Terminal",
-        "Checks": "rules_bytes/specs/Checks",
-        "Groups": "rules_bytes/specs/Contracts/Groups",
-        "Directory": "rules_bytes/specs/Directory",
+        "Checks": "rules/specs/Checks",
+        "Groups": "rules/specs/Promises/Groups",
+        "Directory": "rules/specs/Directory",
     }.items()
 }
 
@@ -120,9 +120,33 @@ def crates():
     listed = {}
     for line in read("crates.txt").split("\n"):
         if line and not line.startswith("#"):
+            # a name may have words behind it, as `staticlib`
             name, rest = line.split(":")
-            listed[name] = rest.split()
+            listed[name.split()[0]] = rest.split()
     return listed
+
+
+def imported(tree):
+    """Each path of a `use` as its parts: `a::{b, c::d}` brings a::b and a::c::d."""
+    head, brace, inner = tree.partition("{")
+    before = [part for part in head.strip().split("::") if part]
+    if not brace:
+        return [before] if before else []
+    paths, depth, entry = [], 0, ""
+    for letter in inner[: inner.rindex("}")] + ",":
+        depth += {"{": 1, "}": -1}.get(letter, 0)
+        if letter == "," and not depth:
+            paths += [before + path for path in imported(entry)]
+            entry = ""
+        else:
+            entry += letter
+    return paths
+
+
+def imports(text, word="use"):
+    """The paths that the `use` items of a source bring; with "pub use" those that it passes on."""
+    pattern = r"^(?:pub )?use ([^;]+);" if word == "use" else rf"^{word} ([^;]+);"
+    return [path for tree in re.findall(pattern, text, re.M) for path in imported(tree)]
 
 
 def functions_of(path):
@@ -146,9 +170,12 @@ def contracts():
     """(crate, function, contract) of each public function that another crate, or C, can call; the contract with the parameters."""
     for path in sorted(glob.glob("crates/*/src/**/*.rt", recursive=True)):
         crate, module = path.split("/")[1], os.path.basename(path)[:-3]
-        seen = module in ("lib", "main") or re.search(rf"^pub mod {module};", read(f"crates/{crate}/src/lib.rt"), re.M)
+        root = f"crates/{crate}/src/lib.rt"
+        head = read(root) if os.path.exists(root) else ""
+        seen = module in ("lib", "main") or re.search(rf"^pub mod {module};", head, re.M)
+        passed_on = {parts[-1] for parts in imports(head, "pub use") if parts[:-1] in (["crate", module], [module])}
         for c, name, contract in re.findall(r"^ *pub (extern \"C\" )?fn (\w+)(.*?)^ *\{$", read(path), re.M | re.S):
-            if seen or c:
+            if seen or c or name in passed_on:
                 yield crate, name, c + contract
 
 

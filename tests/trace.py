@@ -25,7 +25,7 @@ PARTS = ["definition", "code", "theorem", "edit", "test"]
 # programs: no contract can say what is read or written
 NO_CONTRACT = {"run::main", "vectors::walk"}
 # the rules as one reads them: a name that is there and elsewhere means the one there
-RULES = "rules"
+RULES = "rules_typed"
 # a name that an .antt file exports
 EXPORTED = r"^ *(?:(?:unfoldable|abbrev) )?pub (?:record |data )?(\S+)(?= |$)"
 

@@ -14,11 +14,11 @@ from xml.sax.saxutils import escape
 
 sys.dont_write_bytecode = True
 from draw import STYLE  # noqa: E402
-from sources import crates, read  # noqa: E402
+from sources import Changed, crates, imports, read  # noqa: E402
 
-START = ("terminal", "tillerclover_judge_at")
+START = "tillerclover_judge_at"
 # what all others read bytes with
-LEFT_OUT = {"rules_bytes", "rows", "fields", "text"}
+LEFT_OUT = {"rules", "rows", "fields", "text"}
 OUT = "docs/record.svg"
 ROW, STEP, LEFT = 26, 22, 12
 
@@ -32,7 +32,7 @@ def bodies_of(text):
         if not head:
             continue
         begin = at - 1
-        while not re.fullmatch(rf"(?:{head.group(1)}|.*[^⌝] )\{{", lines[begin]):
+        while not re.fullmatch(rf"(?:{head.group(1)}|(?! *(?:requires|ensures)\b).* )\{{", lines[begin]):
             begin += 1
         end = begin + 1
         while lines[end] != head.group(1) + "}":
@@ -48,8 +48,7 @@ def functions():
         for path in sorted(glob.glob(f"crates/{crate}/src/**/*.rt", recursive=True)):
             text = read(path)
             used = {}
-            for path_used in re.findall(r"(?m)^use ([\w:]+);", text):
-                parts = path_used.split("::")
+            for parts in imports(text):
                 used[parts[-1]] = parts[0] if parts[0] in names else crate
             for name, body in bodies_of(text):
                 bodies.append(((crate, name), used, body))
@@ -63,9 +62,23 @@ def functions():
     return result
 
 
+def exporting():
+    """The crate that exports the function to C."""
+    found = [
+        crate
+        for crate in crates()
+        for path in glob.glob(f"crates/{crate}/src/**/*.rt", recursive=True)
+        if re.search(rf'^pub extern "C" fn {START}\b', read(path), re.M)
+    ]
+    if len(found) != 1:
+        raise Changed(f"{START} is exported by {' and '.join(found) or 'no crate'}")
+    return found[0]
+
+
 def way():
     """(depth, crate) in the order in which they are entered."""
-    calls, seen, entered, order = functions(), set(), {START[0]}, [(0, START[0])]
+    first = exporting()
+    calls, seen, entered, order = functions(), set(), {first}, [(0, first)]
 
     def walk(function, depth):
         if function in seen:
@@ -79,7 +92,7 @@ def way():
                 order.append((below, callee[0]))
             walk(callee, below)
 
-    walk(START, 0)
+    walk((first, START), 0)
     return order
 
 

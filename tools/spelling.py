@@ -6,7 +6,7 @@ usage: tools/spelling.py [--rest]    at the top of the repository, once, after /
 A name in camel case or with dashes becomes one in snake case. Where a lemma would fall together with a definition, it gets `_lem`.
 The folders and files specs/Contracts are called specs/Promises, since Rattle makes a module `specs.contracts`.
 Functions of src/, exported names, strings, inputs and outputs keep their names.
-With --rest only the table is printed.
+With --rest the table of what is left is printed, and nothing is changed.
 """
 
 import collections
@@ -124,13 +124,13 @@ def rename_contracts():
 
 
 def main():
+    if "--rest" in sys.argv:
+        for old, new in sorted(table().items()):
+            print(old, new, sep="\t")
+        return 0
     rename_contracts()
     give_way()
     rows = table()
-    if "--rest" in sys.argv:
-        for old, new in sorted(rows.items()):
-            print(old, new, sep="\t")
-        return 0
     with tempfile.NamedTemporaryFile("w", suffix=".tsv", delete=False) as f:
         f.writelines(f"{old}\t{new}\n" for old, new in sorted(rows.items()))
     r = subprocess.run([sys.executable, SNAKE, "--table", f.name, "--only", "antt,rt", ROOT])

@@ -10,7 +10,7 @@ use Rattle.rows.proofs.Laws.{length_rows_of, drop_replicate, take_rest, rows_of_
 use Rattle.rows.proofs.Kept.{AllLong, long_rows_of, length_joined, rows_of_packed}
 use Rattle.rules.specs.declared.Table.{Table}
 use Rattle.rules.specs.declared.Table.TheVariants.{Creds, Aces}
-use Rattle.rules.specs.Tables.{stride, longest, capacity, row_from_lem, table_size}
+use Rattle.rules.specs.Tables.{stride, longest, capacity, row_from, table_size}
 use Rattle.rules.specs.Defaults.{listed, good_list, default_rows}
 use Rattle.rules.proofs.BodyLaws.{two_fit}
 
@@ -28,7 +28,7 @@ good_few k b h = leb-true (length b / longest k) 2 (search and_left)
 pub behind : Table → List ℕ
 behind k = replicate (stride k - longest k) 0
 
-pub row_from_lem : (k : Table) (b : List ℕ) → row_from_lem k b ≡ b ++ behind k
+pub row_from_lem : (k : Table) (b : List ℕ) → row_from k b ≡ b ++ behind k
 unfolding behind
 row_from_lem Creds b = refl
 row_from_lem Aces b = sym (append-nil b)
@@ -39,7 +39,7 @@ unfolding behind
 zeros_part Creds = refl
 zeros_part Aces = refl
 
-from_long : (k : Table) (b : List ℕ) → length b ≡ longest k → length (row_from_lem k b) ≡ stride k
+from_long : (k : Table) (b : List ℕ) → length b ≡ longest k → length (row_from k b) ≡ stride k
 from_long Creds b l = rw (length-append, l)
 from_long Aces b l = l
 
@@ -47,10 +47,10 @@ from_long Aces b l = l
 
 -- each from s bytes
 abbrev pub rows_from : Table → ℕ → ℕ → List ℕ → List ℕ
-rows_from k s n b = joined (map (row_from_lem k) (rows_of s n b))
+rows_from k s n b = joined (map (row_from k) (rows_of s n b))
 
 -- the first, and those after it
-pub from_take : (k : Table) (s n : ℕ) (b : List ℕ) → 0 < n → rows_from k s n b ≡ row_from_lem k (take s b) ++ rows_from k s (n - 1) (take (length b - s) (drop s b))
+pub from_take : (k : Table) (s n : ℕ) (b : List ℕ) → 0 < n → rows_from k s n b ≡ row_from k (take s b) ++ rows_from k s (n - 1) (take (length b - s) (drop s b))
 unfolding joined
 from_take k s n b h = rw (rows_of_suc s n b h, take_rest)
 
@@ -60,7 +60,7 @@ from_end k s n b h = let e : n ≡ 0 = omega arith in ap (λ (m : ℕ). rows_fro
 
 -- ---- the rows of a list over a table of zeros
 
-all_long : (k : Table) (ws : List Row) → AllLong (longest k) ws → AllLong (stride k) (map (row_from_lem k) ws)
+all_long : (k : Table) (ws : List Row) → AllLong (longest k) ws → AllLong (stride k) (map (row_from k) ws)
 all_long k [] a = tt
 all_long k (w ∷ ws) a = (from_long k w a.0, all_long k ws a.1)
 
@@ -68,7 +68,7 @@ listed_long : (k : Table) (b : List ℕ) → AllLong (stride k) (listed k b)
 listed_long k b = all_long k (rows_of (longest k) (length b / longest k) b) (long_rows_of (longest k) (length b / longest k) b (rows_within k (length b)))
 
 pub listed_count : (k : Table) (b : List ℕ) → length (listed k b) ≡ length b / longest k
-listed_count k b = length-map (rows_of (longest k) (length b / longest k) b) (row_from_lem k) ∙ length_rows_of (longest k) (length b / longest k) b
+listed_count k b = length-map (rows_of (longest k) (length b / longest k) b) (row_from k) ∙ length_rows_of (longest k) (length b / longest k) b
 
 module _ (k : Table) (b x : List ℕ) (few : length b / longest k ≤ 2) (over : x ≡ written (replicate (table_size k) 0) 0 (joined (listed k b))) where
   pub listed_fits : length b / longest k * stride k ≤ table_size k

@@ -1,13 +1,13 @@
 -- An old row's fields as code reads them, and the bytes of the rows made of it.
 use Rattle.rows.proofs.Prelude.{◌≡◌, sym, ap, ◌∙◌, true, false, not, ◌||◌, List, [], ◌∷◌, ◌++◌, append_assoc, append-nil, ℕ, ◌+◌, ◌*◌, ◌/◌, ◌%◌, ◌≤◌, ◌<◌}
 use Rattle.rows.proofs.Prelude.{arith, zero, suc, ◌-◌, length, take, drop, get_or, replicate, length-append, drop_of_length-le, take_all, eqb}
-use mathlib.Core.Bool.{not_not}
+use mathlib.Core.Bool.{not-not}
 use Rattle.text.specs.Buffer.{written, largest, Puts}
 use Rattle.text.proofs.Buffers.{puts_then, written_start}
 use Rattle.rows.specs.Rows.{Row, joined, with_row}
 use Rattle.rows.proofs.Laws.{take_rest, lent_rest}
 use Rattle.rules.specs.Bits.{bit, be16}
-use Rattle.rules.specs.Bodies.{set_known_lem, every_second}
+use Rattle.rules.specs.Bodies.{set_known, every_second}
 use Rattle.rules.proofs.BitLaws.{bits_in_byte}
 use Rattle.rules_legacy.specs.OldList.{old_subject, old_permission, old_zeros, old_set, is_anybody, bad_row}
 use Rattle.rules_legacy.specs.Conversion.{entry, uuid_entry, connection_entry, entries_of, numbered_from}
@@ -26,14 +26,14 @@ zeros_byte : (o : Row) → old_zeros o ≡ get_or o 16 0 % 8
 zeros_byte o = bits_in_byte o 16 5 3 (omega arith) ∙ omega arith
 
 -- the set is 13 bytes later than in an access row
-pub bad_is : (o : Row) (b : ℕ) → b ≡ get_or o 16 0 → (not (eqb (b % 8) 0) || not (set_known_lem (drop 13 o) 64)) ≡ bad_row o
+pub bad_is : (o : Row) (b : ℕ) → b ≡ get_or o 16 0 → (not (eqb (b % 8) 0) || not (set_known (drop 13 o) 64)) ≡ bad_row o
 unfolding bad_row
 bad_is o b e =
     rw (
       e,
       zeros_byte o,
       set_known_lem o (drop 13 o) (λ n h. ap (λ (x : ℕ). eqb x 1) (bit_drop 13 o (32 + n) ∙ ap (bit o) (omega arith))) 64 (omega arith),
-      not_not,
+      not-not,
     )
 
 -- ---- a row made, in the four parts in which it is put

@@ -3,7 +3,7 @@
 #![tactic(auto)]
 
 ghost use Rattle.std.specs.Prelude.{◌≡◌, ◌++◌, ◌+◌, ◌≤◌, ◌<◌, length, get_or};
-ghost use Rattle.rows.specs.Words.{was, became};
+ghost use Rattle.rows.specs.Words.{was};
 ghost use Rattle.text.specs.Buffer.{Puts};
 ghost use Rattle.rows.specs.Rows.{joined};
 ghost use Rattle.rules.specs.Bits.{be16};
@@ -93,7 +93,7 @@ fn row_made(number: u16, kind: u8, subject: &[u8], row: &[u8]) -> [u8; ACE_ROW]
 // That row in the buffer, which holds it, in one copy.
 fn put_row(out: &mut [u8], at: usize, number: u16, kind: u8, subject: &[u8], row: &[u8]) -> usize
     requires { (kind < 4) × (length subject.now ≡ 16) × (length row.now ≡ 25) × (at + ace_row_size ≤ length out.old) }
-    ensures { Puts (was out) at (be16 number ++ entry kind (was subject) (was row)) (became out) result }
+    ensures { Puts out.old at (be16 number ++ entry kind (was subject) (was row)) out.new result }
 {
     let made = row_made(number, kind, subject, row);
     rows_change::put_row(&mut out[at..], ACE_ROW, 0, &made);
@@ -103,7 +103,7 @@ fn put_row(out: &mut [u8], at: usize, number: u16, kind: u8, subject: &[u8], row
 // An access row for a connection.
 fn put_connection(out: &mut [u8], at: usize, number: u16, connection: u8, row: &[u8]) -> usize
     requires { (length row.now ≡ 25) × (at + ace_row_size ≤ length out.old) }
-    ensures { Puts (was out) at (be16 number ++ connection_entry connection (was row)) (became out) result }
+    ensures { Puts out.old at (be16 number ++ connection_entry connection (was row)) out.new result }
 {
     let mut subject = [0u8; SUBJECT_BYTES];
     subject[15] = connection;
@@ -116,7 +116,7 @@ pub fn put_made(out: &mut [u8], at: usize, number: u16, row: &[u8]) -> usize
     requires { (number < 65535)
         × (length row.now ≡ 25)
         × (at + length (joined (numbered_from number (entries_of row.now))) ≤ length out.old) }
-    ensures { Puts (was out) at (joined (numbered_from number (entries_of (was row)))) (became out) result }
+    ensures { Puts out.old at (joined (numbered_from number (entries_of (was row)))) out.new result }
 {
     if is_anybody(row) {
         let p = put_connection(out, at, number, 1, row);

@@ -3,7 +3,7 @@
 #![tactic(auto)]
 
 ghost use Rattle.std.specs.Prelude.{◌≡◌, ◌++◌, ◌+◌, ◌*◌, ◌≤◌, length, drop, replicate};
-ghost use Rattle.rows.specs.Words.{was, became};
+ghost use Rattle.rows.specs.Words.{was};
 ghost use Rattle.rows.specs.Rows.{rows_of, packed, stored, without, with_row, has_key};
 ghost use Rattle.rows.specs.Promises.{without_row, IsTable};
 
@@ -12,7 +12,7 @@ use rows::{Found, find, row_has};
 // Puts `row` over the first bytes of `bytes`.
 fn copy_over(bytes: &mut [u8], row: &[u8])
     requires { length row.now ≤ length bytes.old }
-    ensures { became bytes ≡ was row ++ drop (length (was row)) (was bytes) }
+    ensures { bytes.new ≡ was row ++ drop (length (was row)) bytes.old }
 {
     let mut i = 0;
     while i < row.len() {
@@ -24,7 +24,7 @@ fn copy_over(bytes: &mut [u8], row: &[u8])
 // Sets each byte to 0: of a table, removes all rows.
 // Rules out: the last byte left; only the first row cleared.
 pub fn clear(bytes: &mut [u8])
-    ensures { became bytes ≡ replicate (length (was bytes)) 0 }
+    ensures { bytes.new ≡ replicate (length bytes.old) 0 }
 {
     let mut i = 0;
     while i < bytes.len() {
@@ -36,7 +36,7 @@ pub fn clear(bytes: &mut [u8])
 // Takes the first `n` bytes out: the others move down, and `n` zeros are at the end.
 fn shift_down(bytes: &mut [u8], n: usize)
     requires { n ≤ length bytes.old }
-    ensures { became bytes ≡ drop n (was bytes) ++ replicate n 0 }
+    ensures { bytes.new ≡ drop n bytes.old ++ replicate n 0 }
 {
     let kept = bytes.len() - n;
     let mut i = 0;
@@ -51,7 +51,7 @@ fn shift_down(bytes: &mut [u8], n: usize)
 // Rules out: a byte of the next row written; a row put at the next index.
 pub fn put_row(rows: &mut [u8], stride: usize, i: usize, row: &[u8])
     requires { (length row.now ≡ stride) × (i * stride + stride ≤ length rows.old) }
-    ensures { became rows ≡ with_row stride i (was row) (was rows) }
+    ensures { rows.new ≡ with_row stride i (was row) rows.old }
 {
     let at = i * stride;
     copy_over(&mut rows[at..], row);
@@ -61,7 +61,7 @@ pub fn put_row(rows: &mut [u8], stride: usize, i: usize, row: &[u8])
 // Rules out: the last row moved into the gap; a byte left after the rows.
 pub fn remove_row(rows: &mut [u8], stride: usize, i: usize)
     requires { i * stride + stride ≤ length rows.old }
-    ensures { became rows ≡ without_row stride i (was rows) }
+    ensures { rows.new ≡ without_row stride i rows.old }
 {
     let at = i * stride;
     shift_down(&mut rows[at..], stride);
@@ -72,8 +72,8 @@ pub fn remove_row(rows: &mut [u8], stride: usize, i: usize)
 pub fn store(rows: &mut [u8], stride: usize, count: usize, row: &[u8]) -> usize
     requires table { IsTable stride count rows.old }
     requires row_len { (length row.now ≡ stride) × (length (stored row.now (rows_of stride count rows.old)) * stride ≤ length rows.old) }
-    ensures value { result ≡ length (stored (was row) (rows_of stride count (was rows))) }
-    ensures rows_value { became rows ≡ packed (length (was rows)) (stored (was row) (rows_of stride count (was rows))) }
+    ensures value { result ≡ length (stored (was row) (rows_of stride count rows.old)) }
+    ensures rows_value { rows.new ≡ packed (length rows.old) (stored (was row) (rows_of stride count rows.old)) }
 {
     let found = find(rows, stride, count, 0, &row[..2]);
     match found {
@@ -92,9 +92,9 @@ pub fn store(rows: &mut [u8], stride: usize, count: usize, row: &[u8]) -> usize
 // Rules out: only the first match; the last row moved into the gap.
 pub fn remove(rows: &mut [u8], stride: usize, count: usize, at: usize, key: &[u8]) -> usize
     requires { IsTable stride count rows.old }
-    ensures value { result ≡ length (without (has_key at (was key)) (rows_of stride count (was rows))) }
-    ensures rows_value { became rows
-        ≡ packed (length (was rows)) (without (has_key at (was key)) (rows_of stride count (was rows))) }
+    ensures value { result ≡ length (without (has_key at (was key)) (rows_of stride count rows.old)) }
+    ensures rows_value { rows.new
+        ≡ packed (length rows.old) (without (has_key at (was key)) (rows_of stride count rows.old)) }
 {
     let mut n = count;
     let mut i = 0;

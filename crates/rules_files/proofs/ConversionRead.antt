@@ -8,7 +8,7 @@ use Rattle.rules.specs.Bodies.{is_nil, every_second}
 use Rattle.rules_typed.specs.Types.{Access, Subject, IsUuid, IsConnection, AnonClear, AuthCrypt, Resource, Security, Application, Doxm, Pstat, Cred, Acl2, Roles}
 use Rattle.rules_typed.specs.Types.{Weight, Tare, Zero, Ticket, Lamp, Calib, Display, Yard}
 use Rattle.rules_typed.specs.Directory.{number_of}
-use Rattle.rules_typed.specs.Reading.{owner_of, connection_as, subject_of, access_of_lem}
+use Rattle.rules_typed.specs.Reading.{owner_of, connection_as, subject_of, access_of}
 use Rattle.rules_typed.proofs.PermissionRead.{zeros_nil, nil_zeros}
 use Rattle.rules_legacy.specs.OldList.{old_subject, old_rows, is_anybody}
 use Rattle.rules_legacy.specs.Conversion.{entry, uuid_entry, connection_subject, connection_entry, entries_of, all_entries, rows_made, too_many_rows, numbered_from as numberedBytes}
@@ -34,7 +34,7 @@ resource_small (Application Yard) = omega arith
 
 -- an entry, with any number, is read as this access row
 abbrev Entry : List ℕ → (ℕ → Access) → Type 0
-Entry e a = (i : ℕ) → i < 65536 → access_of_lem (be16 i ++ e) ≡ a i
+Entry e a = (i : ℕ) → i < 65536 → access_of (be16 i ++ e) ≡ a i
 
 entry_read : (kind : ℕ) (subject : List ℕ) (o : Row) (s : Subject) → kind < 4 → length o ≡ 25 → length subject ≡ 16
     → ((i : ℕ) → subject_of (be16 i ++ entry kind subject o) ≡ s) → Entry (entry kind subject o) (access_for (old_row o) s)
@@ -110,7 +110,7 @@ all_entries_lem [] l = tt
 all_entries_lem (o ∷ os) l = append_entries (entries_of o) (all_entries os) _ _ (row_entries o l.0) (all_entries_lem os l.1)
 
 numbered_read : (i : ℕ) (es : List (List ℕ)) (xs : List (ℕ → Access)) → Entries es xs → i + length es ≤ 65536
-    → map access_of_lem (numberedBytes i es) ≡ numbered_from i xs
+    → map access_of (numberedBytes i es) ≡ numbered_from i xs
 unfolding numberedBytes numbered_from
 numbered_read i [] [] p l = refl
 numbered_read i [] (a ∷ xs) p l = absurd p
@@ -119,7 +119,7 @@ numbered_read i (e ∷ es) (a ∷ xs) p l =
     ap₂ (λ (x : Access) (ys : List Access). x ∷ ys) (p.0 i (omega arith)) (numbered_read (i + 1) es xs p.1 (omega arith))
 
 -- of a file that becomes at most 32 rows
-pub rows_converted : (file : List ℕ) → too_many_rows file ≡ false → map access_of_lem (rows_made file) ≡ converted (map old_row (old_rows file))
+pub rows_converted : (file : List ℕ) → too_many_rows file ≡ false → map access_of (rows_made file) ≡ converted (map old_row (old_rows file))
 unfolding rows_made converted old_rows too_many_rows
 rows_converted file few =
     let os = rows_of 25 (length file / 25) file in

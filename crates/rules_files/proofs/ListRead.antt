@@ -9,7 +9,7 @@ use Rattle.rules_typed.specs.Lists.{when, any}
 use Rattle.rules.specs.declared.Check.{Check}
 use Rattle.rules_typed.specs.Types.{Access, Verdict, Permitted, Refused}
 use Rattle.rules_typed.specs.Tables.{is_bytes, same_access}
-use Rattle.rules_typed.specs.Reading.{subject_of, access_of_lem, read_access}
+use Rattle.rules_typed.specs.Reading.{subject_of, access_of, read_access}
 use Rattle.rules_typed.specs.Checks.{verdict}
 use Rattle.rules_typed.proofs.ListLaws.{Each, any_read}
 use Rattle.rules_typed.proofs.ByteLaws.{Good, bytes_take, bytes_drop}
@@ -22,9 +22,9 @@ use Rattle.rules_lists.specs.declared.Tested.{Tested}
 use Rattle.rules_lists.specs.Lists.{bad_size, unfit, excessive, row_checks as rowChecksBytes, named_or, rows_tested, list_tested}
 use Rattle.rules_files.specs.ListTest.{bad_length, is_shared, row_checks, tested, or_rest, test_rows, test_list}
 
-read_row : (w : Row) → is_bytes w ≡ true → read_access w ≡ when (ace_storable w) (access_of_lem w)
+read_row : (w : Row) → is_bytes w ≡ true → read_access w ≡ when (ace_storable w) (access_of w)
 unfolding read_access
-read_row w h = ap (λ (b : Bool). when b (access_of_lem w)) (sym (access_exact w h))
+read_row w h = ap (λ (b : Bool). when b (access_of w)) (sym (access_exact w h))
 
 shared_read : (w : Row) → ace_storable w ≡ true → is_shared (subject_of w) ≡ (eqb (ace_kind w) 1 || eqb (ace_kind w) 2)
 unfolding subject_of subject_storable
@@ -44,8 +44,8 @@ abbrev AllBytes : List Row → Type 0
 AllBytes ws = Each (λ w. is_bytes w ≡ true) ws
 
 repeated_read : (ws : List Row) → Each (Good ace_storable) ws → (w : Row) → Good ace_storable w
-    → any (same_access (access_of_lem w)) (map access_of_lem ws) ≡ some (numbered_as w) ws
-repeated_read ws q w g = any_read access_of_lem (Good ace_storable) (numbered_as w) (same_access (access_of_lem w)) (λ v k. same_access_lem w v g k) ws q
+    → any (same_access (access_of w)) (map access_of ws) ≡ some (numbered_as w) ws
+repeated_read ws q w g = any_read access_of (Good ace_storable) (numbered_as w) (same_access (access_of w)) (λ v k. same_access_lem w v g k) ws q
 
 by_verdict : (v : Verdict) (n : ℕ) (rest : Tested) → named_or (check_of v) n rest ≡ or_rest v n rest
 by_verdict Permitted n rest = refl
@@ -55,7 +55,7 @@ named_read : (cs : List (ℕ × Bool)) (n : ℕ) (rest : Tested) → named_or (v
 named_read cs n rest = ap (λ (c : Check). named_or c n rest) (verdict_read cs) ∙ by_verdict (verdict cs) n rest
 
 checks_read : (earlier : List Row) → Each (Good ace_storable) earlier → (w : Row) → Good ace_storable w
-    → rowChecksBytes earlier w ≡ row_checks (map access_of_lem earlier) (access_of_lem w)
+    → rowChecksBytes earlier w ≡ row_checks (map access_of earlier) (access_of w)
 unfolding unfit excessive
 checks_read earlier q w g =
     ap₂ (λ (a b : Bool). (20, a) ∷ (21, b) ∷ [])
@@ -66,20 +66,20 @@ unfit_read : (earlier : List Row) (w : Row) (n : ℕ) (rest : Tested) → ace_st
 unfolding verdictBytes unfit
 unfit_read earlier w n rest e = rw e
 
-rows_read : (earlier ws : List Row) → Each (Good ace_storable) earlier → AllBytes ws → rows_tested earlier ws ≡ test_rows (map access_of_lem earlier) (map read_access ws)
+rows_read : (earlier ws : List Row) → Each (Good ace_storable) earlier → AllBytes ws → rows_tested earlier ws ≡ test_rows (map access_of earlier) (map read_access ws)
 unfolding rows_tested test_rows when
 rows_read earlier [] q h = refl
 rows_read earlier (w ∷ ws) q h =
     bool_cases (ace_storable w)
     (λ e. let g : Good ace_storable w = (e, h.0) in
     let more = rows_read (earlier ++ w ∷ []) ws (each_end earlier w q g) h.1
-    ∙ ap (λ (xs : List Access). test_rows xs (map read_access ws)) (map-append access_of_lem earlier (w ∷ [])) in
+    ∙ ap (λ (xs : List Access). test_rows xs (map read_access ws)) (map-append access_of earlier (w ∷ [])) in
     rw (read_row w h.0, e)
     (ap₂ (λ (cs : List (ℕ × Bool)) (rest : Tested). named_or (verdictBytes cs) (suc (length earlier)) rest) (checks_read earlier q w g) more
-    ∙ named_read (row_checks (map access_of_lem earlier) (access_of_lem w)) (suc (length earlier)) _
-    ∙ ap (λ (n : ℕ). or_rest (verdict (row_checks (map access_of_lem earlier) (access_of_lem w))) (suc n)
-    (test_rows (map access_of_lem earlier ++ access_of_lem w ∷ []) (map read_access ws))) (sym (length-map earlier access_of_lem))))
-    (λ e. rw (read_row w h.0, e) (unfit_read earlier w (suc (length earlier)) _ e ∙ ap (λ (n : ℕ). tested 20 (suc n)) (sym (length-map earlier access_of_lem))))
+    ∙ named_read (row_checks (map access_of earlier) (access_of w)) (suc (length earlier)) _
+    ∙ ap (λ (n : ℕ). or_rest (verdict (row_checks (map access_of earlier) (access_of w))) (suc n)
+    (test_rows (map access_of earlier ++ access_of w ∷ []) (map read_access ws))) (sym (length-map earlier access_of))))
+    (λ e. rw (read_row w h.0, e) (unfit_read earlier w (suc (length earlier)) _ e ∙ ap (λ (n : ℕ). tested 20 (suc n)) (sym (length-map earlier access_of))))
 
 first_read : (b : Bool) (rest : Tested) → named_or (refuse_if 19 b) 0 rest ≡ or_rest (verdict ((19, b) ∷ [])) 0 rest
 unfolding verdict refuse_if

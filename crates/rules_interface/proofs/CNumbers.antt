@@ -1,6 +1,6 @@
 -- Theorems: what the numbers that C is told say: of isolation, of a step of a store, of soundness; and that a new terminal is a cleared one.
 -- The theorems of yards, of stores and of days speak of answers; these tie the numbers to them.
-use Rattle.rows.proofs.Prelude.{◌≡◌, refl, sym, ap, ◌∙◌, true, false, cond, List, ℕ, arith, get_or}
+use Rattle.rows.proofs.Prelude.{◌≡◌, refl, sym, ◌∙◌, true, List, ℕ, arith, get_or}
 use Rattle.rows.proofs.Bools.{bool_cases}
 use Rattle.rules.specs.Defaults.{Defaults}
 use Rattle.rules_terminal.specs.Terminal.{sound_terminal, fresh_terminal, cleared_terminal}

@@ -1,10 +1,10 @@
 -- Theorem: the same start and the same inputs give the same answers and the same bytes. So a journal of what C was asked can be replayed:
 -- whoever asks the library again, from the same memory, gets what the journal has, call by call.
-use Rattle.rows.proofs.Prelude.{◌≡◌, refl, sym, ap, subst, ◌∙◌, List, [], ◌∷◌, ℕ, length, take, drop, get_or, first_part as take_at as first_part}
+use Rattle.rows.proofs.Prelude.{◌≡◌, refl, sym, ap, subst, ◌∙◌, List, [], ◌∷◌, ℕ, length, take, drop, get_or, take_at as first_part}
 use Rattle.rules.specs.Defaults.{Defaults}
 use Rattle.rules.specs.Reading.{filled}
 use Rattle.rules_terminal.specs.Terminal.{Transition, taken, judged}
-use Rattle.rules_terminal.specs.Inputs.{Input, hand_in, take_at as first_part, direct}
+use Rattle.rules_terminal.specs.Inputs.{Input, hand_in, take_at, direct}
 use Rattle.rules_power.specs.Kept.{Act, input, clear}
 use Rattle.rules_terminal.specs.Slots.{empty_queue}
 use Rattle.rules_interface.specs.Memory.{Memory, terminal_at, memory_of, with_queue}
@@ -35,7 +35,7 @@ module _ (d : Defaults) (m : Memory) (c e : CCall) where
     p.0.says ∙ sym q.0.says,
     p.1 ∙ ap (with_queue m) (p.0.keeps ∙ sym q.0.keeps) ∙ sym q.1,
   )
-  same_input (first_part clock capacity) p q = (
+  same_input (take_at clock capacity) p q = (
     same_reply (taken d (terminal_at m) clock capacity) c e p.0.says q.0.says p.0.keeps q.0.keeps p.0.fills q.0.fills,
     p.0.sized ∙ sym q.0.sized,
     p.0.hands ∙ sym q.0.hands,
@@ -45,7 +45,7 @@ module _ (d : Defaults) (m : Memory) (c e : CCall) where
 
   same_memory : (i : Input) → SameInput i c e → c.memory ≡ e.memory
   same_memory (hand_in r) s = s.1
-  same_memory (first_part clock capacity) s = s.0.1
+  same_memory (take_at clock capacity) s = s.0.1
   same_memory (direct q) s = s.1
 
   same_call : (act : Act) → PromisedBy d m act c → PromisedBy d m act e → SameCall act c e × (c.memory ≡ e.memory)

@@ -1,6 +1,6 @@
 -- The caller's memory: the bytes of the tables as five arrays, in their order, and those of the queue.
 -- Any bytes are read as a terminal; a terminal is written as bytes.
-use Rattle.std.specs.Prelude.{ℕ, ◌≡◌, List, [], ◌∷◌, length, get_or}
+use Rattle.std.specs.Prelude.{ℕ, List, [], ◌∷◌, get_or}
 use Rattle.rules.specs.declared.Tables.{Tables}
 use Rattle.rules.specs.declared.Head.{Head}
 use Rattle.rules.specs.Tables.{tables_of, head_of}

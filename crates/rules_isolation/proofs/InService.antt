@@ -226,9 +226,9 @@ module _ (d : Defaults) (list : List ℕ) (x : Terminal) (is : List Input) (aske
   -- one haulier, changes nothing for the others, the rest of the list among them. The book is fed what was handed in
   pub in_service : Again (chosen_by list) (λ t. isolation_of t list ≡ Isolated) (records_in x) is (answers_to d x is)
       → handed.Isolated d part x is (answers_to d x is) (final (next d) x is)
-  in_service a = part_alone (again_handed d (chosen_by list) _ x is a)
+  in_service a = part_alone (again_handed d (chosen_by list) (λ t. isolation_of t list ≡ Isolated) x is a)
 
   -- or nobody else endangers it, and the question is asked once
   pub in_quiet_service : others_endanger (chosen_by list) (turns_handed x is (answers_to d x is)) ≡ false
       → handed.Isolated d part x is (answers_to d x is) (final (next d) x is)
-  in_quiet_service n = part_alone (never_handed d (chosen_by list) _ x is n)
+  in_quiet_service n = part_alone (never_handed d (chosen_by list) (λ t. isolation_of t list ≡ Isolated) x is n)

@@ -91,12 +91,12 @@ module _ (d : Defaults) (yards : List (List ℕ)) (x : Terminal) (is : List Inpu
   -- any number of yards: each has its run as if those who are only of the others sent nothing
   pub each_yard : (yard : List ℕ) → Again (of_yards yards) (AllIsolated yards) (records_in x) is (answers_to d x is)
       → YardAlone d yards yard x is (answers_to d x is) (final (next d) x is)
-  each_yard yard a = yard_alone yard (again_handed d (of_yards yards) _ x is a)
+  each_yard yard a = yard_alone yard (again_handed d (of_yards yards) (AllIsolated yards) x is a)
 
   -- where nobody outside the yards endangers them, the question is asked once
   pub each_yard_quiet : (yard : List ℕ) → others_endanger (of_yards yards) (turns_handed x is (answers_to d x is)) ≡ false
       → YardAlone d yards yard x is (answers_to d x is) (final (next d) x is)
-  each_yard_quiet yard n = yard_alone yard (never_handed d (of_yards yards) _ x is n)
+  each_yard_quiet yard n = yard_alone yard (never_handed d (of_yards yards) (AllIsolated yards) x is n)
 
 -- two yards with nobody in both
 module _ (d : Defaults) (a b : List ℕ) (x : Terminal) (is : List Input) (disjoint : Disjoint a b) (asked : AllIsolated (a ∷ b ∷ []) x.tables) where
@@ -110,8 +110,8 @@ module _ (d : Defaults) (a b : List ℕ) (x : Terminal) (is : List Input) (disjo
 
   pub two_yards : Again (of_yards (a ∷ b ∷ [])) (AllIsolated (a ∷ b ∷ [])) (records_in x) is (answers_to d x is)
       → BothAlone d a b x is (answers_to d x is) (final (next d) x is)
-  two_yards again = both_alone (again_handed d (of_yards (a ∷ b ∷ [])) _ x is again)
+  two_yards again = both_alone (again_handed d (of_yards (a ∷ b ∷ [])) (AllIsolated (a ∷ b ∷ [])) x is again)
 
   pub two_yards_quiet : others_endanger (of_yards (a ∷ b ∷ [])) (turns_handed x is (answers_to d x is)) ≡ false
       → BothAlone d a b x is (answers_to d x is) (final (next d) x is)
-  two_yards_quiet n = both_alone (never_handed d (of_yards (a ∷ b ∷ [])) _ x is n)
+  two_yards_quiet n = both_alone (never_handed d (of_yards (a ∷ b ∷ [])) (AllIsolated (a ∷ b ∷ [])) x is n)

@@ -7,7 +7,7 @@ ghost use Rattle.rules_isolation.specs.Question.{report_of};
 
 // Whether the senders of a list are isolated, or the first reason why they may not be.
 // Entries of the list and access rows are counted from 1.
-#[derive(Drop)]
+#[derive(Clone, Copy)]
 pub enum Isolation {
     Isolated,
     // the list has an odd number of bytes
@@ -24,7 +24,7 @@ pub enum Isolation {
 
 // The same as numbers, for C: the reason, 0 for none, and the entry and the access row, 0 where the reason names none.
 #[repr(C)]
-#[derive(Drop)]
+#[derive(Clone, Copy)]
 pub struct IsolationReport {
     pub reason: u8,
     pub entry: usize,

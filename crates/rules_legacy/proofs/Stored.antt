@@ -8,7 +8,7 @@ use Rattle.rows.proofs.Restore.{restored}
 use Rattle.rules.specs.declared.Table.TheVariants.{Aces}
 use Rattle.rules.specs.Bits.{bit, bits, be16}
 use Rattle.rules.specs.Directory.{known, some_below}
-use Rattle.rules.specs.Bodies.{row_number, in_set, set_known_lem, every_second, subject_storable, ace_storable}
+use Rattle.rules.specs.Bodies.{row_number, in_set, set_known, every_second, subject_storable, ace_storable}
 use Rattle.rules.specs.Tables.{capacity, SoundRows, each_long}
 use Rattle.rules_legacy.specs.OldList.{old_zeros, in_old_set, is_anybody, old_rows, bad_row, bad_file}
 use Rattle.rules_legacy.specs.Conversion.{uuid_entry, connection_subject, connection_entry, entries_of, all_entries, numbered_from, rows_made, too_many_rows}
@@ -42,8 +42,8 @@ all_long i (o ∷ os) a =
 
 -- a row whose set is the old one
 pub set_known_lem : (o a : Row) → ((n : ℕ) → n < 64 → in_set a n ≡ in_old_set o n)
-    → (n : ℕ) → n ≤ 64 → set_known_lem a n ≡ not (some_below n (λ m. in_old_set o m && not (known m)))
-unfolding set_known_lem
+    → (n : ℕ) → n ≤ 64 → set_known a n ≡ not (some_below n (λ m. in_old_set o m && not (known m)))
+unfolding set_known
 set_known_lem o a s zero h = refl
 set_known_lem o a s (suc n) h =
     rw (s n (omega arith), set_known_lem o a s n (omega arith))

@@ -22,7 +22,7 @@ use Rattle.rules_terminal.specs.CallRun.{Call, Built, handed_back, all_shown}
 use Rattle.rules_runs.specs.Events.{gathered}
 use Rattle.rules_runs.specs.Isolation.{all_responses}
 use Rattle.rules_runs.specs.Waits.{record_kept}
-use Rattle.rules_runs.specs.OneByOne.{one_by_one_lem, AllPass}
+use Rattle.rules_runs.specs.OneByOne.{one_by_one, AllPass}
 use Rattle.rules_runs.proofs.Calls.{built_one_by_one}
 use Rattle.rules_lists.specs.Lists.{listed, list_tested}
 use Rattle.rules_lists.specs.Loading.{storing, Stores, Ready}
@@ -55,14 +55,14 @@ all_pass d t u h same (w ∷ ws) (q ∷ qs) l e =
       all_pass d t (tables_after d u q) h (creds_stay d u q w (ap action o.stores ∙ storing_action o.number w l.0) ∙ same) ws qs l.1 e.1,
     )
 
-pub turns_loaded : (d : Defaults) (x : Terminal) (b : List ℕ) (qs : List Request) (cs : List Call) → Built d x (one_by_one_lem qs) cs
+pub turns_loaded : (d : Defaults) (x : Terminal) (b : List ℕ) (qs : List Request) (cs : List Call) → Built d x (one_by_one qs) cs
     → (list_tested b).answer ≡ 0 → sound_terminal x ≡ true → records_in x ≡ [] → Ready x.tables → Stores x.tables qs (listed b)
-    → (gathered record_kept (one_by_one_lem qs) (all_shown (one_by_one_lem qs) cs) ≡ map (λ (q : Request). q.bytes) qs)
-    × (map (λ (p : Response). p.answer) (all_responses (one_by_one_lem qs) (all_shown (one_by_one_lem qs) cs)) ≡ map (λ (q : Request). 0) qs)
+    → (gathered record_kept (one_by_one qs) (all_shown (one_by_one qs) cs) ≡ map (λ (q : Request). q.bytes) qs)
+    × (map (λ (p : Response). p.answer) (all_responses (one_by_one qs) (all_shown (one_by_one qs) cs)) ≡ map (λ (q : Request). 0) qs)
     × (rows Aces (handed_back x cs).tables ≡ listed b)
     × (with_rows Aces (handed_back x cs).tables [] ≡ with_rows Aces x.tables [])
 turns_loaded d x b qs cs built a h none ready e =
     let long = every_long ace_row_size (storable Aces) (sized Aces) (listed b) (accepted_faultless b a).clean.stores in
     let all = built_one_by_one d x qs cs built h none (all_pass d x.tables x.tables ready.is_sound refl (listed b) qs long e) in
-    let l = built_loaded d x b (one_by_one_lem qs) cs built a ready (rw all.1 e) in
+    let l = built_loaded d x b (one_by_one qs) cs built a ready (rw all.1 e) in
     (all.0, rw all.1 at l.0, l.1, l.2)

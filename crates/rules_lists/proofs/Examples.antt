@@ -17,7 +17,7 @@ use Rattle.rules_terminal.specs.Slots.{waiting, empty_queue}
 use Rattle.rules_terminal.specs.Terminal.{Terminal, terminal}
 use Rattle.rules_terminal.specs.CallRun.{handed_back}
 use Rattle.rules_terminal.proofs.Direct.{fresh_whole}
-use Rattle.rules_runs.specs.OneByOne.{one_by_one_lem}
+use Rattle.rules_runs.specs.OneByOne.{one_by_one}
 use Rattle.rules_runs.specs.Made.{calls_at}
 use Rattle.rules_runs.proofs.Exists.{calls_built}
 use Rattle.rules_lists.specs.Lists.{bad_size, unfit, excessive, tested, accepted, rows_tested, list_tested}
@@ -119,13 +119,13 @@ loading56 =
 pub ready56 : Terminal
 ready56 = terminal owned56 empty_queue
 
-pub good_by_turns : rows Aces (handed_back ready56 (calls_at no_defaults ready56 (one_by_one_lem loading56))).tables ≡ good
+pub good_by_turns : rows Aces (handed_back ready56 (calls_at no_defaults ready56 (one_by_one loading56))).tables ≡ good
 unfolding testing on_acl2 role7 good loading56 ready56 owned56 cred_row with_creds owned5 owns_device waiting
 good_by_turns =
     let stores : (n : ℕ) (q : Request) (w : Row) → n < 65536 → owns_device owned56 (Partner n) ≡ true → q.bytes ≡ storing n w → OwnerStores owned56 q w =
     λ n q w l o e. record { number = n; small = l; owner = o; stores = e } in
     let ready : Ready owned56 = record { is_sound = refl; in_rfpro = refl; no_aces = refl } in
-    let is = one_by_one_lem loading56 in
+    let is = one_by_one loading56 in
     let loaded = turns_loaded no_defaults ready56 (joined good) loading56 (calls_at no_defaults ready56 is) (calls_built no_defaults ready56 is) refl
     (fresh_whole owned56 refl) refl ready
     (stores 5 _ _ (omega arith) refl refl, (stores 6 _ _ (omega arith) refl refl, (stores 5 _ _ (omega arith) refl refl, tt))) in

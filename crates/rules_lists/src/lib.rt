@@ -4,7 +4,7 @@
 
 // The answer's number; with 20 or 21 the first bad row, counted from 1, else row 0.
 #[repr(C)]
-#[derive(Drop)]
+#[derive(Clone, Copy)]
 pub struct Tested {
     pub answer: u8,
     pub row: usize,

@@ -1,7 +1,7 @@
 -- One input to two terminals in step: a hand-in, a take or a record that is judged directly gets the same answer except for the order, and leaves them in step.
 -- The queue is found by only the credential rows, so the queue of one is that of the other.
 use Rattle.rows.proofs.Prelude.{◌≡◌, refl, sym, ap, ap₂, subst, true, List, ℕ, length}
-use Rattle.rows.specs.Rows.{Row, same}
+use Rattle.rows.specs.Rows.{Row}
 use Rattle.rules.specs.declared.Tables.{Tables}
 use Rattle.rules.specs.declared.Table.TheVariants.{Aces}
 use Rattle.rules.specs.Record.{Request, received}

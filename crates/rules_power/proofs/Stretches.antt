@@ -11,7 +11,7 @@ use Rattle.rules.specs.Outcome.{Response, response_to, tables_after}
 use Rattle.rules.specs.Run.{replies, final}
 use Rattle.rules.proofs.Isolated.{isolation}
 use Rattle.rules_terminal.specs.Slots.{anew}
-use Rattle.rules_terminal.specs.Terminal.{Terminal, terminal, sound_terminal}
+use Rattle.rules_terminal.specs.Terminal.{Terminal, sound_terminal}
 use Rattle.rules_terminal.specs.Inputs.{Input, hand_in, take_at, direct, records_in}
 use Rattle.rules_terminal.specs.CallRun.{Call, left, Built, handed_back, shown, all_shown}
 use Rattle.rules_terminal.proofs.SlotLaws.{waiting_back}

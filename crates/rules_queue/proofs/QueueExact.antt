@@ -14,7 +14,7 @@ use Rattle.rules_typed.specs.Lists.{just, when, all, distinct}
 use Rattle.rules_typed.specs.Types.{Tables}
 use Rattle.rules_typed.specs.Tables.{is_bytes, is_number, sound}
 use Rattle.rules_typed.specs.Struct.{Given, IsStruct}
-use Rattle.rules_typed.specs.Reading.{tables_of, same_tables as alike}
+use Rattle.rules_typed.specs.Reading.{tables_of, same_tables}
 use Rattle.rules_typed.specs.Writing.{written_tables}
 use Rattle.rules_typed.proofs.ListLaws.{Each}
 use Rattle.rules_typed.proofs.ByteLaws.{good_rows, bytes_take, bytes_drop, two_bytes}
@@ -254,7 +254,7 @@ module _ (x : ByteTerminal) (i : IsStruct x.tables) (h : is_bytes x.queue ≡ tr
   there s =
       let t = sym (sound_exact x.tables i) ∙ (terminal_parts x s).tables in
       let tables : sound y.tables ≡ true = and_left _ _ t in
-      let alike : alike (written_tables y.tables) x.tables ≡ true = and_right (sound y.tables) _ t in
+      let alike : same_tables (written_tables y.tables) x.tables ≡ true = and_right (sound y.tables) _ t in
       and_both _ _
       (and_both _ _ tables (queue_read x.tables (given s) x.queue h (terminal_parts x s).queue))
       (and_both _ _ alike
@@ -264,7 +264,7 @@ module _ (x : ByteTerminal) (i : IsStruct x.tables) (h : is_bytes x.queue ≡ tr
   back s =
       let tables : sound y.tables ≡ true = search (and_left, and_right) in
       let queue : sound_queue y.tables y.queue ≡ true = search (and_left, and_right) in
-      let alike : alike (written_tables y.tables) x.tables ≡ true = search (and_left, and_right) in
+      let alike : same_tables (written_tables y.tables) x.tables ≡ true = search (and_left, and_right) in
       let same_queue : same (queue_bytes y.queue) x.queue ≡ true = search (and_left, and_right) in
       let t = sound_exact x.tables i ∙ and_both _ _ tables alike in
       terminal_whole x t

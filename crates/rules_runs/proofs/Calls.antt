@@ -15,7 +15,7 @@ use Rattle.rules_terminal.proofs.Shown.{built_shown}
 use Rattle.rules_runs.specs.Events.{gathered}
 use Rattle.rules_runs.specs.Isolation.{requests_of, all_responses, AsRules, BookPremise, Isolated, answers_to}
 use Rattle.rules_runs.specs.Waits.{record_kept, record_taken, Quiet, QuietFor, FreshAfterReset, waits_at_end, round_in, round_at_end, TakenInTurn}
-use Rattle.rules_runs.specs.OneByOne.{one_by_one_lem, AllPass}
+use Rattle.rules_runs.specs.OneByOne.{one_by_one, AllPass}
 use Rattle.rules_runs.proofs.Seen.{kept_seen, gathered_is}
 use Rattle.rules_runs.proofs.Isolation.{requests_are, isolated_handed, rules_handed}
 use Rattle.rules_runs.proofs.Served.{waiting_served, kept_served, none_lost_seen, came_seen}
@@ -96,13 +96,13 @@ built_kept_served d x r c is cs b a q l =
 -- records handed in and taken one by one, where nothing else waits: all are kept, and judged in their order as they are
 pub built_one_by_one :
     (d : Defaults) (x : Terminal) (qs : List Request) (cs : List Call)
-    → Built d x (one_by_one_lem qs) cs
+    → Built d x (one_by_one qs) cs
     → sound_terminal x ≡ true
     → records_in x ≡ []
     → AllPass d x.tables qs
-    → (gathered record_kept (one_by_one_lem qs) (all_shown (one_by_one_lem qs) cs) ≡ map (λ (q : Request). q.bytes) qs)
-    × (requests_of x (one_by_one_lem qs) (all_shown (one_by_one_lem qs) cs) ≡ qs)
+    → (gathered record_kept (one_by_one qs) (all_shown (one_by_one qs) cs) ≡ map (λ (q : Request). q.bytes) qs)
+    × (requests_of x (one_by_one qs) (all_shown (one_by_one qs) cs) ≡ qs)
 built_one_by_one d x qs cs b h none p =
     let all = one_by_one_lem d x qs h none p in
-    let is = one_by_one_lem qs in
+    let is = one_by_one qs in
     rw (built_shown d x is cs b).0 (gathered_is d record_kept (kept_at d) (kept_seen d) x is ∙ all.0, requests_are d x is ∙ all.1)

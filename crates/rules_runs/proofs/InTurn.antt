@@ -19,7 +19,7 @@ use Rattle.rules_terminal.proofs.SlotLaws.{slot_key}
 use Rattle.rules_terminal.proofs.SeatLaws.{turn_of}
 use Rattle.rules_terminal.proofs.Held.{seat_long}
 use Rattle.rules_terminal.proofs.Sound.{terminal_parts, turn_is, sound_next}
-use Rattle.rules_runs.specs.Waits.{record_taken, round_in, in_seat, first_seat, taken_next_lem, TakenInTurn}
+use Rattle.rules_runs.specs.Waits.{record_taken, round_in, in_seat, first_seat, taken_next, TakenInTurn}
 use Rattle.rules_runs.specs.Isolation.{answers_to}
 use Rattle.rules_runs.proofs.Judged.{SlotIs, SlotsAre}
 use Rattle.rules_runs.proofs.Seen.{taken_seen}
@@ -84,7 +84,7 @@ module _ (x : Terminal) (h : sound_terminal x ≡ true) where
 
 module _ (d : Defaults) where
   taken_next_lem : (x : Terminal) (i : Input) → sound_terminal x ≡ true
-      → record_taken i (transition d x i) ≡ taken_next_lem (round_in x) (seats x.tables) (records_in x) i
+      → record_taken i (transition d x i) ≡ taken_next (round_in x) (seats x.tables) (records_in x) i
   unfolding verdict
   taken_next_lem x (hand_in r) h = refl
   taken_next_lem x (take_at clock capacity) h =

@@ -24,7 +24,7 @@ use Rattle.rules_terminal.proofs.Refused.{take_ready}
 use Rattle.rules_terminal.proofs.Origin.{handed_records, taken_came}
 use Rattle.rules_runs.specs.Events.{sent_by}
 use Rattle.rules_runs.specs.Waits.{record_taken, resets, is_removed}
-use Rattle.rules_runs.specs.OneByOne.{one_by_one_lem, AllPass}
+use Rattle.rules_runs.specs.OneByOne.{one_by_one, AllPass}
 use Rattle.rules_runs.proofs.Seen.{taken_seen}
 use Rattle.rules_runs.proofs.Waits.{waits_seen}
 
@@ -95,7 +95,7 @@ module _ (d : Defaults) (x : Terminal) (q : Request) (h : sound_terminal x ≡ t
 
 module _ (d : Defaults) where
   pub one_by_one_lem : (x : Terminal) (qs : List Request) → sound_terminal x ≡ true → records_in x ≡ [] → AllPass d x.tables qs
-      → (all_kept d x (one_by_one_lem qs) ≡ map (λ (q : Request). q.bytes) qs) × (map request_of (all_judged d x (one_by_one_lem qs)) ≡ qs)
+      → (all_kept d x (one_by_one qs) ≡ map (λ (q : Request). q.bytes) qs) × (map request_of (all_judged d x (one_by_one qs)) ≡ qs)
   one_by_one_lem x [] h none p = (refl, refl)
   one_by_one_lem x (q ∷ qs) h none p =
       let v = y d x q h none p.0 in

@@ -13,9 +13,9 @@ use Rattle.rules.specs.Outcome.{tables_after}
 use Rattle.rules_terminal.specs.Inputs.{Input, hand_in, take_at}
 
 -- each request has its record handed in, and taken at its clock with a buffer of its length
-abbrev pub one_by_one_lem : List Request → List Input
-one_by_one_lem [] = []
-one_by_one_lem (q ∷ qs) = hand_in q.bytes ∷ take_at q.clock q.capacity ∷ one_by_one_lem qs
+abbrev pub one_by_one : List Request → List Input
+one_by_one [] = []
+one_by_one (q ∷ qs) = hand_in q.bytes ∷ take_at q.clock q.capacity ∷ one_by_one qs
 
 -- each record passes 2 to 7 in the tables that it meets
 abbrev pub AllPass : Defaults → Tables → List Request → Type 0

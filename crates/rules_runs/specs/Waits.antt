@@ -101,14 +101,14 @@ unfoldable pub first_seat : Round → List Seat → List Bytes → Seat
 first_seat round seats rs = first_row (λ seat. some (in_seat seat) rs) (in_turn round seats)
 
 -- the record that an input gives out: a take that of this seat, if any record waits
-abbrev pub taken_next_lem : Round → List Seat → List Bytes → Input → List Bytes
-taken_next_lem round seats rs (hand_in r) = []
-taken_next_lem round seats rs (take_at clock capacity) = list_if (not (eqb (length rs) 0)) (first_row (in_seat (first_seat round seats rs)) rs)
-taken_next_lem round seats rs (direct q) = []
+abbrev pub taken_next : Round → List Seat → List Bytes → Input → List Bytes
+taken_next round seats rs (hand_in r) = []
+taken_next round seats rs (take_at clock capacity) = list_if (not (eqb (length rs) 0)) (first_row (in_seat (first_seat round seats rs)) rs)
+taken_next round seats rs (direct q) = []
 
 -- each answer gives out this record, where the tables were t and the queue so before the first
 abbrev pub TakenInTurn : Tables → Round → List Bytes → List Input → List Transition → Type 0
 TakenInTurn t round rs [] answers = Unit {0}
 TakenInTurn t round rs (i ∷ is) [] = Unit {0}
 TakenInTurn t round rs (i ∷ is) (a ∷ answers) =
-    (record_taken i a ≡ taken_next_lem round (seats t) rs i) × TakenInTurn a.terminal.tables (round_after round i a) (waits_after rs i a) is answers
+    (record_taken i a ≡ taken_next round (seats t) rs i) × TakenInTurn a.terminal.tables (round_after round i a) (waits_after rs i a) is answers

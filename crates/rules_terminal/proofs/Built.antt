@@ -3,7 +3,7 @@
 -- Takes and Judges, which these contracts cite), and of `payload` after the last two,
 -- each on the tables and the memory returned last.
 use Rattle.rows.proofs.Prelude.{◌≡◌, refl, sym, ap, ap₂, ◌∙◌, Bool, true, false, ◌||◌, List, [], ◌∷◌, map, ℕ, ◌-◌, length, take, drop, replicate}
-use Rattle.rows.proofs.Prelude.{first_part as take_at as first_part, eqb, eqb-true, not-false, or-false, bool_cases, contradiction, or_left, or_not_left}
+use Rattle.rows.proofs.Prelude.{take_at as first_part, eqb, eqb-true, not-false, or-false, bool_cases, contradiction, or_left, or_not_left}
 use Rattle.rules.specs.declared.Check.TheVariants.{Refuse}
 use Rattle.rules.specs.declared.Sender.{Sender}
 use Rattle.rules.specs.Record.{Request, received}
@@ -20,7 +20,7 @@ use Rattle.rules.proofs.Isolated.{isolation}
 use Rattle.rules_terminal.specs.Slots.{padded}
 use Rattle.rules_terminal.specs.Terminal.{Terminal, terminal, Transition, sound_terminal, take_checks, due, taken, direct_checks, judged, transition_result, HandedOut}
 use Rattle.rules_terminal.specs.Calls.{Leaves}
-use Rattle.rules_terminal.specs.Inputs.{Input, hand_in, take_at as first_part, direct, next, judged_at, all_judged, others_turn}
+use Rattle.rules_terminal.specs.Inputs.{Input, hand_in, take_at, direct, next, judged_at, all_judged, others_turn}
 use Rattle.rules.proofs.CheckLaws.{check_cases}
 use Rattle.rules_terminal.specs.CallRun.{Built, Call, Lends, Meets, call_turns, handed_back, left, record_given, response_of, turn_of}
 use Rattle.rules_terminal.specs.Isolation.{Premises, AsTheBook}
@@ -63,7 +63,7 @@ module _ (d : Defaults) (x : Terminal) where
       bool_cases (eqb n 1 || eqb n 27) (λ e. absurd (no_such d x.tables q n (terminal_parts x h).tables e refl)) (λ e. e)
 
   -- a take shows the record that it gives out, and what is reported of it
-  pub take_told : (clock capacity : ℕ) (c : Call) → Meets d x (first_part clock capacity) c
+  pub take_told : (clock capacity : ℕ) (c : Call) → Meets d x (take_at clock capacity) c
       → (record_given c ≡ (taken d x clock capacity).bytes) × (response_of c ≡ (taken d x clock capacity).response)
   unfolding taken
   take_told clock capacity c m =
@@ -84,7 +84,7 @@ module _ (d : Defaults) (x : Terminal) where
   pub call_turn : (i : Input) (c : Call) → Meets d x i c → turn_of i c ≡ judged_at d x i
   unfolding taken judged
   call_turn (hand_in r) c m = refl
-  call_turn (first_part clock capacity) c m =
+  call_turn (take_at clock capacity) c m =
       let s = take_told clock capacity c m in
       rw (s.0, s.1, ap (λ (y : Response). y.answer) s.1)
       (check_cases (verdict (take_checks x)) (λ e. rw (e, judged_number _ (take_passed x e).0)) (λ n e. rw (e, refused_number x n e)))
@@ -97,7 +97,7 @@ module _ (d : Defaults) (x : Terminal) where
 
   pub call_left : (i : Input) (c : Call) → Meets d x i c → left c ≡ next d x i
   call_left (hand_in r) c m = ap₂ (λ (j : Result) (b : List ℕ). terminal j.tables b) m.says m.keeps
-  call_left (first_part clock capacity) c m = ap₂ (λ (t : HandedOut) (b : List ℕ). terminal t.judgement.tables b) m.0.hands m.0.leaves.keeps
+  call_left (take_at clock capacity) c m = ap₂ (λ (t : HandedOut) (b : List ℕ). terminal t.judgement.tables b) m.0.hands m.0.leaves.keeps
   call_left (direct q) c m = ap₂ (λ (j : Result) (b : List ℕ). terminal j.tables b) m.0.says m.0.leaves.keeps
 
 -- ---- the run

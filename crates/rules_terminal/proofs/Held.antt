@@ -2,7 +2,7 @@
 use Rattle.rows.proofs.Prelude.{◌≡◌, refl, sym, ap, ap₂, ◌∙◌, Bool, true, false, not, ◌&&◌, ◌||◌, List, [], ◌∷◌, map, ℕ, ◌/◌, ◌%◌, ◌≤◌, arith, length, take}
 use Rattle.rows.proofs.Prelude.{length-map, length-take-le, eqb, eq-eqb, eqb-false, eqb-true, not-false, not-true, bool_cases, contradiction, and_left}
 use Rattle.rows.proofs.Prelude.{and_right, and_both, or_left, or_right, or_true_right, and_false_right, not_of_false}
-use mathlib.Core.Bool.{not_not}
+use mathlib.Core.Bool.{not-not}
 use Rattle.rows.specs.Rows.{Row, same, has_key, numbered_as, some, first_row, every, without, distinct_numbers}
 use Rattle.rows.proofs.Gap.{fewer_stay}
 use Rattle.rows.proofs.Kept.{same_true, same_refl, same_sym}
@@ -65,7 +65,7 @@ held_is t r l m =
     bool_cases (eqb (connection r) 1)
     (λ e. let c = eqb-true _ _ e in
     rw (sender_partner r l c, word_zero (credential r) (number_some r m c), some_seats (be16 (credential r)) (rows Creds t))
-    (sym (not_not (some (numbered (credential r)) (rows Creds t)))))
+    (sym (not-not (some (numbered (credential r)) (rows Creds t)))))
     (λ e. rw (sender_none r (eqb-false _ _ e), number_none r m (eqb-false _ _ e), same_refl nobody))
 
 -- a record that passes 2 to 7

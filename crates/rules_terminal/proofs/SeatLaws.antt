@@ -1,5 +1,5 @@
 -- Laws of the round, over plain lists of seats: who is first in turn, and that the others come nearer.
-use Rattle.rows.proofs.Prelude.{◌≡◌, refl, sym, ap, ◌∙◌, Bool, true, false, not, ◌&&◌, cond, List, [], ◌∷◌, ◌++◌, ℕ, suc, ◌+◌, ◌≤◌, ◌<◌, arith, length, take}
+use Rattle.rows.proofs.Prelude.{◌≡◌, refl, sym, ap, subst, ◌∙◌, Bool, true, false, not, ◌&&◌, cond, List, [], ◌∷◌, ◌++◌, ℕ, suc, ◌+◌, ◌≤◌, ◌<◌, arith, length, take}
 use Rattle.rows.proofs.Prelude.{drop, length-append, length-take-le, take-append-drop, not-true, cond_cases, bool_cases, contradiction, and_left, and_right}
 use Rattle.rows.proofs.Prelude.{or_left, or_right, or_not_left, or_true_right}
 use mathlib.Core.Bool.{or_comm}
@@ -21,7 +21,8 @@ module _ (q : Seat → Bool) where
   unfolding some first_row
   first_in [] h = contradiction h refl
   first_in (x ∷ xs) h =
-      bool_cases (q x) (λ e. rw (e, same_refl x)) (λ e. rw e (or_true_right (same (first_row q xs) x) _ (first_in xs (rw e at h))))
+      bool_cases (q x) (λ e. rw (e, same_refl x)) (λ e. let f : first_row q (x ∷ xs) ≡ first_row q xs = rw e in
+      subst (λ (y : Seat). some (same y) (x ∷ xs) ≡ true) (sym f) (or_true_right (same (first_row q xs) x) _ (first_in xs (rw e at h))))
 
   -- a seat that passes is the first, or after it
   pub first_least : (n : Seat) (xs : List Seat) → some (same n) xs ≡ true → q n ≡ true
@@ -34,11 +35,12 @@ module _ (q : Seat → Bool) where
       (λ f. bool_cases (q x)
       (λ e. rw (e, f, same_refl x) (refl, λ _. omega arith))
       (λ e. let more = first_least n xs (rw f at i) h in
-      rw (e, f) (
+      let g : first_row q (x ∷ xs) ≡ first_row q xs = rw e in
+      subst (λ (y : Seat). (some q (x ∷ xs) ≡ true) × (same n y ≡ false → rows_before (same y) (x ∷ xs) < rows_before (same n) (x ∷ xs))) (sym g) (rw (e, f) (
         more.0,
         λ o. cond_cases (λ (m : ℕ). m < suc (rows_before (same n) xs)) (same (first_row q xs) x)
             (λ _. omega arith) (λ _. omega (arith, more.1 o)),
-      )))
+      ))))
 
   -- another list has the same first seat that passes
   abbrev pub Unmoved : List Seat → List Seat → Type 0

@@ -12,7 +12,7 @@ pub const SLOTS: usize = 25;
 pub const QUEUE: usize = 4 + SLOTS * SLOT;
 
 // What a take gives: all that a judged record gets, and the record itself by value with its length; zeros are after it.
-#[derive(Drop)]
+#[derive(Clone, Copy)]
 pub struct Taken {
     pub judgement: Judgement,
     pub size: usize,

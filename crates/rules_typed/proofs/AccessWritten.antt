@@ -1,5 +1,5 @@
 -- A valid access row, written and read again, is the row.
-use Rattle.rows.proofs.Prelude.{◌≡◌, refl, sym, ap, ◌∙◌, Bool, true, List, [], ◌∷◌, ◌++◌, ℕ, zero, suc, ◌+◌, ◌-◌, ◌*◌, ◌/◌, ◌%◌, ◌^◌, ◌<◌, arith, length, take}
+use Rattle.rows.proofs.Prelude.{◌≡◌, refl, sym, ap, ◌∙◌, Bool, true, List, [], ◌∷◌, ◌++◌, ℕ, zero, suc, ◌+◌, ◌*◌, ◌/◌, ◌%◌, ◌^◌, ◌<◌, arith, length, take}
 use Rattle.rows.proofs.Prelude.{drop, get_or, pow-suc, ltb-true, leb-true, and_left, and_right, and_both, lt-ltb, length-append, eqb, append_assoc, drop-drop}
 use Rattle.rows.proofs.Prelude.{drop_at, take_at, get_or-drop}
 use Rattle.rules_typed.specs.Types.{Resource, Access, Subject, IsUuid, HasRole, IsConnection, AnonClear, AuthCrypt, Security, Doxm, Pstat, Cred, Acl2}
@@ -14,7 +14,7 @@ use Rattle.rules.proofs.BitLaws.{bits_byte, bits_in_byte}
 use Rattle.rules_typed.proofs.ByteLaws.{byte_at}
 use Rattle.rules_typed.specs.Directory.{number_of}
 use Rattle.rules_typed.proofs.DirectoryRead.{resource_read}
-use Rattle.rules_typed.specs.Reading.{subject_of, connection_as, access_of_lem}
+use Rattle.rules_typed.specs.Reading.{subject_of, connection_as, access_of}
 use mathlib.Core.Path.{fun_ext}
 use Rattle.rules.specs.Bodies.{ace_storable}
 use Rattle.rows.proofs.Kept.{same_refl}
@@ -220,7 +220,7 @@ module _ (a : Access) (v : valid_access a ≡ true) where
       let one : bits w 223 1 ≡ 1 = bits_in_byte w 27 7 1 (omega arith) ∙ omega (arith, byte) in
       rw (k, one)
 
-  pub access_again : access_of_lem w ≡ a
+  pub access_again : access_of w ≡ a
   access_again =
       let set : (λ (e : Resource). eqb (bit w (32 + number_of e)) 1) ≡ a.resources = fun_ext (λ e. set_again e (number_below e)) in
       rw (

@@ -11,7 +11,7 @@ use Rattle.rules.specs.Tables.{row_of}
 use Rattle.rules_typed.specs.Lists.{Maybe, none, just}
 use Rattle.rules_typed.specs.Types.{SecurityResource, Doxm, Pstat, Cred, Acl2, All, Numbered, Action, Serve, Read, SetRowOwner, SetOwner, Move}
 use Rattle.rules_typed.specs.Types.{StoreCredential, StoreAccess, DeleteCredentials, DeleteSubject, DeleteAccesses, AssertRole}
-use Rattle.rules_typed.specs.Reading.{owner_of, target_of, asserted_of, credential_as, access_of_lem}
+use Rattle.rules_typed.specs.Reading.{owner_of, target_of, asserted_of, credential_as, access_of}
 
 -- the four that have a row owner
 unfoldable pub owned_by : ℕ → SecurityResource
@@ -25,7 +25,7 @@ action_as b (RowOwnerSet n) = just (SetRowOwner (owned_by n) (owner_of b))
 action_as b (OwnerSet owned) = just (SetOwner (owner_of (new_owner b)))
 action_as b (SetState target) = just (Move (target_of target))
 action_as b (Store Creds) = just (StoreCredential (credential_as (row_of Creds b)))
-action_as b (Store Aces) = just (StoreAccess (access_of_lem (row_of Aces b)))
+action_as b (Store Aces) = just (StoreAccess (access_of (row_of Aces b)))
 action_as b (Remove Creds AllKey) = just (DeleteCredentials All)
 action_as b (Remove Creds Number) = just (DeleteCredentials (Numbered (row_number b)))
 action_as b (Remove Creds Subject) = just (DeleteSubject b)

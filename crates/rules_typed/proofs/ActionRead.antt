@@ -17,7 +17,7 @@ use Rattle.rules_typed.proofs.RowExact.{test_same, uuid_is, number_fits, number_
 use Rattle.rules_typed.proofs.PermissionRead.{nil_zeros, zeros_nil}
 use Rattle.rules_typed.specs.Tables.{is_bytes, uuid_or_none, valid_asserted, valid_role, valid_credential, valid_access}
 use Rattle.rules_typed.specs.Reading.{owner_of, target_of, state_of, asserted_of, credential_as, credential_in, read_owner, read_target, read_credential}
-use Rattle.rules_typed.specs.Reading.{read_access, access_of_lem, read_asserted}
+use Rattle.rules_typed.specs.Reading.{read_access, access_of, read_asserted}
 use Rattle.rules_typed.specs.Writing.{owner_bytes, target_number, target_bytes, asserted_bytes, credential_bytes, access_bytes}
 use Rattle.rules.specs.Bits.{bits, bit}
 use Rattle.rules.proofs.BitLaws.{bits_in_byte, bits_small}
@@ -232,9 +232,9 @@ module _ (b : List ℕ) (h : is_bytes b ≡ true) where
   access_of_lem : (c : List ℕ) → row_of Aces b ≡ c → is_bytes c ≡ true → AsRead b (store_row Aces b) (asking StoreAccess (read_access c))
   unfolding store_row read_access
   access_of_lem c e i =
-      rw (asked_when StoreAccess (valid_access (access_of_lem c) && same (access_bytes (access_of_lem c)) c) (access_of_lem c))
-      (allowed_read b (ace_storable (row_of Aces b)) _ (Store Aces) (StoreAccess (access_of_lem c))
-      (ap ace_storable e ∙ access_exact c i) (ap (λ (w : List ℕ). just (StoreAccess (access_of_lem w))) e))
+      rw (asked_when StoreAccess (valid_access (access_of c) && same (access_bytes (access_of c)) c) (access_of c))
+      (allowed_read b (ace_storable (row_of Aces b)) _ (Store Aces) (StoreAccess (access_of c))
+      (ap ace_storable e ∙ access_exact c i) (ap (λ (w : List ℕ). just (StoreAccess (access_of w))) e))
 
   no_access : row_of Aces b ≡ replicate 36 0 → AsRead b (store_row Aces b) none
   unfolding store_row if_allowed

@@ -11,11 +11,11 @@ use Rattle.rules.specs.declared.Check.{Check}
 use Rattle.rules.specs.declared.Check.TheVariants.{Refuse}
 use Rattle.rules.specs.declared.Sender.{Sender}
 use Rattle.rules.specs.declared.Sender.TheVariants.{Unauthenticated, Partner}
-use Rattle.rules.specs.Record.{Request as ByteRequest, header_of, body, sender, verb, connection, resource, header_zeros, credential}
+use Rattle.rules.specs.Record.{Request as ByteRequest, header_of, body, sender, connection, header_zeros, credential}
 use Rattle.rules.specs.Bodies.{new_owner, row_number, ace_storable}
 use Rattle.rules.specs.Roles.{cred_sound, roles_in_force as rolesInForceBytes}
 use Rattle.rules.specs.Keys.{goes}
-use Rattle.rules.specs.Tables.{head_of, rows, row_of, capacity}
+use Rattle.rules.specs.Tables.{head_of, rows, row_of}
 use Rattle.rules.specs.States.{move_allowed, state_allows as stateAllowsBytes}
 use Rattle.rules.specs.Permission.{numbered, sender_row, connection_of as connectionBit, has as hasBytes, permission_of as permissionOfBytes, permission}
 use Rattle.rules.specs.Reading.{reply_to as replyToBytes, too_short, reads}
@@ -31,7 +31,7 @@ use Rattle.rules_typed.specs.Permission.{connection_of, credential_of, caller_of
 use Rattle.rules_typed.specs.States.{owned, state_allows}
 use Rattle.rules_typed.specs.Checks.{no_credential, takes, needs, offers, has_number, has_subject, is_numbered, action_checks, permission_of, request_checks}
 use Rattle.rules_typed.specs.Struct.{Given}
-use Rattle.rules_typed.specs.Reading.{owner_of, credential_as, access_of_lem, tables_of}
+use Rattle.rules_typed.specs.Reading.{owner_of, credential_as, access_of, tables_of}
 use Rattle.rules_typed.specs.Tables.{is_bytes}
 use Rattle.rules_typed.proofs.ListLaws.{any_read, find_read}
 use Rattle.rules_typed.proofs.ByteLaws.{Good, number_read, bytes_drop}
@@ -51,7 +51,7 @@ use Rattle.rules.specs.declared.Header.{Header}
 
 -- ---- 7 and 16
 
-no_credential_lem : (t : ByteTables) → Given t → (s : Sender) → no_credential (tables_of t) s ≡ no_row (rows Creds t) s
+pub no_credential_lem : (t : ByteTables) → Given t → (s : Sender) → no_credential (tables_of t) s ≡ no_row (rows Creds t) s
 no_credential_lem t g Unauthenticated = refl
 no_credential_lem t g (Partner n) =
     rw (find_read credential_as (Good cred_sound) (numbered n) (λ c. eqb c.number n) (number_of_lem n) (rows Creds t) (creds_good t g))
@@ -99,9 +99,9 @@ module _ (t : ByteTables) (g : Given t) (s : Sender) where
       any_read credential_as (Good cred_sound) (numbered_as new) (has_number (row_number new))
       (λ w k. sym (number_read w k.1 (cred_long w k) new n.1 (cred_long new n))) (rows Creds t) (creds_good t g)
 
-  held_ace : (new : Row) → Good ace_storable new → any (is_numbered (row_number new)) (map access_of_lem (rows Aces t)) ≡ some (numbered_as new) (rows Aces t)
+  held_ace : (new : Row) → Good ace_storable new → any (is_numbered (row_number new)) (map access_of (rows Aces t)) ≡ some (numbered_as new) (rows Aces t)
   held_ace new n =
-      any_read access_of_lem (Good ace_storable) (numbered_as new) (is_numbered (row_number new))
+      any_read access_of (Good ace_storable) (numbered_as new) (is_numbered (row_number new))
       (λ w k. sym (number_read w k.1 (ace_long w k) new n.1 (ace_long new n))) (rows Aces t) (aces_good t g)
 
   module _ (clock : ℕ) (b : List ℕ) (h : is_bytes b ≡ true) (short : Bool) where
@@ -119,9 +119,9 @@ module _ (t : ByteTables) (g : Given t) (s : Sender) where
     gone_subject : length b ≡ 16 → any (has_subject b) (map credential_as (rows Creds t)) ≡ some (goes Subject b) (rows Creds t)
     gone_subject l = any_read credential_as (Good cred_sound) (goes Subject b) (has_subject b) (λ w k. subject_key b w l) (rows Creds t) (creds_good t g)
 
-    gone_ace : length b ≡ 2 → any (is_numbered (row_number b)) (map access_of_lem (rows Aces t)) ≡ some (goes Number b) (rows Aces t)
+    gone_ace : length b ≡ 2 → any (is_numbered (row_number b)) (map access_of (rows Aces t)) ≡ some (goes Number b) (rows Aces t)
     gone_ace l =
-        any_read access_of_lem (Good ace_storable) (goes Number b) (is_numbered (row_number b)) (λ w k. number_key b w h l k.1 (ace_long w k)) (rows Aces t)
+        any_read access_of (Good ace_storable) (goes Number b) (is_numbered (row_number b)) (λ w k. number_key b w h l k.1 (ace_long w k)) (rows Aces t)
         (aces_good t g)
 
     pub action_checks_lem : (c : ℕ) → c ≡ connectionBit s → (a : ByteAction) → Valid c b a → Removed b a → Same a

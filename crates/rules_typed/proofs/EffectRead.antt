@@ -29,7 +29,7 @@ use Rattle.rules_typed.specs.Permission.{caller_of, credential_of}
 use Rattle.rules_typed.specs.Checks.{has_number, has_subject, is_numbered, of_credentials, of_accesses}
 use Rattle.rules_typed.specs.Effect.{effect_of, set_row_owner, with_row_owners, with_credentials, with_accesses, asserting}
 use Rattle.rules_typed.specs.Struct.{Given}
-use Rattle.rules_typed.specs.Reading.{target_of, owner_of, credential_as, access_of_lem, asserted_of, tables_of, owners_at}
+use Rattle.rules_typed.specs.Reading.{target_of, owner_of, credential_as, access_of, asserted_of, tables_of, owners_at}
 use Rattle.rules_typed.specs.Tables.{is_bytes}
 use Rattle.rules_typed.proofs.ListLaws.{put_read, without_read}
 use Rattle.rules_typed.proofs.ByteLaws.{Good, number_read, bytes_drop}
@@ -81,8 +81,8 @@ owner_set n b x h l m =
 creds_put : (t : ByteTables) (ws : List Row) → SoundRows Creds ws → map credential_as (rows Creds (with_rows Creds t ws)) ≡ map credential_as ws
 creds_put t ws x = ap (map credential_as) (rows_with Creds t ws x.few x.stores)
 
-aces_put : (t : ByteTables) (ws : List Row) → SoundRows Aces ws → map access_of_lem (rows Aces (with_rows Aces t ws)) ≡ map access_of_lem ws
-aces_put t ws x = ap (map access_of_lem) (rows_with Aces t ws x.few x.stores)
+aces_put : (t : ByteTables) (ws : List Row) → SoundRows Aces ws → map access_of (rows Aces (with_rows Aces t ws)) ≡ map access_of ws
+aces_put t ws x = ap (map access_of) (rows_with Aces t ws x.few x.stores)
 
 module _ (t : ByteTables) (g : Given t) where
   cred_stored : (new : Row) → Good cred_sound new
@@ -92,9 +92,9 @@ module _ (t : ByteTables) (g : Given t) where
       (λ w k. sym (number_read w k.1 (cred_long w k) new n.1 (cred_long new n))) (rows Creds t) (creds_good t g)
 
   ace_stored : (new : Row) → Good ace_storable new
-      → put (is_numbered (row_number new)) (access_of_lem new) (map access_of_lem (rows Aces t)) ≡ map access_of_lem (storedRows new (rows Aces t))
+      → put (is_numbered (row_number new)) (access_of new) (map access_of (rows Aces t)) ≡ map access_of (storedRows new (rows Aces t))
   ace_stored new n =
-      put_read access_of_lem (Good ace_storable) new (is_numbered (row_number new))
+      put_read access_of (Good ace_storable) new (is_numbered (row_number new))
       (λ w k. sym (number_read w k.1 (ace_long w k) new n.1 (ace_long new n))) (rows Aces t) (aces_good t g)
 
   abbrev read_with : List Credential → Tables
@@ -143,10 +143,10 @@ module _ (t : ByteTables) (g : Given t) where
         ∙ sym (without_read credential_as (Good cred_sound) (goes Subject b) (has_subject b) (λ w y. subject_key b w k) (rows Creds t) (creds_good t g)))
     effect_read (Remove Aces All) x k =
         ap read_beside (aces_put t _ (removed_sound Aces t (goes All b) g.is_sound)
-        ∙ sym (without_read access_of_lem (Good ace_storable) (goes All b) (of_accesses AllRows) (λ w y. refl) (rows Aces t) (aces_good t g)))
+        ∙ sym (without_read access_of (Good ace_storable) (goes All b) (of_accesses AllRows) (λ w y. refl) (rows Aces t) (aces_good t g)))
     effect_read (Remove Aces Number) x k =
         ap read_beside (aces_put t _ (removed_sound Aces t (goes Number b) g.is_sound)
-        ∙ sym (without_read access_of_lem (Good ace_storable) (goes Number b) (is_numbered (row_number b)) (λ w y. number_key b w b_bytes k y.1 (ace_long w y))
+        ∙ sym (without_read access_of (Good ace_storable) (goes Number b) (is_numbered (row_number b)) (λ w y. number_key b w b_bytes k y.1 (ace_long w y))
         (rows Aces t) (aces_good t g)))
     effect_read (Remove Aces Subject) x k = absurd k
     effect_read (Assert c) x k =

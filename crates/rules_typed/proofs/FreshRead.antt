@@ -1,11 +1,11 @@
 -- Theorem: fresh tables, read: RFOTM, no owners, and the rows of the build's default lists.
-use Rattle.rows.proofs.Prelude.{◌≡◌, refl, sym, ap, ap₂, Bool, true, List, [], ◌∷◌, map, ℕ, zero, suc, ◌+◌, ◌-◌, ◌*◌, ◌≤◌, arith, length, drop, bool_cases}
+use Rattle.rows.proofs.Prelude.{◌≡◌, refl, sym, ap, ap₂, Bool, true, List, [], ◌∷◌, map, ℕ, zero, suc, ◌+◌, ◌*◌, ◌≤◌, arith, length, drop, bool_cases}
 use Rattle.rows.proofs.Prelude.{length-take-le, length-drop, ◌&&◌, ◌/◌, ◌%◌, cond, leb, eqb, ◌∙◌, false, length-map, and-true, and-false, replicate}
 use Rattle.rules_typed.specs.Types.{Bytes, Credential, Access}
 use Rattle.rules_typed.specs.Lists.{Maybe, when, distinct, none, just}
 use Rattle.rows.specs.Rows.{Row, every, rows_of, distinct_numbers, all_zero}
 use Rattle.rules_typed.proofs.ListLaws.{Each}
-use Rattle.rules_typed.specs.Reading.{read_all, read_credential, credential_as, read_access, access_of_lem, read_rows, tables_of, read_fresh, state_of, owner_of}
+use Rattle.rules_typed.specs.Reading.{read_all, read_credential, credential_as, read_access, access_of, read_rows, tables_of, read_fresh, state_of, owner_of}
 use Rattle.rules_typed.specs.Reading.{read_tables}
 use Rattle.rules_typed.specs.Tables.{is_bytes, same_credential, same_access, default_credentials, default_accesses, fresh_tables, cleared}
 use Rattle.rules_typed.proofs.ByteLaws.{bytes_take, bytes_drop, Good}
@@ -51,9 +51,9 @@ cred_read : (w : Row) → Sized 23 w → read_credential w ≡ when (cred_sound 
 unfolding read_credential
 cred_read w q = ap₂ (λ (b : Bool) (c : Credential). when b c) (sym (cred_body_lem w q.0 q.1)) (sym (stored_read w q.0))
 
-access_read : (w : Row) → Sized 36 w → read_access w ≡ when (ace_storable w) (access_of_lem w)
+access_read : (w : Row) → Sized 36 w → read_access w ≡ when (ace_storable w) (access_of w)
 unfolding read_access
-access_read w q = ap (λ (b : Bool). when b (access_of_lem w)) (sym (access_exact w q.1))
+access_read w q = ap (λ (b : Bool). when b (access_of w)) (sym (access_exact w q.1))
 
 -- ---- a default list
 
@@ -123,9 +123,9 @@ distinct_creds ws q h =
     (good_each cred_sound (map unasserted ws) h (unasserted_bytes ws q))
 
 distinct_aces : (ws : List Row) → Each (Sized 36) ws → every ace_storable (map (λ w. w) ws) ≡ true
-    → distinct same_access (map access_of_lem (map (λ w. w) ws)) ≡ distinct_numbers (map (λ w. w) ws)
+    → distinct same_access (map access_of (map (λ w. w) ws)) ≡ distinct_numbers (map (λ w. w) ws)
 distinct_aces ws q h =
-    distinct_read access_of_lem (Good ace_storable) same_access same_access_lem (map (λ w. w) ws) (good_each ace_storable (map (λ w. w) ws) h (same_bytes ws q))
+    distinct_read access_of (Good ace_storable) same_access same_access_lem (map (λ w. w) ws) (good_each ace_storable (map (λ w. w) ws) h (same_bytes ws q))
 
 same_default_creds : (m : Maybe (List Credential))
     → default_credentials m ≡ default 23 (λ m. omega arith) read_credential unasserted cred_sound credential_as same_credential cred_read distinct_creds m
@@ -133,7 +133,7 @@ same_default_creds none = refl
 same_default_creds (just cs) = refl
 
 same_default_aces : (m : Maybe (List Access))
-    → default_accesses m ≡ default 36 (λ m. omega arith) read_access (λ w. w) ace_storable access_of_lem same_access access_read distinct_aces m
+    → default_accesses m ≡ default 36 (λ m. omega arith) read_access (λ w. w) ace_storable access_of same_access access_read distinct_aces m
 same_default_aces none = refl
 same_default_aces (just cs) = refl
 
@@ -144,11 +144,11 @@ module _ (d : Defaults) (e : DefaultBytes d) where
       same_default_creds (read_rows 23 read_credential d.creds)
       ∙ default_read 23 (λ m. omega arith) read_credential unasserted cred_sound credential_as same_credential cred_read distinct_creds d.creds e.creds
 
-  aces_are : default_accesses (read_rows 36 read_access d.aces) ≡ map access_of_lem (default_rows Aces d.aces)
+  aces_are : default_accesses (read_rows 36 read_access d.aces) ≡ map access_of (default_rows Aces d.aces)
   unfolding default_rows good_list
   aces_are =
       same_default_aces (read_rows 36 read_access d.aces)
-      ∙ default_read 36 (λ m. omega arith) read_access (λ w. w) ace_storable access_of_lem same_access access_read distinct_aces d.aces e.aces
+      ∙ default_read 36 (λ m. omega arith) read_access (λ w. w) ace_storable access_of same_access access_read distinct_aces d.aces e.aces
 
   pub fresh_read : tables_of (freshBytes d) ≡ read_fresh d
   unfolding freshBytes read_fresh empty nilBytes state_of owner_of all_zero rows_of
@@ -157,7 +157,7 @@ module _ (d : Defaults) (e : DefaultBytes d) where
       let a = default_sound Aces d.aces in
       ap₂ fresh_tables
       (ap (map credential_as) (rows_with Creds empty (default_rows Creds d.creds) c.few c.stores) ∙ sym creds_are)
-      (ap (map access_of_lem) (rows_with Aces (with_rows Creds empty (default_rows Creds d.creds)) (default_rows Aces d.aces) a.few a.stores)
+      (ap (map access_of) (rows_with Aces (with_rows Creds empty (default_rows Creds d.creds)) (default_rows Aces d.aces) a.few a.stores)
       ∙ sym aces_are)
 
   -- the clear button: the fresh tables are sound, and are read as such

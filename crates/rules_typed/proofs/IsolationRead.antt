@@ -22,7 +22,7 @@ use Rattle.rules_typed.specs.Lists.{Maybe, any, when}
 use Rattle.rules_typed.specs.Types.{Credential, Tables, SecurityResource, Doxm, Pstat, Cred, Acl2, Roles, Security, Record}
 use Rattle.rules_typed.specs.Permission.{credential_of, caller_of, resource_fits, is_owner, has}
 use Rattle.rules_typed.specs.Isolation.{names_owner, may_fit, row_alters, may_alter, Harmless, Premise, is_others}
-use Rattle.rules_typed.specs.Reading.{subject_of, access_of_lem, tables_of, read_tables, read_record, read_fresh}
+use Rattle.rules_typed.specs.Reading.{subject_of, access_of, tables_of, read_tables, read_record, read_fresh}
 use Rattle.rules_typed.specs.Outcome.{respond, next}
 use Rattle.rules_typed.specs.Struct.{Given, DefaultBytes, AllBytes, IsStruct}
 use Rattle.rules_typed.specs.Writing.{written}
@@ -62,13 +62,13 @@ security_any : (f : SecurityResource → Bool) (p : ℕ → Bool) → ((s : Secu
 unfolding any some_security entry_of
 security_any f p e = rw (e Doxm, e Pstat, e Cred, e Acl2, e Roles) (turned (p 0) (p 1) (p 2) (p 3) (p 4))
 
-row_fits : (a : Row) (s : SecurityResource) → resource_fits (Security s) (access_of_lem a) ≡ resourceFitsBytes (byteResource (security_number s)) a
+row_fits : (a : Row) (s : SecurityResource) → resource_fits (Security s) (access_of a) ≡ resourceFitsBytes (byteResource (security_number s)) a
 unfolding resource_fits resourceFitsBytes
 row_fits a s = sym (ap (λ (e : ByteResource). resourceFitsBytes e a) (entry_read (Security s)))
 
-alters_read : (a : Row) → row_alters (access_of_lem a) ≡ rowAltersBytes a
+pub alters_read : (a : Row) → row_alters (access_of a) ≡ rowAltersBytes a
 unfolding row_alters rowAltersBytes has hasBytes
-alters_read a = rw (security_any (λ s. resource_fits (Security s) (access_of_lem a)) (λ n. resourceFitsBytes (byteResource n) a) (row_fits a))
+alters_read a = rw (security_any (λ s. resource_fits (Security s) (access_of a)) (λ n. resourceFitsBytes (byteResource n) a) (row_fits a))
 
 module _ (t : ByteTables) (g : Given t) where
   names_owner_read : (s : Sender) → names_owner (tables_of t) s ≡ namesOwnerBytes t s
@@ -82,7 +82,7 @@ module _ (t : ByteTables) (g : Given t) where
   may_alter_read s =
       let w = sender_row t s in
       let m = credential_of (tables_of t) s in
-      any_read access_of_lem (Good ace_storable) (λ a. mayFitBytes w (connectionBit s) a && rowAltersBytes a) (λ a. may_fit (by 0 s m) a.subject && row_alters a)
+      any_read access_of (Good ace_storable) (λ a. mayFitBytes w (connectionBit s) a && rowAltersBytes a) (λ a. may_fit (by 0 s m) a.subject && row_alters a)
       (λ a k. ap₂ (λ (x y : Bool). x && y) (fit_read s w m (own_reads t g s) a k.0) (alters_read a)) (rows Aces t) (aces_good t g)
 
   harmless_read : (chosen : Sender → Bool) → Harmless chosen (tables_of t) → HarmlessBytes chosen t

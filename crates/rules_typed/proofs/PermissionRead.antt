@@ -27,7 +27,7 @@ use Rattle.rules_typed.specs.Types.{Asserted, Credential, Caller, SecurityResour
 use Rattle.rules_typed.specs.Types.{ApplicationResource, Weight, Tare, Zero, Ticket, Lamp, Calib, Display, Yard}
 use Rattle.rules_typed.specs.Permission.{connection_of, credential_of, caller_of, same_connection, same_role, expired, roles_in_force, has_role, subject_fits}
 use Rattle.rules_typed.specs.Permission.{resource_fits, in_period, gives, names, row_owner, by_owner, by_no_owner, by_connection, effective, is_owner}
-use Rattle.rules_typed.specs.Reading.{connection_as, owner_of, role_of, asserted_of, credential_as, subject_of, access_of_lem, tables_of}
+use Rattle.rules_typed.specs.Reading.{connection_as, owner_of, role_of, asserted_of, credential_as, subject_of, access_of, tables_of}
 use Rattle.rules_typed.specs.Struct.{Given}
 use Rattle.rules_typed.proofs.StateRead.{IsState}
 use Rattle.rules_typed.proofs.ListLaws.{Each, union_read, any_read, find_read}
@@ -165,7 +165,7 @@ module _ (clock : ℕ) (s : Sender) where
       (λ g. contradiction (rw (e, f, g) at k) refl)))
 
   gives_read : (e : Resource) (w : Row) (m : Maybe Credential) → Reads w m → (a : Row) → Good ace_storable a
-      → gives clock (by m) e (access_of_lem a) ≡ grants clock w (connectionBit s) (resource_as e) a
+      → gives clock (by m) e (access_of a) ≡ grants clock w (connectionBit s) (resource_as e) a
   unfolding gives grants row_fits resource_fits resourceFitsBytes in_period in_force
   gives_read e w m r a g = rw (subject_read w m r a g.0)
 
@@ -295,7 +295,7 @@ module _ (t : ByteTables) (g : Given t) (s : Sender) where
       let w = sender_row t s in
       let m = credential_of (tables_of t) s in
       let r = own_reads t g s in
-      let granted = union_read access_of_lem (Good ace_storable) (grants clock w (connectionBit s) (resource_as e)) (gives clock (by clock s m) e)
+      let granted = union_read access_of (Good ace_storable) (grants clock w (connectionBit s) (resource_as e)) (gives clock (by clock s m) e)
       (gives_read clock s e w m r)
       (rows Aces t) (aces_good t g) in
       rw (granted, owner_read e w m r, no_owner_read e, connection_by_read clock s e m)

@@ -14,7 +14,7 @@ use Rattle.rules_typed.specs.Types.{All as AllRows, Numbered}
 use Rattle.rules_typed.specs.Checks.{has_subject, of_credentials, of_accesses}
 use Rattle.rules_typed.specs.Outcome.{places_by}
 use Rattle.rules_typed.specs.Struct.{Given}
-use Rattle.rules_typed.specs.Reading.{credential_as, access_of_lem, tables_of}
+use Rattle.rules_typed.specs.Reading.{credential_as, access_of, tables_of}
 use Rattle.rules_typed.specs.Tables.{is_bytes}
 use Rattle.rules_typed.proofs.ListLaws.{gap_read}
 use Rattle.rules_typed.proofs.ByteLaws.{Good}
@@ -40,9 +40,9 @@ places_read t g b h (Remove Creds Number) k =
     (rows Creds t) (creds_good t g)
 places_read t g b h (Remove Creds Subject) k =
     gap_read credential_as (Good cred_sound) (goes Subject b) (has_subject b) (λ w y. subject_key b w k) (rows Creds t) (creds_good t g)
-places_read t g b h (Remove Aces All) k = gap_read access_of_lem (Good ace_storable) (goes All b) (of_accesses AllRows) (λ w y. refl) (rows Aces t) (aces_good t g)
+places_read t g b h (Remove Aces All) k = gap_read access_of (Good ace_storable) (goes All b) (of_accesses AllRows) (λ w y. refl) (rows Aces t) (aces_good t g)
 places_read t g b h (Remove Aces Number) k =
-    gap_read access_of_lem (Good ace_storable) (goes Number b) (of_accesses (Numbered (row_number b))) (λ w y. number_key b w h k y.1 (ace_long w y)) (rows Aces t)
+    gap_read access_of (Good ace_storable) (goes Number b) (of_accesses (Numbered (row_number b))) (λ w y. number_key b w h k y.1 (ace_long w y)) (rows Aces t)
     (aces_good t g)
 places_read t g b h (Remove Aces Subject) k = absurd k
 places_read t g b h (Assert c) k = refl

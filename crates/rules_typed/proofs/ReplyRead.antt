@@ -18,7 +18,7 @@ use Rattle.rules_typed.specs.Types.{Resource, Security, Application}
 use Rattle.rules_typed.specs.Permission.{caller_of, credential_of, row_owner}
 use Rattle.rules_typed.specs.Reply.{contents, reply_to, own_roles}
 use Rattle.rules_typed.specs.Struct.{Given}
-use Rattle.rules_typed.specs.Reading.{state_of, owner_of, asserted_of, credential_as, access_of_lem, tables_of}
+use Rattle.rules_typed.specs.Reading.{state_of, owner_of, asserted_of, credential_as, access_of, tables_of}
 use Rattle.rules_typed.specs.States.{state_number}
 use Rattle.rules_typed.specs.Writing.{uuid_bytes, owner_bytes, credential_bytes, asserted_bytes, access_bytes, reply_bytes, owned_number, target_bytes, nil}
 use Rattle.rules_typed.proofs.ListLaws.{Each}
@@ -63,7 +63,7 @@ creds_back : (ws : List Row) → Each (Good cred_sound) ws → map credential_by
 creds_back [] q = refl
 creds_back (w ∷ ws) q = ap₂ (λ (x : List ℕ) (xs : List (List ℕ)). x ∷ xs) (credential_back w q.0) (creds_back ws q.1)
 
-pub aces_back : (ws : List Row) → Each (Good ace_storable) ws → map access_bytes (map access_of_lem ws) ≡ ws
+pub aces_back : (ws : List Row) → Each (Good ace_storable) ws → map access_bytes (map access_of ws) ≡ ws
 aces_back [] q = refl
 aces_back (w ∷ ws) q = ap₂ (λ (x : List ℕ) (xs : List (List ℕ)). x ∷ xs) (access_back w q.0) (aces_back ws q.1)
 

@@ -8,10 +8,10 @@ use Rattle.rules.proofs.BitLaws.{bits_small, bits_split, bits_byte, bit_small}
 use Rattle.rules.specs.Bits.{bits, be16, bit}
 use Rattle.rows.specs.Rows.{all_zero, same}
 use Rattle.rules.specs.Bodies.{is_nil, cred_storable, cred_subject, cred_type, cred_role, cred_authority, subject_storable, ace_kind, ace_subject, ace_authority}
-use Rattle.rules.specs.Bodies.{ace_storable, ace_first, ace_last, ace_permission, in_set as inSetBytes, set_known_lem, ace_role, ace_connection}
+use Rattle.rules.specs.Bodies.{ace_storable, ace_first, ace_last, ace_permission, in_set as inSetBytes, set_known, ace_role, ace_connection}
 use Rattle.rules_typed.proofs.PermissionRead.{nil_zeros, zeros_nil}
 use Rattle.rules_typed.specs.Types.{Credential, Role, Subject, IsUuid, HasRole, IsConnection, Access, Resource}
-use Rattle.rules_typed.specs.Reading.{credential_in, role_of, subject_of, access_of_lem, connection_as}
+use Rattle.rules_typed.specs.Reading.{credential_in, role_of, subject_of, access_of, connection_as}
 use Rattle.rules_typed.specs.Lists.{all, distinct, Maybe, none, just}
 use Rattle.rules_typed.proofs.ByteLaws.{bytes_take, bytes_drop, two_same, byte_at}
 use Rattle.rules_typed.specs.Writing.{credential_bytes, role_bytes, subject_bytes, access_bytes, set_bytes, be32, kind_number, flag, bits_from, in_set}
@@ -181,7 +181,7 @@ digits set w s (suc n) e k l =
 
 module _ (w : List ℕ) (h : is_bytes w ≡ true) where
   abbrev a : Access
-  a = access_of_lem w
+  a = access_of w
 
   access_valid : ace_storable w ≡ true → valid_access a ≡ true
   unfolding ace_storable valid_access
@@ -265,8 +265,8 @@ module _ (w : List ℕ) (h : is_bytes w ≡ true) where
     known_one n (known x) z = or_true_right (not (inSetBytes w (number_of x))) _ (ap (λ (r : ByteResource). r.known) (entry_read x))
     known_one n (unknown u f) z = let off : bit w (32 + n) ≡ 0 = sym (rw f at z) in rw off
 
-    all_known : (m : ℕ) → m ≤ 64 → set_known_lem w m ≡ true
-    unfolding set_known_lem
+    all_known : (m : ℕ) → m ≤ 64 → set_known w m ≡ true
+    unfolding set_known
     all_known zero l = refl
     all_known (suc m) l = and_both _ _ (known_one m (found m) (set_bit m (omega arith))) (all_known m (omega arith))
 

@@ -8,7 +8,7 @@ use Rattle.rules_typed.specs.Lists.{all, distinct, Maybe, none, just, is_none, a
 use Rattle.rules_typed.specs.Permission.{same_asserted}
 use Rattle.rules_typed.specs.Tables.{valid_credential, valid_access, is_bytes, same_credential, same_access, uuid_or_none, is_uuid, sound, valid_asserted}
 use Rattle.rules_typed.specs.Tables.{is_number, role_or_none}
-use Rattle.rules_typed.specs.Reading.{credential_as, access_of_lem, owner_of, state_of, owners_at, tables_of, asserted_of, credential_in, role_of, owner_at, same_tables}
+use Rattle.rules_typed.specs.Reading.{credential_as, access_of, owner_of, state_of, owners_at, tables_of, asserted_of, credential_in, role_of, owner_at, same_tables}
 use Rattle.rules_typed.specs.Reading.{read_tables}
 use Rattle.rules_typed.specs.Writing.{credential_row, access_bytes, uuid_bytes, nil, row_owner_bytes, owned_number, written_tables}
 use Rattle.rules_typed.proofs.RowWritten.{all_parts, credential_again, row_held, row_bytes_lem, uuid_bytes_lem}
@@ -21,7 +21,7 @@ use Rattle.rules_typed.proofs.ByteLaws.{Good, number_read, bytes_take, bits_take
 use Rattle.rules_typed.proofs.PermissionRead.{cred_long, ace_long, owned_one, owned_is, creds_good, aces_good, is_state_lem}
 use Rattle.rules_typed.proofs.RowExact.{uuid_long, uuid_there, cred_exact, access_exact, test_same}
 use Rattle.rules_typed.proofs.RowsRead.{zero_bytes, bytes_join, Place, role_same, each_without, places_good}
-use Rattle.rules_typed.specs.States.{state_number, is_state_lem}
+use Rattle.rules_typed.specs.States.{state_number, is_state}
 use Rattle.rules.specs.Tables.{head_sound, rows_sound, rows_in, sound as soundBytes, with_rows, rows, SoundRows}
 use Rattle.rules.specs.declared.Table.TheVariants.{Creds, Aces}
 use Rattle.rules.specs.Asserted.{Few}
@@ -46,7 +46,7 @@ credential_rows [] v = refl
 credential_rows (c ∷ cs) v =
     let x = all_parts valid_credential c cs v in ap₂ (λ (y : Credential) (ys : List Credential). y ∷ ys) (credential_again c x.0) (credential_rows cs x.1)
 
-access_rows : (xs : List Access) → all valid_access xs ≡ true → map access_of_lem (map access_bytes xs) ≡ xs
+access_rows : (xs : List Access) → all valid_access xs ≡ true → map access_of (map access_bytes xs) ≡ xs
 access_rows [] v = refl
 access_rows (a ∷ xs) v = let x = all_parts valid_access a xs v in ap₂ (λ (y : Access) (ys : List Access). y ∷ ys) (access_again a x.0) (access_rows xs x.1)
 
@@ -81,7 +81,7 @@ module _ {A : Type 0} (read : Row → A) (Q : Row → Type 0) (sameAs : A → A 
 pub same_credential_lem : (v w : Row) → Good cred_sound v → Good cred_sound w → same_credential (credential_as v) (credential_as w) ≡ numbered_as v w
 same_credential_lem v w g h = sym (number_read w h.1 (cred_long w h) v g.1 (cred_long v g))
 
-pub same_access_lem : (v w : Row) → Good ace_storable v → Good ace_storable w → same_access (access_of_lem v) (access_of_lem w) ≡ numbered_as v w
+pub same_access_lem : (v w : Row) → Good ace_storable v → Good ace_storable w → same_access (access_of v) (access_of w) ≡ numbered_as v w
 same_access_lem v w g h = sym (number_read w h.1 (ace_long w h) v g.1 (ace_long v g))
 
 pub good_each : (p : Row → Bool) (ws : List Row) → every p ws ≡ true → Each (λ w. is_bytes w ≡ true) ws → Each (Good p) ws
@@ -191,9 +191,9 @@ module _ (os : RowOwners) (g : OwnersGood os) where
 
 -- ---- sound typed tables, written
 
-head_written : (s : State) (m : Maybe Uuid) (os : List ℕ) (n k : ℕ) → uuid_or_none m ≡ true → (is_state_lem s RFOTM || not (is_none m)) ≡ true
+head_written : (s : State) (m : Maybe Uuid) (os : List ℕ) (n k : ℕ) → uuid_or_none m ≡ true → (is_state s RFOTM || not (is_none m)) ≡ true
     → head_sound (record { state = state_number s; owned = owned_number m; ncreds = n; naces = k; devowner = uuid_bytes m; rowners = os }) ≡ true
-unfolding head_sound is_state_lem is_nil nilBytes nil same
+unfolding head_sound is_state is_nil nilBytes nil same
 head_written RFOTM none os n k h e = refl
 head_written RFOTM (just u) os n k h e = rw (uuid_there u h)
 head_written RFPRO none os n k h e = contradiction e refl
@@ -225,7 +225,7 @@ module _ (T : Tables) (s : sound T ≡ true) where
     acl2_good = search (and_left, and_right) depth 9;
   }
 
-  state_good : (is_state_lem T.state RFOTM || not (is_none T.owner)) ≡ true
+  state_good : (is_state T.state RFOTM || not (is_none T.owner)) ≡ true
   unfolding sound
   state_good = search (and_left, and_right) depth 9
 
@@ -269,7 +269,7 @@ module _ (T : Tables) (s : sound T ≡ true) where
         few = rw length-map few;
         stores = stored;
         distinct =
-            sym (distinct_read access_of_lem (Good ace_storable) same_access same_access_lem xs
+            sym (distinct_read access_of (Good ace_storable) same_access same_access_lem xs
             (good_each ace_storable xs stored (accesses_bytes T.accesses aces_valid)))
             ∙ ap (distinct same_access) (access_rows T.accesses aces_valid) ∙ apart;
       }
@@ -297,7 +297,7 @@ module _ (T : Tables) (s : sound T ≡ true) where
     owners_long = owners_size T.row_owners four_good;
     creds_long = length-replicate {A = ℕ} 936 0;
     aces_long = length-replicate {A = ℕ} 1152 0;
-    owner_bytes_lem = uuid_good T.owner owner_good;
+    owner_bytes = uuid_good T.owner owner_good;
     owners_bytes = owners_bytes T.row_owners four_good;
     creds_bytes = zero_bytes 936;
     aces_bytes = zero_bytes 1152;
@@ -337,7 +337,7 @@ module _ (T : Tables) (s : sound T ≡ true) where
         uuid_again T.owner owner_good,
         owners_again T.row_owners four_good,
         ap (map credential_as) (rows_with Creds base cs creds_sound.few creds_sound.stores) ∙ credential_rows T.credentials creds_valid,
-        ap (map access_of_lem) (rows_with Aces (with_rows Creds base cs) xs aces_sound.few aces_sound.stores) ∙ access_rows T.accesses aces_valid,
+        ap (map access_of) (rows_with Aces (with_rows Creds base cs) xs aces_sound.few aces_sound.stores) ∙ access_rows T.accesses aces_valid,
       )
 
 -- ---- sound tables of bytes, read
@@ -398,18 +398,18 @@ credential_valid w g =
     let store = few_valid is few (each_without Place no_role (roles_of w) (places_good w g)) in
     with_roles w (map asserted_of is) (ap valid_credential (sym (body_same w)) ∙ body) store
 
-access_is_valid : (w : Row) → Good ace_storable w → valid_access (access_of_lem w) ≡ true
+access_is_valid : (w : Row) → Good ace_storable w → valid_access (access_of w) ≡ true
 access_is_valid w g = and_left _ _ (sym (access_exact w g.1) ∙ g.0)
 
-all_valid : {A : Type 0} (read : Row → A) (passes : A → Bool) (Q : Row → Type 0) → ((w : Row) → Q w → passes (read w) ≡ true) → (ws : List Row) → Each Q ws
+pub all_valid : {A : Type 0} (read : Row → A) (passes : A → Bool) (Q : Row → Type 0) → ((w : Row) → Q w → passes (read w) ≡ true) → (ws : List Row) → Each Q ws
     → all passes (map read ws) ≡ true
 unfolding all
 all_valid read passes Q e [] q = refl
 all_valid read passes Q e (w ∷ ws) q = and_both _ _ (e w q.0) (all_valid read passes Q e ws q.1)
 
-first_state : (s : ℕ) → IsState s → is_state_lem (state_of s) RFOTM ≡ eqb s 1
-unfolding state_of is_state_lem
-first_state s h = of_state (λ s. is_state_lem (state_of s) RFOTM ≡ eqb s 1) refl refl refl refl s h
+first_state : (s : ℕ) → IsState s → is_state (state_of s) RFOTM ≡ eqb s 1
+unfolding state_of is_state
+first_state s h = of_state (λ s. is_state (state_of s) RFOTM ≡ eqb s 1) refl refl refl refl s h
 
 module _ (t : ByteTables) (g : Given t) where
   row_owner_good : (n : ℕ) → n ≤ 3 → uuid_or_none (owner_at n t.rowners) ≡ true
@@ -419,7 +419,7 @@ module _ (t : ByteTables) (g : Given t) where
       owner_valid (take 16 (drop (n * 16) x)) (length-take-le 16 (drop (n * 16) x) (rw length-drop (omega arith)))
       (bytes_take 16 (drop (n * 16) x) (bytes_drop (n * 16) x g.struct.owners_bytes))
 
-  state_or_owner : (is_state_lem (state_of t.state) RFOTM || not (is_none (owner_of t.devowner))) ≡ true
+  state_or_owner : (is_state (state_of t.state) RFOTM || not (is_none (owner_of t.devowner))) ≡ true
   unfolding head_sound
   state_or_owner =
       let h = (sound_parts t g.is_sound).head in
@@ -432,11 +432,11 @@ module _ (t : ByteTables) (g : Given t) where
       let cs = creds_good t g in
       let xs = aces_good t g in
       let few-creds : leb (length (map credential_as (rows Creds t))) 24 ≡ true = rw length-map (le-leb _ 24 (few_rows Creds t g.is_sound)) in
-      let few-aces : leb (length (map access_of_lem (rows Aces t))) 32 ≡ true = rw length-map (le-leb _ 32 (few_rows Aces t g.is_sound)) in
+      let few-aces : leb (length (map access_of (rows Aces t))) 32 ≡ true = rw length-map (le-leb _ 32 (few_rows Aces t g.is_sound)) in
       let creds-apart =
       distinct_read credential_as (Good cred_sound) same_credential same_credential_lem (rows Creds t) cs ∙ (table_parts Creds t g.is_sound).distinct in
-      let aces-apart = distinct_read access_of_lem (Good ace_storable) same_access same_access_lem (rows Aces t) xs ∙ (table_parts Aces t g.is_sound).distinct in
-      let owner = owner_valid t.devowner g.struct.owner_long g.struct.owner_bytes_lem in
+      let aces-apart = distinct_read access_of (Good ace_storable) same_access same_access_lem (rows Aces t) xs ∙ (table_parts Aces t g.is_sound).distinct in
+      let owner = owner_valid t.devowner g.struct.owner_long g.struct.owner_bytes in
       let owners =
       and_both _ _ (and_both _ _ (and_both _ _ (and_both _ _ owner (row_owner_good 0 (omega arith))) (row_owner_good 1 (omega arith)))
       (row_owner_good 2 (omega arith))) (row_owner_good 3 (omega arith)) in
@@ -448,7 +448,7 @@ module _ (t : ByteTables) (g : Given t) where
       (and_both _ _
       (and_both _ _ few-creds few-aces)
       (all_valid credential_as valid_credential (Good cred_sound) credential_valid (rows Creds t) cs))
-      (all_valid access_of_lem valid_access (Good ace_storable) access_is_valid (rows Aces t) xs))
+      (all_valid access_of valid_access (Good ace_storable) access_is_valid (rows Aces t) xs))
       creds-apart)
       aces-apart)
       owners)

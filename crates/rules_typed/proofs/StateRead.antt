@@ -6,7 +6,7 @@ use Rattle.rules.specs.Checks.{offered}
 use Rattle.rules_typed.specs.Lists.{Maybe, none, just, any, is_none}
 use Rattle.rules_typed.specs.Types.{Uuid, RFNOP, Verb, Create, Retrieve, Update, Delete, Observe, SecurityResource, Doxm, Pstat, Cred, Acl2, Roles}
 use Rattle.rules_typed.specs.Types.{Security}
-use Rattle.rules_typed.specs.States.{owned, may_move, state_number, allowed, is_state_lem}
+use Rattle.rules_typed.specs.States.{owned, may_move, state_number, allowed, is_state}
 use Rattle.rules_typed.specs.Checks.{needs, offers, offers_delete}
 use Rattle.rules_typed.specs.Reading.{verb_of, state_of, target_of}
 use Rattle.rules_typed.specs.Directory.{security_number}
@@ -33,9 +33,9 @@ pub state_back : (s : ℕ) → IsState s → state_number (state_of s) ≡ s
 unfolding state_of
 state_back s h = of_state (λ s. state_number (state_of s) ≡ s) refl refl refl refl s h
 
-pub serves_read : (s : ℕ) → IsState s → is_state_lem (state_of s) RFNOP ≡ eqb s 3
-unfolding state_of is_state_lem
-serves_read s h = of_state (λ s. is_state_lem (state_of s) RFNOP ≡ eqb s 3) refl refl refl refl s h
+pub serves_read : (s : ℕ) → IsState s → is_state (state_of s) RFNOP ≡ eqb s 3
+unfolding state_of is_state
+serves_read s h = of_state (λ s. is_state (state_of s) RFNOP ≡ eqb s 3) refl refl refl refl s h
 
 pub owners_read : (s : ℕ) → IsState s → (allowed (state_of s)).row_owners ≡ write_allowed s 1
 unfolding state_of write_allowed
@@ -54,7 +54,7 @@ unfolding state_of write_allowed
 owner_read s o h = of_state (λ s. (allowed (state_of s)).doxm o ≡ (write_allowed s 0 && (not (eqb s 4) || owned o))) refl refl refl refl s h
 
 pub move_read : (s target : ℕ) (o : Maybe Uuid) → IsState s → target ≤ 4 → may_move (state_of s) o (target_of target) ≡ move_listed s (owned o) target
-unfolding state_of target_of move_listed any is_state_lem
+unfolding state_of target_of move_listed any is_state
 move_read s target o h l =
     of_state (λ s. may_move (state_of s) o (target_of target) ≡ move_listed s (owned o) target)
     (first o) (to_four (At 2) refl refl refl refl refl target l) (to_four (At 3) refl refl refl refl refl target l)

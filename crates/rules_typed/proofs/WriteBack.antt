@@ -7,11 +7,11 @@ use Rattle.rows.specs.Rows.{Row, all_zero}
 use Rattle.rows.proofs.Laws.{zeros_replicate}
 use Rattle.rules.specs.Bits.{bit, bits, be16}
 use Rattle.rules.specs.Bodies.{row_number, cred_subject, cred_role, cred_authority, cred_type, cred_storable, ace_kind, ace_permission, ace_subject, ace_authority}
-use Rattle.rules.specs.Bodies.{ace_role, ace_connection, ace_storable, subject_storable, set_known_lem, in_set as inSetBytes}
+use Rattle.rules.specs.Bodies.{ace_role, ace_connection, ace_storable, subject_storable, set_known, in_set as inSetBytes}
 use Rattle.rules.specs.Roles.{body_of, cred_sound}
 use Rattle.rules.proofs.BitLaws.{bits_split, bits_byte, bits_small, bit_small}
 use Rattle.rules.proofs.RecordLaws.{key_is}
-use Rattle.rules_typed.specs.Reading.{connection_as, role_of, asserted_of, credential_as, subject_of, access_of_lem}
+use Rattle.rules_typed.specs.Reading.{connection_as, role_of, asserted_of, credential_as, subject_of, access_of}
 use Rattle.rules_typed.specs.Tables.{is_bytes}
 use Rattle.rules_typed.specs.Writing.{flag, be32, connection_number, role_bytes, credential_bytes, asserted_bytes, kind_number, subject_bytes, set_bytes}
 use Rattle.rules_typed.specs.Writing.{access_bytes, in_set, bits_from}
@@ -117,8 +117,8 @@ pub flag_back : (x : ℕ) → x < 2 → flag (eqb x 1) ≡ x
 flag_back x h = bool_cases (eqb x 1) (λ e. rw e (sym (eqb-true x 1 e))) (λ e. rw e (omega (arith, eqb-false x 1 e)))
 
 -- the set of resources: of a known number its bit, of an unknown one 0
-set_known_lem : (w : Row) (m n : ℕ) → n < m → set_known_lem w m ≡ true → (not (inSetBytes w n) || knownNumber n) ≡ true
-unfolding set_known_lem
+set_known_lem : (w : Row) (m n : ℕ) → n < m → set_known w m ≡ true → (not (inSetBytes w n) || knownNumber n) ≡ true
+unfolding set_known
 set_known_lem w zero n l h = absurd (omega arith)
 set_known_lem w (suc m) n l h =
     bool_cases (eqb n m)
@@ -126,9 +126,9 @@ set_known_lem w (suc m) n l h =
     (λ e. set_known_lem w m n (omega (arith, eqb-false n m e)) (and_right (not (inSetBytes w m) || knownNumber m) _ h))
 
 abbrev set_of : Row → Resource → Bool
-set_of w = (access_of_lem w).resources
+set_of w = (access_of w).resources
 
-module _ (w : Row) (k : set_known_lem w 64 ≡ true) where
+module _ (w : Row) (k : set_known w 64 ≡ true) where
   number_back : (n : ℕ) → Found n → (not (inSetBytes w n) || knownNumber n) ≡ true → flag (in_set (set_of w) n) ≡ bit w (32 + n)
   unfolding in_set
   number_back n (known e) h = rw (resource_read e) (flag_back (bit w (32 + number_of e)) (bit_small w (32 + number_of e)))
@@ -196,13 +196,13 @@ module _ (w : Row) (h : is_bytes w ≡ true) (l : length w ≡ 36) where
       })
       (λ g. contradiction (rw (e, f, g) at k) refl)))
 
-pub access_back : (w : Row) → Good ace_storable w → access_bytes (access_of_lem w) ≡ w
+pub access_back : (w : Row) → Good ace_storable w → access_bytes (access_of w) ≡ w
 unfolding access_bytes set_bytes ace_storable bytes_at
 access_back w (e, h) =
     let l : length w ≡ 36 = eqb-true (length w) 36 (search (and_left, and_right)) in
     let k : subject_storable w ≡ true = search (and_left, and_right) in
     let zeros : bits w 26 6 ≡ 0 = eqb-true (bits w 26 6) 0 (search (and_left, and_right)) in
-    let n : set_known_lem w 64 ≡ true = search (and_left, and_right) in
+    let n : set_known w 64 ≡ true = search (and_left, and_right) in
     let s = subject_back w h l k in
     let second : ace_kind w * 64 + ace_permission w * 2 + bits w 23 1 ≡ bits w 16 8 = omega (arith, bits_split w 16 2 6, bits_split w 18 5 1) in
     let third : bits w 24 1 * 128 + bits w 25 1 * 64 ≡ bits w 24 8 = omega (arith, bits_split w 24 1 7, bits_split w 25 1 6, zeros) in

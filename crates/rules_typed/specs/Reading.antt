@@ -67,8 +67,8 @@ subject_of w =
     (IsConnection (connection_as (bits w 223 1)))
 
 -- number (16), subject kind (2), permission (5), wildcards (3), zeros (6), set (64), subject (128), first (32), last (32)
-abbrev pub access_of_lem : Row → Access
-access_of_lem w = record {
+abbrev pub access_of : Row → Access
+access_of w = record {
   number = bits w 0 16;
   subject = subject_of w;
   permission = bits w 18 5;
@@ -98,7 +98,7 @@ read_credential b = read_as valid_credential credential_bytes b (credential_in b
 
 -- 36 bytes
 unfoldable pub read_access : Bytes → Maybe Access
-read_access b = read_as valid_access access_bytes b (access_of_lem b)
+read_access b = read_as valid_access access_bytes b (access_of b)
 
 -- 8 bytes
 unfoldable pub read_asserted : Bytes → Maybe Asserted
@@ -119,7 +119,7 @@ tables_of t = record {
   owner = owner_of t.devowner;
   row_owners = owners_at t.rowners;
   credentials = map credential_as (rows Creds t);
-  accesses = map access_of_lem (rows Aces t);
+  accesses = map access_of (rows Aces t);
 }
 
 unfoldable pub same_tables : ByteTables → ByteTables → Bool

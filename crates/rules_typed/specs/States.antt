@@ -11,8 +11,8 @@ state_number RFPRO = 2
 state_number RFNOP = 3
 state_number SRESET = 4
 
-unfoldable pub is_state_lem : State → State → Bool
-is_state_lem s other = eqb (state_number s) (state_number other)
+unfoldable pub is_state : State → State → Bool
+is_state s other = eqb (state_number s) (state_number other)
 
 -- ---- what a state allows: 11 if it does not
 
@@ -45,7 +45,7 @@ allowed SRESET = row owned true true true
 -- security resources are read in every state; application resources are served in RFNOP only;
 -- roles are asserted in RFNOP and over connection 1 only (U11)
 abbrev pub state_allows : State → Connection → Action → Bool
-state_allows s c Serve = is_state_lem s RFNOP
+state_allows s c Serve = is_state s RFNOP
 state_allows s c Read = true
 state_allows s c (SetRowOwner e owner) = (allowed s).row_owners
 state_allows s c (SetOwner owner) = (allowed s).doxm owner
@@ -55,7 +55,7 @@ state_allows s c (StoreAccess row) = (allowed s).rows
 state_allows s c (DeleteCredentials which) = (allowed s).rows
 state_allows s c (DeleteSubject subject) = (allowed s).rows
 state_allows s c (DeleteAccesses which) = (allowed s).rows
-state_allows s c (AssertRole role) = is_state_lem s RFNOP && same_connection c AuthCrypt
+state_allows s c (AssertRole role) = is_state s RFNOP && same_connection c AuthCrypt
 
 -- ---- targets: 12 if it is not on the list
 
@@ -69,4 +69,4 @@ targets SRESET owner = RFPRO ∷ []
 
 abbrev pub may_move : State → Maybe Uuid → Target → Bool
 may_move s owner Reset = true
-may_move s owner (To target) = any (is_state_lem target) (targets s owner)
+may_move s owner (To target) = any (is_state target) (targets s owner)

@@ -6,7 +6,7 @@ use Rattle.rows.specs.Rows.{all_zero}
 use Rattle.rules_typed.specs.Lists.{Maybe, none, just, is_none, all, distinct}
 use Rattle.rules_typed.specs.Types.{Bytes, Uuid, RFOTM, Role, Asserted, Credential, Subject, IsUuid, HasRole, IsConnection, Access, Tables}
 use Rattle.rules_typed.specs.Permission.{same_asserted}
-use Rattle.rules_typed.specs.States.{is_state_lem}
+use Rattle.rules_typed.specs.States.{is_state}
 
 -- ---- each row is a row that a body could store
 
@@ -77,7 +77,7 @@ sound t =
     && distinct same_access t.accesses
     && (uuid_or_none t.owner && uuid_or_none t.row_owners.doxm && uuid_or_none t.row_owners.pstat && uuid_or_none t.row_owners.cred && uuid_or_none
     t.row_owners.acl2)
-    && (is_state_lem t.state RFOTM || not (is_none t.owner))
+    && (is_state t.state RFOTM || not (is_none t.owner))
 
 -- ---- fresh tables: state 1, owned 0, owners nil, and the build's default rows (U5)
 

@@ -1,14 +1,14 @@
 // A text that nearly always fits, copied where it is put: faster than `put`, and more code at each call.
 // What goes over the buffer's end is put as `put` does.
 ghost use Rattle.text.specs.Buffer.{Puts};
-ghost use Rattle.rows.specs.Words.{was, became};
+ghost use Rattle.rows.specs.Words.{was};
 
 use crate::{advance, copy};
 
 // A text.
 // Rules out: a text cut one byte early; bytes before the position touched.
 pub fn put(out: &mut [u8], at: usize, text: &[u8]) -> usize
-    ensures { Puts (was out) at (was text) (became out) result }
+    ensures { Puts out.old at (was text) out.new result }
 {
     let size = out.len();
     if size <= at {

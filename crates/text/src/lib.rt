@@ -5,14 +5,14 @@
 pub mod direct;
 
 ghost use Rattle.std.specs.Prelude.{◌≡◌, [], ◌∷◌, min, ◌+◌, ◌≤◌, length};
-ghost use Rattle.rows.specs.Words.{was, became};
+ghost use Rattle.rows.specs.Words.{was};
 ghost use Rattle.text.specs.Text.{decimal};
 ghost use Rattle.text.specs.Buffer.{largest, Puts, Counts};
 
 // One byte. The largest position stays where it is.
 // Rules out: a byte written past the end; a position that stops at the end.
 pub fn put_byte(out: &mut [u8], at: usize, b: u8) -> usize
-    ensures { Puts (was out) at (b ∷ []) (became out) result }
+    ensures { Puts out.old at (b ∷ []) out.new result }
 {
     if at < out.len() {
         out[at] = b;
@@ -24,7 +24,7 @@ pub fn put_byte(out: &mut [u8], at: usize, b: u8) -> usize
 // A text that fits, in one copy.
 fn copy(out: &mut [u8], at: usize, text: &[u8]) -> usize
     requires { at + length text.now ≤ length out.old }
-    ensures { Puts (was out) at (was text) (became out) result }
+    ensures { Puts out.old at (was text) out.new result }
 {
     let mut p = at;
     let mut i = 0;
@@ -51,7 +51,7 @@ fn advance(at: usize, count: usize) -> usize
 // It calls itself, one deep, so it is in the code once: crate `reply`, which must be fast, has `direct::put`.
 // Rules out: a text cut one byte early; bytes before the position touched.
 pub fn put(out: &mut [u8], at: usize, text: &[u8]) -> usize
-    ensures { Puts (was out) at (was text) (became out) result }
+    ensures { Puts out.old at (was text) out.new result }
 {
     let size = out.len();
     if size <= at {
@@ -68,7 +68,7 @@ pub fn put(out: &mut [u8], at: usize, text: &[u8]) -> usize
 // A number in decimal: the digits of its tenth, and then its last digit.
 // Rules out: zeros before the number; the digits the other way round.
 pub fn put_decimal(out: &mut [u8], at: usize, n: usize) -> usize
-    ensures { Puts (was out) at (decimal n) (became out) result }
+    ensures { Puts out.old at (decimal n) out.new result }
 {
     let digit = (48 + n % 10) as u8;
     if n < 10 {

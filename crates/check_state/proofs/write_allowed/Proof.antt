@@ -1,5 +1,5 @@
 -- `write_allowed`: the array of arrays is the definition's, and past its rows there is none.
-use Rattle.rows.proofs.Prelude.{◌≡◌, sym, ap, ◌∙◌, Bool, false, List, [], ℕ, ◌+◌, ◌-◌, ◌<◌, arith, get_or, needs}
+use Rattle.rows.proofs.Prelude.{◌≡◌, sym, ap, ◌∙◌, Bool, false, List, [], ℕ, ◌+◌, ◌-◌, ◌<◌, arith, get_or, rules}
 use lib.Seq.{get_or-append-add}
 use Rattle.rules.specs.States.{writes, write_allowed}
 use Rattle.check_state.proofs.write_allowed.Tie as tie
@@ -12,5 +12,5 @@ no_row state h =
 pub write_allowed_spec : {M : Type 1} → Rattle.check_state.proofs.write_allowed.Statement.statement M
 unfolding write_allowed
 write_allowed_spec = tie.close (tie.spec
-    (λ c. sym (ap (λ (row : List Bool). get_or row c.before.args.kind false) (no_row _ c.if1.true)))
-    (λ c. search needs) (λ c. search needs) (λ c. search needs) (λ c. search needs))
+    (λ c. sym (ap (λ (row : List Bool). get_or row c.before.args.kind false) (no_row _ c.if-s-gt4.true)))
+    (λ c. search rules) (λ c. search rules) (λ c. search rules) (λ c. search rules))

@@ -4,7 +4,7 @@ use Rattle.list_row.proofs.OldRows.{bad_is}
 use Rattle.list_row.proofs.is_bad.Tie as tie
 
 returns : tie.Need-returns
-returns c = rw (c.set_known_lem.ensures, c.before.skip.ensures) (bad_is _ _ c.before.before.flags.ensures)
+returns c = rw (c.set_known.ensures, c.before.skip.ensures) (bad_is _ _ c.before.before.flags.ensures)
 
 pub is_bad_spec : {M : Type 1} → Rattle.list_row.proofs.is_bad.Statement.statement M
 is_bad_spec = tie.close (tie.spec (λ c κs. search rules) (λ c κs. search rules) (λ c κs. search rules) returns)

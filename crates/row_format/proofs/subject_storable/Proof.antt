@@ -1,6 +1,6 @@
 -- `subject_storable`: the first eight bytes, then by the kind.
 use Rattle.rows.proofs.Prelude.{◌≡◌, refl, sym, ap, ◌∙◌, Bool, false, true, not, ◌&&◌, List, [], ◌∷◌, ◌++◌, ℕ, length, take, drop, replicate, take_all}
-use Rattle.rows.proofs.Prelude.{length-take-le, length-drop, arith, eqb, needs, bool_cases, eq-eqb, ne_eqb, not-false, not-true}
+use Rattle.rows.proofs.Prelude.{length-take-le, length-drop, arith, eqb, rules, bool_cases, ne_eqb}
 use mathlib.Core.Bool.{and_assoc}
 use lib.Seq.{take-add}
 use Rattle.rows.specs.Rows.{Row, all_zero, same}
@@ -58,89 +58,64 @@ connection : (k : ℕ) (eight three role zeros : Bool) → eqb k 0 ≡ false →
 connection k eight three role zeros e f = rw (e, f) (bool_cases (eqb k 2) (λ g. rw g) (λ g. rw g))
 
 -- what the first test says, and the kind
-first_is : (c : tie.After-short-zero) → let row = c.before.before.before.before.before.args.row.now in c.short-zero.result ≡ all_zero (take 8 (ace_subject row))
+first_is : (c : tie.After-short_zero) → let row = c.before.before.before.before.before.args.row.now in c.short_zero.result ≡ all_zero (take 8 (ace_subject row))
 first_is c =
-    c.short-zero.ensures ∙ ap all_zero (c.before.part.ensures ∙ ap (λ (s : List ℕ). take 8 s) c.before.before.before.subject.ensures)
+    c.short_zero.ensures ∙ ap all_zero (c.before.part.ensures ∙ ap (λ (s : List ℕ). take 8 s) c.before.before.before.subject-subject.ensures)
 
-returns : tie.Need-returns
+returns : tie.Need-returns-then-not-short_zero
 returns c =
-    let z = c.before in
-    let k = z.before.before in
-    let start = k.before.before.before in
-    rw (storable_parts _ start.requires, sym (first_is z) ∙ not-true _ c.if1.true, ← k.kind.ensures) (first_set k.kind.result true true true true true)
+    rw (storable_parts _ c.before.before.before.before.before.before.requires, sym (first_is c.before) ∙ c.if-not-short_zero.true, ← c.before.before.before.kind-kind.ensures) (first_set c.before.before.before.kind-kind.result true true true true true)
 
-returns_2 : tie.Need-returns-2
+returns_2 : tie.Need-returns-then-kind-eq-UUID
 returns_2 c =
-    let k0 = c.before.before in
-    let z = k0.before.before in
-    let k = z.before.before in
-    let start = k.before.before.before in
     rw (
-      storable_parts _ start.requires,
-      sym (first_is z) ∙ not-false _ k0.before.if1.false,
-      sym k.kind.ensures ∙ k0.if2.true,
-      c.short-zero2.ensures,
-      c.before.part2.ensures,
-      k.before.subject.ensures,
+      storable_parts _ c.before.before.before.before.before.before.before.before.before.requires,
+      sym (first_is c.before.before.before.before) ∙ c.before.before.before.if-not-short_zero.false,
+      sym c.before.before.before.before.before.before.kind-kind.ensures ∙ c.before.before.if-kind-eq-UUID.true,
+      c.short_zero-then-kind-eq-UUID.ensures,
+      c.before.part-then-kind-eq-UUID.ensures,
+      c.before.before.before.before.before.before.before.subject-subject.ensures,
     )
 
-returns_3 : tie.Need-returns-3
+returns_3 : tie.Need-returns-then-not-short_zero-2
 returns_3 c =
-    let four = c.before in
-    let k0 = four.before.before in
-    let z = k0.before.before in
-    let k = z.before.before in
-    let start = k.before.before.before in
     rw (
-      storable_parts _ start.requires,
-      sym (first_is z) ∙ not-false _ k0.before.if1.false,
-      sym (four.short-zero3.ensures ∙ ap all_zero (four.before.part3.ensures ∙ ap (λ (s : List ℕ). take 4 (drop 8 s)) k.before.subject.ensures)) ∙ not-true _ c.if3.true,
-      ← k.kind.ensures,
+      storable_parts _ c.before.before.before.before.before.before.before.before.before.before.requires,
+      sym (first_is c.before.before.before.before.before) ∙ c.before.before.before.before.if-not-short_zero.false,
+      sym (c.before.short_zero-2.ensures ∙ ap all_zero (c.before.before.part-2.ensures ∙ ap (λ (s : List ℕ). take 4 (drop 8 s)) c.before.before.before.before.before.before.before.before.subject-subject.ensures)) ∙ c.if-not-short_zero-2.true,
+      ← c.before.before.before.before.before.before.before.kind-kind.ensures,
     )
-    (four_set k.kind.result (all_zero (take 8 (drop 8 (ace_subject start.args.row.now)))) true true true (ne_eqb _ 0 k0.if2.false))
+    (four_set c.before.before.before.before.before.before.before.kind-kind.result (all_zero (take 8 (drop 8 (ace_subject c.before.before.before.before.before.before.before.before.before.before.args.row.now)))) true true true (ne_eqb _ 0 c.before.before.before.if-kind-eq-UUID.false))
 
-returns_4 : tie.Need-returns-4
+returns_4 : tie.Need-returns-then-kind-eq-ROLE
 returns_4 c =
-    let k1 = c.before in
-    let four = k1.before.before in
-    let k0 = four.before.before in
-    let z = k0.before.before in
-    let k = z.before.before in
-    let start = k.before.before.before in
     rw (
-      storable_parts _ start.requires,
-      sym (first_is z) ∙ not-false _ k0.before.if1.false,
-      sym (four.short-zero3.ensures ∙ ap all_zero (four.before.part3.ensures ∙ ap (λ (s : List ℕ). take 4 (drop 8 s)) k.before.subject.ensures)) ∙ not-false _ k1.before.if3.false,
-      sym k.kind.ensures ∙ k1.if4.true,
+      storable_parts _ c.before.before.before.before.before.before.before.before.before.before.before.before.requires,
+      sym (first_is c.before.before.before.before.before.before.before) ∙ c.before.before.before.before.before.before.if-not-short_zero.false,
+      sym (c.before.before.before.short_zero-2.ensures ∙ ap all_zero (c.before.before.before.before.part-2.ensures ∙ ap (λ (s : List ℕ). take 4 (drop 8 s)) c.before.before.before.before.before.before.before.before.before.before.subject-subject.ensures)) ∙ c.before.before.if-not-short_zero-2.false,
+      sym c.before.before.before.before.before.before.before.before.before.kind-kind.ensures ∙ c.before.if-kind-eq-ROLE.true,
       c.role.ensures,
     )
 
-returns_5 : tie.Need-returns-5
+returns_5 : tie.Need-returns
 returns_5 c =
-    let three = c.before in
-    let k1 = three.before.before in
-    let four = k1.before.before in
-    let k0 = four.before.before in
-    let z = k0.before.before in
-    let k = z.before.before in
-    let start = k.before.before.before in
     rw (
-      storable_parts _ start.requires,
-      sym (first_is z) ∙ not-false _ k0.before.if1.false,
-      sym (four.short-zero3.ensures ∙ ap all_zero (four.before.part3.ensures ∙ ap (λ (s : List ℕ). take 4 (drop 8 s)) k.before.subject.ensures)) ∙ not-false _ k1.before.if3.false,
-      ← k.kind.ensures,
-      c.connection-zeros.ensures,
-      three.short-zero4.ensures,
-      three.before.part4.ensures,
-      k.before.subject.ensures,
+      storable_parts _ c.before.before.before.before.before.before.before.before.before.before.before.before.before.before.requires,
+      sym (first_is c.before.before.before.before.before.before.before.before.before) ∙ c.before.before.before.before.before.before.before.before.if-not-short_zero.false,
+      sym (c.before.before.before.before.before.short_zero-2.ensures ∙ ap all_zero (c.before.before.before.before.before.before.part-2.ensures ∙ ap (λ (s : List ℕ). take 4 (drop 8 s)) c.before.before.before.before.before.before.before.before.before.before.before.before.subject-subject.ensures)) ∙ c.before.before.before.before.if-not-short_zero-2.false,
+      ← c.before.before.before.before.before.before.before.before.before.before.before.kind-kind.ensures,
+      c.connection_zeros.ensures,
+      c.before.short_zero-3.ensures,
+      c.before.before.part-3.ensures,
+      c.before.before.before.before.before.before.before.before.before.before.before.before.subject-subject.ensures,
     )
-    (connection k.kind.result (all_zero (take 8 (drop 8 (ace_subject start.args.row.now)))) (all_zero (take 3 (drop 12 (ace_subject start.args.row.now))))
-    (not (eqb (ace_role start.args.row.now) 0)) (eqb (bits start.args.row.now 216 7) 0) (ne_eqb _ 0 k0.if2.false) (ne_eqb _ 1 k1.if4.false))
+    (connection c.before.before.before.before.before.before.before.before.before.before.before.kind-kind.result (all_zero (take 8 (drop 8 (ace_subject c.before.before.before.before.before.before.before.before.before.before.before.before.before.before.args.row.now)))) (all_zero (take 3 (drop 12 (ace_subject c.before.before.before.before.before.before.before.before.before.before.before.before.before.before.args.row.now))))
+    (not (eqb (ace_role c.before.before.before.before.before.before.before.before.before.before.before.before.before.before.args.row.now) 0)) (eqb (bits c.before.before.before.before.before.before.before.before.before.before.before.before.before.before.args.row.now 216 7) 0) (ne_eqb _ 0 c.before.before.before.before.before.before.before.if-kind-eq-UUID.false) (ne_eqb _ 1 c.before.before.before.if-kind-eq-ROLE.false))
 
 pub subject_storable_spec : {M : Type 1} → Rattle.row_format.proofs.subject_storable.Statement.statement M
 subject_storable_spec = tie.close (tie.spec
-    (λ c κs. search needs) (λ c κs. search needs) (λ c κs. search needs) (λ c κs. search needs) returns
-    (λ c κs. search needs) (λ c κs. search needs) returns_2
-    (λ c κs. search needs) (λ c κs. search needs) returns_3
-    (λ c κs. search needs) returns_4
-    (λ c κs. search needs) (λ c κs. search needs) (λ c κs. search needs) returns_5)
+    (λ c κs. search rules) (λ c κs. search rules) (λ c κs. search rules) (λ c κs. search rules) returns
+    (λ c κs. search rules) (λ c κs. search rules) returns_2
+    (λ c κs. search rules) (λ c κs. search rules) returns_3
+    (λ c κs. search rules) returns_4
+    (λ c κs. search rules) (λ c κs. search rules) (λ c κs. search rules) returns_5)

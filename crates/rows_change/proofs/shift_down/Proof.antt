@@ -1,15 +1,15 @@
 -- `shift_down` meets its contract. The loop's invariant: the first `i` bytes are those from `n` on, the others as they were.
 -- Assumes nothing.
 use Rattle.rows.proofs.Prelude.{◌≡◌, refl, ◌∙◌, List, ◌++◌, ℕ, ◌+◌, ◌-◌, ◌≤◌, ◌<◌, add_comm, add-one, arith, length, take, drop, get_or, set, replicate}
-use Rattle.rows.proofs.Prelude.{length-drop, length-set, get_or-drop, take_all, take_at, needs}
+use Rattle.rows.proofs.Prelude.{length-drop, length-set, get_or-drop, take_all, take_at, rules}
 use Rattle.rows.proofs.Laws.{copy_suc, get_d_behind, take_rest, lent_rest}
 use Rattle.rows_change.proofs.shift_down.Tie as tie
 
-abbrev invariant_loop : tie.invariant_loop
+abbrev invariant_loop : tie.invariant-loop-i
 invariant_loop bytes₀ n kept i₀ bytes i =
     (i ≤ kept) × (kept + n ≡ length bytes₀) × (length bytes ≡ length bytes₀) × (bytes ≡ take i (drop n bytes₀) ++ drop i bytes₀)
 
-abbrev decreases_loop : tie.decreases_loop
+abbrev decreases_loop : tie.decreases-loop-i
 decreases_loop bytes₀ n kept i₀ bytes i = kept - i
 
 module _ (bytes₀ bytes : List ℕ) (n kept i : ℕ) (inv : invariant_loop bytes₀ n kept 0 bytes i) where
@@ -36,13 +36,12 @@ module _ (bytes₀ bytes : List ℕ) (n kept i : ℕ) (inv : invariant_loop byte
 
 returns : tie.Need-returns invariant_loop decreases_loop
 returns c =
-    let after = c.before.before.before.before in
-    end _ _ _ _ _ after.before.loop.invariant after.loop-test.false _ c.before.before.clear.ensures
+    end _ _ _ _ _ c.before.before.before.before.before.loop-i.invariant c.before.before.before.before.loop-i-test.false _ c.before.before.clear.ensures
 
 pub shift_down_spec : {M : Type 1} → Rattle.rows_change.proofs.shift_down.Statement.statement M
 shift_down_spec = tie.close (tie.spec
-    invariant_loop decreases_loop (λ c. search needs) (λ c. (search needs, omega arith, refl, refl))
-    (λ c. search needs) (λ c. search needs) (λ c. search needs) (λ c. search needs) (λ c. search needs)
-    (λ c. turn _ _ _ _ _ c.before.before.loop.invariant c.before.loop-test.true)
-    (λ c. search needs) (λ c. search needs) (λ c. search needs) (λ c κs. tt)
-    (λ c. c.before.bytes.given.1 ∙ c.before.before.before.before.before.loop.invariant.2) returns)
+    invariant_loop decreases_loop (λ c. search rules) (λ c. (search rules, omega arith, refl, refl))
+    (λ c. search rules) (λ c. search rules) (λ c. search rules) (λ c. search rules) (λ c. search rules)
+    (λ c. turn _ _ _ _ _ c.before.before.loop-i.invariant c.before.loop-i-test.true)
+    (λ c. search rules) (λ c. search rules) (λ c. search rules) (λ c κs. tt)
+    (λ c. c.before.bytes-1.given.1 ∙ c.before.before.before.before.before.loop-i.invariant.2) returns)

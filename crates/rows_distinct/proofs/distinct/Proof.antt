@@ -6,4 +6,4 @@ use Rattle.rows.proofs.Repeat.{distinct_repeat}
 use Rattle.rows_distinct.proofs.distinct.Tie as tie
 
 pub distinct_spec : {M : Type 1} → Rattle.rows_distinct.proofs.distinct.Statement.statement M
-distinct_spec = tie.close (tie.spec (λ c κs. search rules) (λ c. rw (distinct_repeat _, length_rows_of, c.before-repeat.ensures)))
+distinct_spec = tie.close (tie.spec (λ c κs. search rules) (λ c. rw (distinct_repeat _, length_rows_of, c.before_repeat.ensures)))

@@ -4,5 +4,5 @@ use Rattle.store.proofs.by_parity.Tie as tie
 
 pub by_parity_spec : {M : Type 1} → Rattle.store.proofs.by_parity.Statement.statement M
 by_parity_spec = tie.close (tie.spec
-    (λ c. rw (eq-eqb (c.before.args.counter % 2) 0 c.if1.true))
-    (λ c. rw (ne_eqb (c.before.args.counter % 2) 0 c.if1.false)))
+    (λ c. rw (eq-eqb (c.before.args.counter % 2) 0 c.if-counter-eq0.true))
+    (λ c. rw (ne_eqb (c.before.args.counter % 2) 0 c.if-counter-eq0.false)))

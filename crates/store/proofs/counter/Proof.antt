@@ -1,5 +1,5 @@
 -- `store::counter`: the sum of the marks. A store that is too short has none.
-use Rattle.rows.proofs.Prelude.{◌≡◌, ap, ◌∙◌, List, ℕ, ◌+◌, ◌%◌, ◌/◌, ◌≤◌, ◌<◌, arith, length, take, drop, length-drop, take_all, drop_of_length-le, needs}
+use Rattle.rows.proofs.Prelude.{◌≡◌, ap, ◌∙◌, List, ℕ, ◌+◌, ◌%◌, ◌/◌, ◌≤◌, ◌<◌, arith, length, take, drop, length-drop, take_all, drop_of_length-le, rules}
 use Rattle.rules_store.specs.Store.{sum, marks, counter}
 use Rattle.store.proofs.counter.Tie as tie
 
@@ -14,5 +14,5 @@ module _ (n : ℕ) (store : List ℕ) where
 
 pub counter_spec : {M : Type 1} → Rattle.store.proofs.counter.Statement.statement M
 counter_spec = tie.close (tie.spec
-    (λ c. none _ _ c.if1.true) (λ c. search needs) (λ c κs. search needs) (λ c κs. search needs)
+    (λ c. none _ _ c.if-store-n.true) (λ c. search rules) (λ c κs. search rules) (λ c κs. search rules)
     (λ c. all _ _ _ (c.sum.ensures ∙ ap (λ (l : List ℕ). sum l % 256) c.before.part.ensures)))

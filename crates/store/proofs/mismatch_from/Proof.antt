@@ -1,13 +1,13 @@
 -- `store::mismatch_from`. The loop's invariant: the place to find is the first one from `i` on.
 use Rattle.rows.proofs.Prelude.{◌≡◌, refl, ◌∙◌, List, [], ◌∷◌, ℕ, ◌+◌, ◌-◌, ◌≤◌, ◌<◌, add-one, add-zero, arith, length, drop, get_or, drop_of_length-le}
-use Rattle.rows.proofs.Prelude.{drop-cons, needs, eq-eqb, ne_eqb}
+use Rattle.rows.proofs.Prelude.{drop-cons, rules, eq-eqb, ne_eqb}
 use Rattle.rules_store.specs.Store.{mismatch, mismatch_from}
 use Rattle.store.proofs.mismatch_from.Tie as tie
 
-abbrev invariant_loop : tie.invariant_loop
+abbrev invariant_loop : tie.invariant-loop-i
 invariant_loop from old new i₀ i = mismatch_from i old new ≡ mismatch_from from old new
 
-abbrev decreases_loop : tie.decreases_loop
+abbrev decreases_loop : tie.decreases-loop-i
 decreases_loop from old new i₀ i = length old - i
 
 mismatch_none : (old : List ℕ) → mismatch old [] ≡ 0
@@ -35,13 +35,11 @@ module _ (old new : List ℕ) (i : ℕ) where
 
 pub mismatch_from_spec : {M : Type 1} → Rattle.store.proofs.mismatch_from.Statement.statement M
 mismatch_from_spec = tie.close (tie.spec
-    invariant_loop decreases_loop (λ c. refl) (λ c. short _ _ _ c.if1.true ∙ c.before.before.loop.invariant)
-    (λ c. search needs) (λ c. search needs)
+    invariant_loop decreases_loop (λ c. refl) (λ c. short _ _ _ c.if-new-i.true ∙ c.before.before.loop-i.invariant)
+    (λ c. search rules) (λ c. search rules)
     (λ c.
-    let test = c.before.before.before.before in
-    stop _ _ _ test.loop-test.true c.before.before.before.if1.false c.if2.true ∙ test.before.loop.invariant)
-    (λ c. search needs) (λ c. search needs)
+    stop _ _ _ c.before.before.before.before.loop-i-test.true c.before.before.before.if-new-i.false c.if-old-i.true ∙ c.before.before.before.before.before.loop-i.invariant)
+    (λ c. search rules) (λ c. search rules)
     (λ c.
-    let test = c.before.before.before.before in
-    turn _ _ _ test.loop-test.true c.before.before.before.if1.false c.if2.false ∙ test.before.loop.invariant)
-    (λ c. ended _ _ _ c.loop-test.false ∙ c.before.loop.invariant))
+    turn _ _ _ c.before.before.before.before.loop-i-test.true c.before.before.before.if-new-i.false c.if-old-i.false ∙ c.before.before.before.before.before.loop-i.invariant)
+    (λ c. ended _ _ _ c.loop-i-test.false ∙ c.before.loop-i.invariant))

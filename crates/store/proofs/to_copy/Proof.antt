@@ -1,5 +1,5 @@
 -- `store::to_copy`: a place within the images, else the search from the start.
-use Rattle.rows.proofs.Prelude.{◌≡◌, ◌∙◌, List, ℕ, ◌≤◌, ◌<◌, length, lt-ltb, le-ltb, needs}
+use Rattle.rows.proofs.Prelude.{◌≡◌, ◌∙◌, List, ℕ, ◌≤◌, ◌<◌, length, lt-ltb, le-ltb, rules}
 use Rattle.rules_store.specs.Store.{mismatch_from, to_copy}
 use Rattle.store.proofs.to_copy.Tie as tie
 
@@ -14,6 +14,6 @@ module _ (from : ℕ) (old new : List ℕ) (offset : ℕ) (e : offset ≡ mismat
 
 pub to_copy_spec : {M : Type 1} → Rattle.store.proofs.to_copy.Statement.statement M
 to_copy_spec = tie.close (tie.spec
-    (λ c κs. search needs) (λ c. here _ _ _ _ c.before.mismatch-from.ensures c.if1.true)
-    (λ c κs. search needs)
-    (λ c. c.mismatch-from2.ensures ∙ anew _ _ _ _ c.before.before.mismatch-from.ensures c.before.if1.false))
+    (λ c κs. search rules) (λ c. here _ _ _ _ c.before.mismatch_from-offset.ensures c.if-offset-new.true)
+    (λ c κs. search rules)
+    (λ c. c.mismatch_from.ensures ∙ anew _ _ _ _ c.before.before.mismatch_from-offset.ensures c.before.if-offset-new.false))

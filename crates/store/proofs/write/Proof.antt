@@ -1,5 +1,5 @@
 -- `store::write`: the byte to copy, and the mark whose turn it is where no byte is left.
-use Rattle.rows.proofs.Prelude.{◌≡◌, refl, sym, ◌∙◌, cond, List, ℕ, ◌+◌, ◌-◌, ◌%◌, ◌≤◌, ◌<◌, arith, length, take, drop, get_or, eqb, lt-ltb, le-ltb, needs, now}
+use Rattle.rows.proofs.Prelude.{◌≡◌, refl, sym, ◌∙◌, cond, List, ℕ, ◌+◌, ◌-◌, ◌%◌, ◌≤◌, ◌<◌, arith, length, take, drop, get_or, eqb, lt-ltb, le-ltb, rules}
 use Rattle.rules_store.specs.declared.Step.TheVariants.{Write}
 use Rattle.rules_store.specs.Store.{counter, even_counter, spare_at, image_at, spare, to_copy, mark_at, raised, raise, write_at, write}
 use Rattle.rules_store.proofs.Parts.{spare_at_most}
@@ -28,28 +28,25 @@ module _ (store new : List ℕ) (count at : ℕ) (e : count ≡ counter (length 
     unfolding write write_at raise mark_at raised
     raises h mark byte q v = rw (offset_is, le-ltb offset (length new) h, ← e, ← q, ← v)
 
-add_t13 : tie.Need-overflow-add-t13
+add_t13 : tie.Need-overflow_add-result
 add_t13 c =
     let b = c.before.before.before.before in
-    let s = b.before.before.before.before in
-    omega (arith, within (now s.args.store) (now s.args.new) _ _ b.before.counter.ensures b.by-parity.ensures, s.requires)
+    omega (arith, within (c.before.before.before.before.before.before.before.before.args.store.now) (c.before.before.before.before.before.before.before.before.args.new.now) _ _ c.before.before.before.before.before.counter-count.ensures c.before.before.before.before.by_parity-spare.ensures, c.before.before.before.before.before.before.before.before.requires)
 
-returns : tie.Need-returns
+returns : tie.Need-returns-then-offset-n
 returns c =
     let t = c.before.before in
-    let b = t.before.before.before in
-    copies _ _ _ _ b.before.counter.ensures b.by-parity.ensures _ _ _ _ t.before.before.less.ensures t.before.part.ensures
-    t.to-copy.ensures c.before.if1.true
+    copies _ _ _ _ c.before.before.before.before.before.before.counter-count.ensures c.before.before.before.before.before.by_parity-spare.ensures _ _ _ _ c.before.before.before.before.less.ensures c.before.before.before.part.ensures
+    c.before.before.to_copy-offset.ensures c.before.if-offset-n.true
 
-returns_2 : tie.Need-returns-2
+returns_2 : tie.Need-returns
 returns_2 c =
     let t = c.before.before.before in
-    let b = t.before.before.before in
-    raises _ _ _ _ b.before.counter.ensures b.by-parity.ensures _ _ _ _ t.before.before.less.ensures t.before.part.ensures
-    t.to-copy.ensures c.before.before.if1.false _ _ refl c.wrapping-add-u8.ensures
+    raises _ _ _ _ c.before.before.before.before.before.before.before.counter-count.ensures c.before.before.before.before.before.before.by_parity-spare.ensures _ _ _ _ c.before.before.before.before.before.less.ensures c.before.before.before.before.part.ensures
+    c.before.before.before.to_copy-offset.ensures c.before.before.if-offset-n.false _ _ refl c.wrapping_add_u8.ensures
 
 pub write_spec : {M : Type 1} → Rattle.store.proofs.write.Statement.statement M
 write_spec = tie.close (tie.spec
-    (λ c κs. search needs) (λ c κs. search needs) (λ c κs. search needs) (λ c κs. search needs) (λ c κs. search needs)
-    add_t13 (λ c. search needs) returns (λ c. search needs)
-    (λ c. search needs) (λ c. search needs) (λ c. search needs) (λ c κs. search needs) returns_2)
+    (λ c κs. search rules) (λ c κs. search rules) (λ c κs. search rules) (λ c κs. search rules) (λ c κs. search rules)
+    add_t13 (λ c. search rules) returns (λ c. search rules)
+    (λ c. search rules) (λ c. search rules) (λ c. search rules) (λ c κs. search rules) returns_2)

@@ -11,15 +11,15 @@ use lib.Seq.{drop-cons}
 use Rattle.text.proofs.Buffers.{Writing, puts_one, writing_start, writing_step, writing_end, writing_length}
 use Rattle.text.proofs.copy.Tie as tie
 
-abbrev invariant_loop : tie.invariant_loop
+abbrev invariant_loop : tie.invariant-loop-i
 invariant_loop out₀ at text p₀ i₀ out p i = (i ≤ length text) × (p ≡ at + i) × Writing out₀ at text (drop i text) out p
 
-abbrev decreases_loop : tie.decreases_loop
+abbrev decreases_loop : tie.decreases-loop-i
 decreases_loop out₀ at text p₀ i₀ out p i = length text - i
 
-loop_again : tie.Need-loop-preserved invariant_loop decreases_loop
+loop_again : tie.Need-loop-i-preserved invariant_loop decreases_loop
 loop_again c =
-    let l = c.before.before.loop in
+    let l = c.before.before.loop-i in
     let t = c.before.before.before.args.text.now in (
       omega arith,
       omega arith,
@@ -29,12 +29,12 @@ loop_again c =
 
 returns : tie.Need-returns invariant_loop decreases_loop
 returns c =
-    writing_end c.before.loop.invariant.2
-    (drop_of_length-le c.before.before.args.text.now {i = c.before.loop.i} (omega arith))
+    writing_end c.before.loop-i.invariant.2
+    (drop_of_length-le c.before.before.args.text.now {i = c.before.loop-i.i} (omega arith))
 
 pub copy_spec : {M : Type 1} → Rattle.text.proofs.copy.Statement.statement M
 copy_spec = tie.close (tie.spec
     invariant_loop decreases_loop
     (λ c. (omega arith, omega arith, writing_start _ _ _ (omega arith) (omega arith)))
-    (λ c. search rules) (λ c. omega (arith, writing_length c.before.before.loop.invariant.2)) (λ c. omega arith) (λ c. omega arith) (λ c. omega arith)
-    loop_again (λ c. writing_length c.before.loop.invariant.2) returns)
+    (λ c. search rules) (λ c. omega (arith, writing_length c.before.before.loop-i.invariant.2)) (λ c. omega arith) (λ c. omega arith) (λ c. omega arith)
+    loop_again (λ c. writing_length c.before.loop-i.invariant.2) returns)
