@@ -109,7 +109,8 @@ def link_or_copy(one, other):
 
 def check(crate, texts, over=None):
     """The exit status and the words of a check of the crate with these texts, over what an earlier check kept in the folder `over`."""
-    with tempfile.TemporaryDirectory(prefix="edit-", dir=target()) as room:
+    # (outside the repository, in which `rt ci` refuses such files wherever no crate has them)
+    with tempfile.TemporaryDirectory(prefix="edit-") as room:
         for part in PARTS:
             if os.path.isdir(f"{ROOT}/crates/{crate}/{part}"):
                 shutil.copytree(f"{ROOT}/crates/{crate}/{part}", f"{room}/{part}")

@@ -59,9 +59,11 @@ proved)
     ;;
 esac
 
-# The first error, or else the first note of what is not proved, and the lines that belong to it; long lines are cut.
-awk -v mark="$(grep -q ': error' "$log" && echo ': error' || echo '^note: .*it is not proved that')" \
-    'on && !/^ / { exit } $0 ~ mark { on = 1 } on { print }' "$log" >"$work/first"
+# The first error, or else the first note of what is not proved, and the lines that belong to it; long lines are cut. That a proof file
+# names what the edit took away, as a goal that is called after a condition, is only said where there is nothing else.
+first() { awk -v mark="$1" 'on && !/^ / { exit } $0 ~ mark { on = 1 } on { print }' "$2" >"$work/first" && [ -s "$work/first" ]; }
+grep -vE '^(\./)?proofs/.*(has no field|is not in scope|has no `|was not admitted)' "$log" >"$work/rest"
+first ': error' "$work/rest" || first '^note: .*it is not proved that' "$work/rest" || first ': error' "$log"
 wanted=$(grep -m 1 -oE '`[^`]*` *\(expected\)' "$work/first" | sed 's/ *(expected)$//')
 has=$(grep -m 1 -oE '`[^`]*` *\(found\)' "$work/first" | sed 's/ *(found)$//')
 echo "REFUSED. Not proved: $(sed -nE 's/^fn (\S+): (not proved|no proof).*/\1/p' "$log" | paste -sd ' ')"

@@ -31,7 +31,10 @@ FORM = re.compile(
     r"|has no clause|the patterns give|cannot stand in a pattern|is not a function|is still open|is never closed|unexpected"
     r"|expected type `(?:ℕ|[A-Z][A-Za-z]*|Rattle\.[^ `]+)`, but)"
     r"|error: a declaration is|type `Type [0-9]+`|but this has type `(?:tie\.Need-|goal\.)"
-    r"|only because a proof file names what the edit took away"
+)
+# a proof file that names what the edit took away, as a goal that is called after a condition: beside another error it says nothing
+GONE = re.compile(
+    r"^(?:note: )?(?:\./)?proofs/.*(?:has no field|is not in scope|has no `|was not admitted|no name that rattle asks for)"
 )
 # an answer to what a callee asks for has a name of its own, or is in the list of answers; without a proof file a note says it
 NAMED = re.compile(r"error: `[\w·-]*-requires(?:-[\w-]+)?`")
@@ -40,13 +43,19 @@ NOTE = re.compile(r"requires holds at this call")
 TRIED = re.compile(r"^(?:rt: )?must-fail (\w+)/([\w.-]+)\.edit: refused, as it must be(.*)$", re.M)
 
 
+def errors(said):
+    """The errors, and the notes of what is not proved. An error goes on in lines that are indented; the second may say what is missing."""
+    joined = re.sub(r"(: error: [^\n]*)\n  (?=has no field|is not in scope)", r"\1 ", said)
+    return [
+        line
+        for line in joined.split("\n")
+        if re.search(r": error\b|^(?:note: )?\S+:\d+:\d+: it is not proved that", line)
+    ]
+
+
 def first_of(lines):
     """The first error, or else the first note of something that is not proved."""
-    for mark in (r": error\b", r"^note: .*it is not proved that"):
-        for line in lines:
-            if re.search(mark, line):
-                return line
-    return ""
+    return next((line for line in lines if re.search(r": error\b", line)), lines[0] if lines else "")
 
 
 def answers_a_callee(crate, error):
@@ -82,21 +91,43 @@ def loose(edit):
                 yield re.match(r"\w+", function).group()
 
 
-def refuses(line, name):
-    """Whether the line says that the function, or the law of a file of proofs/, is refused itself."""
-    if "::" in name:
-        return re.match(rf"fn {name}: (?:not proved|no proof)\b", line)
-    file, law = name.split(".")
-    return re.search(rf"\bproofs/{file}\.antt:\d+:\d+: error: `{law}`(?!.*was not admitted)", line)
+def function_at(crate, path, line):
+    """The function of the crate in whose text the line stands, its attributes and comments among it."""
+    lines, found = edits.read(f"crates/{crate}/{path}").split("\n"), ""
+    while line < len(lines) and re.match(r"\s*(?:#\[|//|$)", lines[line - 1]):
+        line += 1
+    for text in lines[:line]:
+        found = (re.findall(r"\bfn (\w+)", text) or [found])[-1]
+    return found
+
+
+def refuses(crate, said, name):
+    """Whether a function, or a law of a file of proofs/, is refused itself, and not for a name that is gone."""
+    if "::" not in name:
+        file, law = name.split(".")
+        return bool(re.search(rf"\bproofs/{file}\.antt:\d+:\d+: error: `{law}`(?!.*was not admitted)", said))
+    if not re.search(rf"^fn {name}: (?:not proved|no proof)\b", said, re.M):
+        return False
+    *modules, own = name.split("::")[1:]
+    folder = re.compile(r"^(?:note: )?(?:\./)?proofs/" + "".join(f"{one}/" for one in modules) + rf"\+?{own}/")
+    mine = [line for line in errors(said) if folder.match(line)]
+    # of a function without a proof file, and of a goal without an answer, there are only notes
+    notes = re.findall(r"^note: (?:\./)?(src/\S+):(\d+):\d+: it is not proved that", said, re.M)
+    return (
+        not mine
+        or any(not GONE.search(line) for line in mine)
+        or any(function_at(crate, path, int(at)) == own for path, at in notes)
+    )
 
 
 def fault_of(crate, said):
     """What is wrong with an edit by what the prover says to it, or None: its form, or the first error."""
-    # an error goes on in lines that are indented; the second may say what is missing
-    for line in re.sub(r"(: error: [^\n]*)\n  (?=has no field|is not in scope)", r"\1 ", said).split("\n"):
-        if FORM.search(line):
+    told = errors(said)
+    lines = [line for line in told if not GONE.search(line)]
+    for line in lines if lines or not told else told:
+        if FORM.search(line) or not lines:
             return "is refused for its form", line
-    first = first_of(said.split("\n"))
+    first = first_of(lines)
     if NAMED.search(first) or NOTE.search(first) or answers_a_callee(crate, first):
         return "is refused first for what a callee asks for", first
     return None
@@ -108,7 +139,7 @@ def fault(edit, said, whole):
     for function in loose(text):
         return f"adds `{function}`, whose contract does not say what its result is", ""
     for name in named(text) if whole else ():
-        if not any(refuses(line, name) for line in said.split("\n")):
+        if not refuses(crate, said, name):
             return f"leaves {name} proved, or not proved for another", ""
     return fault_of(crate, said)
 
@@ -116,7 +147,10 @@ def fault(edit, said, whole):
 def by_first(path):
     """The faults of all edits, by the first error of each."""
     with open(path, encoding="utf-8", errors="replace") as file:
-        said = {f"{crate}/{name}": first.removeprefix(": ") for crate, name, first in TRIED.findall(file.read())}
+        said = {
+            f"{crate}/{name}": re.sub(r"^.*?: (?=note: |\S+:\d+:\d+: )", "", first)
+            for crate, name, first in TRIED.findall(file.read())
+        }
     for edit in edits.every():
         yield edit, fault(edit, said[edit], False) if edit in said else ("is not refused, or was not tried", "")
 
