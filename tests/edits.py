@@ -128,9 +128,15 @@ def target():
     return f"{ROOT}/target/edits"
 
 
+def left_by_ci(crate):
+    """Whether the libraries below are those of `rt ci`, which leaves no stamp beside them; it puts back what was kept before, with one."""
+    folders = [f"{ROOT}/crates/{name}/out/rlib" for name in below(crate)]
+    return all(os.path.isdir(one) and not os.path.exists(f"{one}/stamp") for one in folders)
+
+
 def prove(crate, after_ci):
     """Proves the crate as it stands, where `rt ci` did not just do so. Its libraries are then built."""
-    if not after_ci:
+    if not (after_ci and left_by_ci(crate)):
         done = subprocess.run(
             ["rt", "check"], cwd=f"{ROOT}/crates/{crate}", capture_output=True, text=True, errors="replace", check=False
         )
