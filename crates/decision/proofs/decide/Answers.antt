@@ -1,6 +1,5 @@
 -- `decide`: the caller, and what is left to check.
-use Rattle.rows.proofs.Prelude.{◌≡◌, refl, sym, ap, ◌∙◌, List, ℕ, length, now, needs}
-use Rattle.rows.specs.Rows.{Row}
+use Rattle.rows.proofs.Prelude.{◌≡◌, refl, ap, ◌∙◌, List, ℕ, length}
 use Rattle.rules.specs.declared.Tables.{Tables}
 use Rattle.rules.specs.declared.Table.TheVariants.{Creds}
 use Rattle.rules.specs.declared.Caller.{Caller}
@@ -16,7 +15,7 @@ use Rattle.rules.specs.Promises.Decision.{nothing_permitted, decision_by, decide
 use Rattle.rules.proofs.CheckLaws.{stop_all, skip_all}
 use Rattle.rules.proofs.CallerLaws.{caller_row_lem, caller_checks_lem}
 use Rattle.decision.proofs.Laws.{turned}
-use Rattle.decision.proofs.decide.Tie as tie
+use Rattle.decision.proofs.decide.Goals as goal
 
 -- the caller that was found, and what 2 to 7 say of it
 module _ (t : Tables) (q : Request) (k : Caller) (c : Check) (is : k ≡ caller_of (rows Creds t) q.bytes) (told : c ≡ verdict (caller_checks (length q.bytes) k)) where
@@ -33,32 +32,15 @@ module _ (t : Tables) (q : Request) (k : Caller) (c : Check) (is : k ≡ caller_
   rest_decides b e p =
       rw (e, is, caller_row_lem t q.bytes) (ap (decision_by _ _ _ _) (skip_all (sender_checks (rows Creds t) q.bytes) _ checked p refl))
 
-abbrev start : tie.After-check-caller → tie.Start
-start c = c.before.before.before
+pub returns-in_default : goal.returns-in_default
+returns-in_default c =
+    let a = c.args in
+    refused (tables_of a.h a.creds.now a.aces.now) (received a.clock a.rec.now a.capacity) _ _ c.caller_of-caller.ensures c.check_caller-c.ensures _ _
+    c.in_default.is c.turned_away.ensures
 
-module _ (s : tie.Start) where
-  abbrev tables : Tables
-  tables = tables_of s.args.h (now s.args.creds) (now s.args.aces)
-
-  abbrev request : Request
-  request = received s.args.clock (now s.args.rec) s.args.capacity
-
-returns : tie.Need-returns
+pub returns : goal.returns
 returns c =
-    let told = c.before in
-    let call = told.before.before in
-    let s = start call in
-    refused (tables s) (request s) _ _ call.before.caller-of.ensures call.check-caller.ensures _ _ told.enum-told2.given.1 c.turned-away.ensures
-
-returns_2 : tie.Need-returns-2
-returns_2 c =
-    let told = c.before.before in
-    let call = told.before.before in
-    let s = start call in
-    c.decide-request.ensures
-    ∙ rest_decides (tables s) (request s) _ _ call.before.caller-of.ensures call.check-caller.ensures _ c.before.body_of.ensures told.enum_told.given.1
-
-pub decide_spec : {M : Type 1} → Rattle.decision.proofs.decide.Statement.statement M
-decide_spec = tie.close (tie.spec
-    (λ c κs. search needs) (λ c κs. search needs) (λ c. search needs) (λ c. search needs) (λ c κs. search needs) returns
-    (λ c κs. search needs) (λ c κs. search needs) returns_2)
+    let a = c.args in
+    c.decide_request.ensures
+    ∙ rest_decides (tables_of a.h a.creds.now a.aces.now) (received a.clock a.rec.now a.capacity) _ _ c.caller_of-caller.ensures c.check_caller-c.ensures _
+    c.body_of.ensures c.in-Pass.is
