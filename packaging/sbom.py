@@ -58,7 +58,7 @@ def own(ref, file, version, **values):
 def library(path, version):
     """The archive. A symbol that is neither the project's nor the C library's ends the program."""
     symbols = re.findall(r"^[0-9a-f ]+ ([TtU]) (.+)$", said("nm", path), re.M)
-    crates = set(re.findall(r"^(\w+):", read("crates.txt"), re.M))
+    crates = set(re.findall(r"^(\w+)(?: staticlib)?:", read("crates.txt"), re.M))
     known = {"T": lambda name: name.startswith("tillerclover_"), "U": C_LIBRARY.__contains__}
     known["t"] = lambda name: name.split("::")[0] in crates
     unknown = [name for kind, name in symbols if not known[kind](name)]

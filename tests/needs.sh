@@ -82,10 +82,10 @@ log() {
 # LIBRARY_BUILT says that the caller has built both.
 library_built=${LIBRARY_BUILT-}
 library() {
-    [ -n "$library_built" ] || log rt staticlib terminal || return 1
+    [ -n "$library_built" ] || log packaging/library.sh || return 1
     library_built=yes
 }
-run_program() { [ -n "${LIBRARY_BUILT-}" ] || log rt check run; }
+run_program() { [ -n "${LIBRARY_BUILT-}" ] || log packaging/program.sh; }
 
 in_model() { (cd model && "$@"); }
 in_binding() { (cd bindings/rust && "$@"); }
