@@ -47,8 +47,7 @@ by_hand() {
         names+=("-Dtillerclover_${name}_at=yardstick_${name}_at")
     done
     cc -std=c11 -O3 -march=x86-64 -Iinclude -c bench/yardstick.c -o "$object"
-    # what C by hand does not have is the library's
-    cc -static -std=c11 -O1 -Iinclude "${names[@]}" targets/stack.c "$object" target/staticlib/libterminal.a -o "$out/stack"
+    cc -static -std=c11 -O1 -Iinclude "${names[@]}" targets/stack.c "$object" -o "$out/stack"
     "$out/stack"
     echo "size: $(size "$object" | awk 'END { print $1 }') bytes of code"
     cc -static -std=c11 -O1 -Iinclude targets/stack.c target/staticlib/libterminal.a -o "$out/stack"

@@ -356,20 +356,12 @@ static void clear(void)
     answer = 0;
 }
 
-static void is_fresh(void)
-{
-    tillerclover_tables *t = &x.tables;
-    answer = (int)tillerclover_is_fresh_at(counts(), t->devowner, t->rowners, t->creds, t->aces, x.waiting.bytes, list,
-                                           TILLERCLOVER_DEFAULTS_MAX * TILLERCLOVER_CRED_LENGTH, list,
-                                           TILLERCLOVER_DEFAULTS_MAX * TILLERCLOVER_ACE_LENGTH);
-}
-
 static const struct {
     const char *name;
     void (*call)(void);
 } FUNCTIONS[] = {
     {"is_sound", is_sound}, {"judge", judge},          {"hand_in", hand_in},   {"take", take},   {"access_list", text},
-    {"test_list", test},    {"convert_list", convert}, {"isolated", isolated}, {"clear", clear}, {"is_fresh", is_fresh},
+    {"test_list", test},    {"convert_list", convert}, {"isolated", isolated}, {"clear", clear},
 };
 
 enum {
@@ -381,10 +373,6 @@ static unsigned long measured(unsigned function)
 {
     build();
     x = built;
-    /* a new terminal, or none */
-    if (FUNCTIONS[function].call == is_fresh && genes[G_OWNED] & 1) {
-        clear();
-    }
     return (unsigned long)counted(FUNCTIONS[function].call);
 }
 

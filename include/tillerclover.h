@@ -61,12 +61,12 @@ extern "C" {
  *
  * INTERFACE is the version of functions, structs and names. MAJOR changes where a program that calls them has to be changed,
  * MINOR where something is added. FORMAT is the version of the bytes of tables, waiting records and stores. It is counted
- * apart: interfaces 1.0, 2.0 and 3.0 all have format 1, so what a program stored through one is good for the others. What was
+ * apart: interfaces 1.0 and 2.0 both have format 1, so what a program stored through the one is good for the other. What was
  * stored in another FORMAT means other things, and is not to be handed to a function but tillerclover_clear. Keep FORMAT
  * with the tables, as examples/terminal does. Both are of this header; whether the archive belongs to it says
  * tillerclover_identified of tillerclover_yards.h.
  */
-#define TILLERCLOVER_INTERFACE_MAJOR 3
+#define TILLERCLOVER_INTERFACE_MAJOR 2
 #define TILLERCLOVER_INTERFACE_MINOR 0
 #define TILLERCLOVER_INTERFACE (TILLERCLOVER_INTERFACE_MAJOR * 1000 + TILLERCLOVER_INTERFACE_MINOR)
 #define TILLERCLOVER_FORMAT 1
@@ -110,7 +110,7 @@ enum {
     TILLERCLOVER_WAITING_LENGTH = 6504,
     TILLERCLOVER_SLOT_LENGTH = 260,
     /* numbers that the archive's functions say of a record */
-    TILLERCLOVER_SAID = 10
+    TILLERCLOVER_SAID = 9
 };
 
 /* ---- Numbers in tables and records */
@@ -511,8 +511,8 @@ typedef struct tillerclover_converted {
  * They are proved as they are here: pointers, 64-bit lengths and scalars. A C program calls the functions below, which hand
  * the terminal on part by part; another language may call these. The tables are five arrays: the first four bytes (state,
  * owned, ncreds, naces), devowner, rowners, creds and aces. `said` gets the numbers of an outcome in the order answer,
- * permission, payload_offset, payload_length, reply_length, store_first, store_count, link_set, link_count, store_table; of a
- * list the answer and the length, or the row.
+ * permission, payload_offset, payload_length, reply_length, store_first, store_count, link_set, link_count; of a list the
+ * answer and the length, or the row.
  */
 void tillerclover_fresh_at(uint8_t *counts, uint8_t *devowner, uint8_t *rowners, uint8_t *creds, uint8_t *aces,
                            uint8_t *queue, const uint8_t *default_creds, uint64_t default_creds_length,
@@ -522,10 +522,6 @@ void tillerclover_clear_at(uint8_t *counts, uint8_t *devowner, uint8_t *rowners,
                            const uint8_t *default_aces, uint64_t default_aces_length);
 uint64_t tillerclover_is_sound_at(const uint8_t *counts, const uint8_t *devowner, const uint8_t *rowners,
                                   const uint8_t *creds, const uint8_t *aces, const uint8_t *queue);
-uint64_t tillerclover_is_fresh_at(const uint8_t *counts, const uint8_t *devowner, const uint8_t *rowners,
-                                  const uint8_t *creds, const uint8_t *aces, const uint8_t *queue,
-                                  const uint8_t *default_creds, uint64_t default_creds_length,
-                                  const uint8_t *default_aces, uint64_t default_aces_length);
 void tillerclover_judge_at(uint8_t *counts, uint8_t *devowner, uint8_t *rowners, uint8_t *creds, uint8_t *aces,
                            uint8_t *queue, const uint8_t *default_creds, uint64_t default_creds_length,
                            const uint8_t *default_aces, uint64_t default_aces_length, uint32_t clock,
@@ -558,11 +554,6 @@ static inline void tillerclover_clear(tillerclover_terminal *terminal, const til
  * tillerclover_clear; ask when the power comes on. */
 TILLERCLOVER_RESULT TILLERCLOVER_NONNULL static inline bool
 tillerclover_is_sound(const tillerclover_terminal *terminal);
-
-/* Whether every byte is that of a new terminal with these default rows: exactly what tillerclover_fresh makes. Memory of any
- * content may be asked about. Ask before a terminal leaves the maker, or after the clear button. */
-TILLERCLOVER_RESULT TILLERCLOVER_NONNULL static inline bool
-tillerclover_is_fresh(const tillerclover_terminal *terminal, const tillerclover_defaults *defaults);
 
 /* Judges a record of `length` bytes directly, with a buffer of `capacity` bytes for a reply. It waits in no queue and leaves
  * those that do where they are, except for these: a deleted credential row takes its waiting record with it, and after a RESET none
@@ -649,12 +640,13 @@ static inline tillerclover_converted tillerclover_convert_list(const uint8_t *fi
 
 /* ---- How they are made of the archive's functions
  *
- * These functions are not proved. They pass pointers on and give names to the words that the proved functions report: nothing
- * is decided here, and no byte of a record or of a table is read. tests/inlines.c compares each with the archive's own, and
- * tests/headers.py makes wrong headers, each of which a test must notice. */
+ * These functions are not proved. They pass pointers on and give names to the words that the proved functions report; nothing
+ * is decided here. tests/inlines.c compares each with the archive's own, and tests/headers.py makes wrong headers, each of
+ * which a test must notice. */
 
-/* The words of a record's outcome by name. */
-static inline tillerclover_outcome tillerclover_outcome_of(const uint64_t *said)
+/* The words of a record's outcome by name, and the table of the rows to store by the record's resource. If there are no rows
+ * to store, the record is not read. */
+static inline tillerclover_outcome tillerclover_outcome_of(const uint64_t *said, const uint8_t *record)
 {
     tillerclover_outcome outcome;
     outcome.answer = (enum tillerclover_answer)said[0];
@@ -662,11 +654,16 @@ static inline tillerclover_outcome tillerclover_outcome_of(const uint64_t *said)
     outcome.payload_offset = (size_t)said[2];
     outcome.payload_length = (size_t)said[3];
     outcome.reply_length = (size_t)said[4];
+    outcome.store_table = TILLERCLOVER_NO_TABLE;
     outcome.store_first = (size_t)said[5];
     outcome.store_count = (size_t)said[6];
     outcome.link_set = said[7];
     outcome.link_count = (size_t)said[8];
-    outcome.store_table = (enum tillerclover_table)said[9];
+    if (outcome.store_count != 0) {
+        unsigned word = (unsigned)record[TILLERCLOVER_HEADER_WORD] << 8 | record[TILLERCLOVER_HEADER_WORD + 1];
+        unsigned resource = word >> TILLERCLOVER_RESOURCE_SHIFT & 63;
+        outcome.store_table = resource == TILLERCLOVER_CRED ? TILLERCLOVER_CREDS : TILLERCLOVER_ACES;
+    }
     return outcome;
 }
 
@@ -701,14 +698,6 @@ static inline bool tillerclover_is_sound(const tillerclover_terminal *terminal)
                                     terminal->waiting.bytes) != 0;
 }
 
-static inline bool tillerclover_is_fresh(const tillerclover_terminal *terminal, const tillerclover_defaults *defaults)
-{
-    const tillerclover_tables *t = &terminal->tables;
-    tillerclover_defaults d = tillerclover_defaults_of(defaults);
-    return tillerclover_is_fresh_at((const uint8_t *)t, t->devowner, t->rowners, t->creds, t->aces,
-                                    terminal->waiting.bytes, d.creds, d.creds_length, d.aces, d.aces_length) == 1;
-}
-
 static inline tillerclover_outcome tillerclover_judge(tillerclover_terminal *terminal,
                                                       const tillerclover_defaults *defaults, uint32_t clock,
                                                       const uint8_t *record, size_t length, uint8_t *reply,
@@ -719,7 +708,7 @@ static inline tillerclover_outcome tillerclover_judge(tillerclover_terminal *ter
     tillerclover_defaults d = tillerclover_defaults_of(defaults);
     tillerclover_judge_at((uint8_t *)t, t->devowner, t->rowners, t->creds, t->aces, terminal->waiting.bytes, d.creds,
                           d.creds_length, d.aces, d.aces_length, clock, record, length, reply, capacity, said);
-    return tillerclover_outcome_of(said);
+    return tillerclover_outcome_of(said, record);
 }
 
 static inline tillerclover_outcome tillerclover_hand_in(tillerclover_terminal *terminal, const uint8_t *record,
@@ -729,7 +718,7 @@ static inline tillerclover_outcome tillerclover_hand_in(tillerclover_terminal *t
     const tillerclover_tables *t = &terminal->tables;
     tillerclover_hand_in_at((const uint8_t *)t, t->devowner, t->rowners, t->creds, t->aces, terminal->waiting.bytes,
                             record, length, said);
-    return tillerclover_outcome_of(said);
+    return tillerclover_outcome_of(said, record);
 }
 
 static inline tillerclover_taken tillerclover_take(tillerclover_terminal *terminal,
@@ -743,7 +732,7 @@ static inline tillerclover_taken tillerclover_take(tillerclover_terminal *termin
     tillerclover_take_at((uint8_t *)t, t->devowner, t->rowners, t->creds, t->aces, terminal->waiting.bytes, d.creds,
                          d.creds_length, d.aces, d.aces_length, clock, reply, capacity, said, &record_length,
                          taken.record);
-    taken.outcome = tillerclover_outcome_of(said);
+    taken.outcome = tillerclover_outcome_of(said, taken.record);
     taken.record_length = (size_t)record_length;
     return taken;
 }

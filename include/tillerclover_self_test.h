@@ -47,8 +47,7 @@ enum tillerclover_known_call {
     TILLERCLOVER_KNOWN_ISOLATED = 7,
     TILLERCLOVER_KNOWN_CLEAR = 8,
     TILLERCLOVER_KNOWN_SPOIL = 9,
-    TILLERCLOVER_KNOWN_IS_SOUND = 10,
-    TILLERCLOVER_KNOWN_IS_FRESH = 11
+    TILLERCLOVER_KNOWN_IS_SOUND = 10
 };
 
 /* ---- The digest: FNV-1a of 32 bits */
@@ -157,10 +156,8 @@ static inline unsigned tillerclover_known_other(tillerclover_terminal *terminal,
     case TILLERCLOVER_KNOWN_SPOIL:
         terminal->tables.state ^= bytes[0];
         return 0;
-    case TILLERCLOVER_KNOWN_IS_SOUND:
-        return tillerclover_is_sound(terminal);
     default:
-        return tillerclover_is_fresh(terminal, NULL);
+        return tillerclover_is_sound(terminal);
     }
 }
 

@@ -194,7 +194,7 @@ static inline bool tillerclover_uuid_of(uint8_t *uuid, const char *text)
 #define TILLERCLOVER_TEXT_OF_(number) #number
 #define TILLERCLOVER_TEXT_OF(number) TILLERCLOVER_TEXT_OF_(number)
 
-/* This header's interface, as "3.0"; whether the archive belongs to it says tillerclover_identified. */
+/* This header's interface, as "2.0"; whether the archive belongs to it says tillerclover_identified. */
 #define TILLERCLOVER_VERSION_TEXT                                                                                      \
     TILLERCLOVER_TEXT_OF(TILLERCLOVER_INTERFACE_MAJOR) "." TILLERCLOVER_TEXT_OF(TILLERCLOVER_INTERFACE_MINOR)
 

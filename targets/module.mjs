@@ -19,7 +19,7 @@ assert.deepEqual(WebAssembly.Module.exports(module).map((one) => one.name).sort(
 
 const calls = new WebAssembly.Instance(module, {}).exports;
 calls.memory.grow(1);
-const LENGTHS = { counts: 4, devowner: 16, rowners: 64, creds: 936, aces: 1152, queue: 6504, record: 32768, reply: 1168, said: 80 };
+const LENGTHS = { counts: 4, devowner: 16, rowners: 64, creds: 936, aces: 1152, queue: 6504, record: 32768, reply: 1168, said: 72 };
 const at = {};
 let free = calls.__heap_base.value;
 for (const [name, length] of Object.entries(LENGTHS)) {
@@ -33,12 +33,11 @@ const noDefaults = [0, 0n, 0, 0n];
 function judge(clock, record) {
   memory.set(record, at.record);
   calls.tillerclover_judge_at(...tables, ...noDefaults, clock, at.record, BigInt(record.length), at.reply, 1168n, at.said);
-  return new BigUint64Array(calls.memory.buffer, at.said, 10);
+  return new BigUint64Array(calls.memory.buffer, at.said, 9);
 }
 
 calls.tillerclover_fresh_at(...tables, ...noDefaults);
 assert.equal(calls.tillerclover_is_sound_at(...tables), 1n);
-assert.equal(calls.tillerclover_is_fresh_at(...tables, ...noDefaults), 1n);
 const input = readFileSync(`${run}/stdin`);
 let text = "n answer perm state\n";
 for (let from = 0, n = 1; from < input.length; n++) {

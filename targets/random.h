@@ -251,8 +251,6 @@ static void set_up(void)
     }
     tillerclover_fresh(&x, &defaults);
     add_bytes((const uint8_t *)&x, sizeof x);
-    add(tillerclover_is_fresh(&x, &defaults));
-    add(tillerclover_is_fresh(&x, NULL));
     /* one in eight has numbers whose bytes are those of the UUID */
     unsigned partners = any(3) ? PARTNERS_AT_RANDOM : any(2) ? TILLERCLOVER_CRED_CAPACITY : 1 + any(PARTNERS_AT_RANDOM);
     unsigned first = 1 + any(partners);
@@ -430,7 +428,6 @@ static void each_byte(void)
         uint8_t change = (uint8_t)(any(2) ? 1u << any(8) : 1 + any(255));
         byte[i] ^= change;
         add(tillerclover_is_sound(&x));
-        add(tillerclover_is_fresh(&x, NULL));
         byte[i] ^= change;
     }
 }

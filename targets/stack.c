@@ -88,12 +88,6 @@ static void convert(void)
             .answer;
 }
 
-/* Full tables are not those of a new terminal. */
-static void fresh(void)
-{
-    answer = tillerclover_is_fresh(&x, NULL) ? TILLERCLOVER_NOT_SOUND : TILLERCLOVER_PERMITTED;
-}
-
 /* The depth of a call that is permitted, and not more than the header says. */
 static size_t measured(void (*call)(void))
 {
@@ -239,7 +233,6 @@ int main(void)
     size_t handed_in = longest_hand_in();
     full = x;
     size_t decision = longest(judged), take_depth = longest(taken), written = on_full(text), tested = on_full(test);
-    on_full(fresh);
     memset(rows, 0, sizeof rows);
     for (unsigned i = 0; i < TILLERCLOVER_ACE_CAPACITY; i++) {
         tillerclover_old_row old = {uuid(1), TILLERCLOVER_MAY_ALL, TILLERCLOVER_SET_BIT(TILLERCLOVER_TARE)};

@@ -32,14 +32,12 @@ OUTCOME = [
     ("store_count", "said[6]", "said[5]"),
     ("link_set", "said[7]", "said[8]"),
     ("link_count", "said[8]", "said[7]"),
-    ("store_table", "said[9]", "said[8]"),
 ]
 
 
 def outcome_edits():
     """Each field of an outcome from another word, and cut to fewer bits."""
     casts = {"answer": "(enum tillerclover_answer)", "permission": "(uint8_t)", "link_set": ""}
-    casts["store_table"] = "(enum tillerclover_table)"
     for field, word, other in OUTCOME:
         cast = casts.get(field, "(size_t)")
         line = f"outcome.{field} = {cast}{word};"
@@ -112,8 +110,6 @@ def text_edits():
             "converted.length = (uint8_t)said[1];",
         ),
         ("is_sound: the other way round", MAIN, "terminal->waiting.bytes) != 0;", "terminal->waiting.bytes) == 0;"),
-        ("is_fresh: the other way round", MAIN, "d.aces, d.aces_length) == 1;", "d.aces, d.aces_length) != 1;"),
-        ("is_fresh: one list for both", MAIN, "d.aces, d.aces_length) == 1;", "d.creds, d.creds_length) == 1;"),
         ("self test: digests left out", SELF_TEST, " && digest == known;", ";"),
         ("self test: answers left out", SELF_TEST, "return answer == step[1] && digest", "return digest"),
         ("self test: takes left out", SELF_TEST, "step <= TILLERCLOVER_KNOWN_STEPS; step++", "step < 40; step++"),
@@ -124,7 +120,6 @@ def text_edits():
             "outcome->reply_length <= TILLER",
             "outcome->reply_length < 0 * TILLER",
         ),
-        ("is_fresh: without default rows", MAIN, "d.aces, d.aces_length) == 1;", "d.aces, 0) == 1;"),
         (
             "taken: length of 8 bits",
             MAIN,

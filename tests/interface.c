@@ -179,26 +179,6 @@ static void new_terminals(void)
         expect(holds(&expected), "fresh tables have other bytes");
         expect(memcmp(&x->waiting, &nothing, sizeof nothing) == 0, "a record waits in a new terminal");
         expect(tillerclover_is_sound(x), "a new terminal is not sound");
-        expect(tillerclover_is_fresh(x, NULL), "a new terminal is not fresh");
-        guarded();
-    }
-}
-
-/* Fresh is every byte of a new terminal: with one bit turned, in any byte, it is not, and with other default rows neither. */
-static void fresh_to_the_byte(void)
-{
-    static const uint8_t cred[TILLERCLOVER_CRED_LENGTH] = {0, 9, 1};
-    const tillerclover_defaults given = {cred, sizeof cred, NULL, 0}, *lists[] = {NULL, &given};
-    for (unsigned i = 0; i < 2; i++) {
-        tillerclover_fresh(x, lists[i]);
-        expect(tillerclover_is_fresh(x, lists[i]) && !tillerclover_is_fresh(x, lists[1 - i]),
-               "another build's terminal");
-        for (size_t at = 0; at < sizeof *x; at++) {
-            ((uint8_t *)x)[at] ^= (uint8_t)(1u << at % 8);
-            expect(!tillerclover_is_fresh(x, lists[i]), "a terminal with another byte is fresh");
-            ((uint8_t *)x)[at] ^= (uint8_t)(1u << at % 8);
-        }
-        expect(tillerclover_is_fresh(x, lists[i]), "a new terminal is not fresh");
         guarded();
     }
 }
@@ -761,7 +741,6 @@ int main(void)
     static uint8_t array[1];
     memory[0] = memory[sizeof memory - 1] = 0x6D;
     new_terminals();
-    fresh_to_the_byte();
     refused_tables();
     each_field();
     each_outcome();

@@ -6,7 +6,6 @@
 #define tillerclover_fresh_at wrong_fresh_at
 #define tillerclover_clear_at wrong_clear_at
 #define tillerclover_is_sound_at wrong_is_sound_at
-#define tillerclover_is_fresh_at wrong_is_fresh_at
 #define tillerclover_judge_at wrong_judge_at
 #define tillerclover_hand_in_at wrong_hand_in_at
 #define tillerclover_take_at wrong_take_at
@@ -19,6 +18,7 @@
 
 #include <stdio.h>
 #include <stdlib.h>
+#include <string.h>
 
 #define TABLES uint8_t *counts, uint8_t *devowner, uint8_t *rowners, uint8_t *creds, uint8_t *aces
 #define READ_TABLES                                                                                                    \
@@ -29,7 +29,6 @@
 void right_fresh_at(TABLES, uint8_t *queue, LISTS) __asm__("tillerclover_fresh_at");
 void right_clear_at(TABLES, uint8_t *queue, LISTS) __asm__("tillerclover_clear_at");
 uint64_t right_is_sound_at(READ_TABLES, const uint8_t *queue) __asm__("tillerclover_is_sound_at");
-uint64_t right_is_fresh_at(READ_TABLES, const uint8_t *queue, LISTS) __asm__("tillerclover_is_fresh_at");
 void right_judge_at(TABLES, uint8_t *queue, LISTS, uint32_t clock, const uint8_t *record, uint64_t length,
                     uint8_t *reply, uint64_t capacity, uint64_t *said) __asm__("tillerclover_judge_at");
 void right_hand_in_at(READ_TABLES, uint8_t *queue, const uint8_t *record, uint64_t length,
@@ -51,7 +50,6 @@ enum {
     FRESH,
     CLEAR,
     IS_SOUND,
-    IS_FRESH,
     JUDGE,
     HAND_IN,
     TAKE,
@@ -65,7 +63,7 @@ enum {
 };
 
 static unsigned faulty = NO_FUNCTION, word;
-static tillerclover_terminal scratch;
+static tillerclover_terminal scratch, fresh;
 static uint8_t buffer[TILLERCLOVER_SELF_TEST_BUFFER];
 
 /* A word of what a function says is one more, or for the number after them the last byte of the queue. */
@@ -96,11 +94,6 @@ void wrong_clear_at(TABLES, uint8_t *queue, LISTS)
 uint64_t wrong_is_sound_at(READ_TABLES, const uint8_t *queue)
 {
     return right_is_sound_at(PARTS, queue) ^ (faulty == IS_SOUND);
-}
-
-uint64_t wrong_is_fresh_at(READ_TABLES, const uint8_t *queue, LISTS)
-{
-    return right_is_fresh_at(PARTS, queue, dc, dcl, da, dal) ^ (faulty == IS_FRESH);
 }
 
 void wrong_judge_at(TABLES, uint8_t *queue, LISTS, uint32_t clock, const uint8_t *record, uint64_t length,
@@ -167,14 +160,15 @@ static void expect(int holds, const char *what)
 int main(void)
 {
     static const unsigned faults[FUNCTIONS] = {
-        1, 1, 1, 1, TILLERCLOVER_SAID + 2, TILLERCLOVER_SAID + 1, TILLERCLOVER_SAID + 2, 3, 2, 3, 3, 1};
+        1, 1, 1, TILLERCLOVER_SAID + 2, TILLERCLOVER_SAID + 1, TILLERCLOVER_SAID + 2, 3, 2, 3, 3, 1};
     unsigned noticed = 0;
     for (unsigned byte = 0; byte < 256; byte += 85) {
         for (size_t i = 0; i < sizeof scratch; i++) {
             ((uint8_t *)&scratch)[i] = (uint8_t)byte;
         }
         expect(tillerclover_self_test(&scratch, buffer) == 0, "the library fails its own test");
-        expect(tillerclover_is_fresh(&scratch, NULL), "the terminal is new afterwards");
+        tillerclover_fresh(&fresh, NULL);
+        expect(memcmp(&scratch, &fresh, sizeof fresh) == 0, "the terminal is new afterwards");
     }
     for (faulty = 0; faulty < FUNCTIONS; faulty++) {
         for (word = 0; word < faults[faulty]; word++) {

@@ -278,7 +278,7 @@ int main(void)
     permissions();
     uuids();
     digits();
-    expect(strcmp(TILLERCLOVER_VERSION_TEXT, "3.0") != 0 || TILLERCLOVER_INTERFACE == 3000, "the version as text");
+    expect(strcmp(TILLERCLOVER_VERSION_TEXT, "2.0") != 0 || TILLERCLOVER_INTERFACE == 2000, "the version as text");
     printf("version\t%04x\t%s\n", (unsigned)TILLERCLOVER_INTERFACE, TILLERCLOVER_VERSION_TEXT);
     return 0;
 }

@@ -21,13 +21,11 @@ pub struct Found {
     pub form: Option<Form>,
     /// What is left over in it, or why it could not be read; none where it is fresh.
     pub left: Option<String>,
-    /// Why it could not be read.
-    pub unread: Option<Error>,
 }
 
 /// Looks at a file's bytes: the tables, the queue, and in a store the spare image.
 pub fn look(file: &Path, bytes: &[u8], defaults: &Given) -> Found {
-    let found = |form, left| Found { file: file.into(), form, left, unread: None };
+    let found = |form, left| Found { file: file.into(), form, left };
     match Stored::of(bytes, defaults.clone()) {
         Err(error) => found(None, Some(error)),
         Ok(stored) => found(Some(stored.form), left_over(&stored, defaults)),
@@ -36,7 +34,7 @@ pub fn look(file: &Path, bytes: &[u8], defaults: &Given) -> Found {
 
 /// A file that could not be read.
 pub fn unread(file: &Path, error: &Error) -> Found {
-    Found { file: file.into(), form: None, left: Some(error.message.clone()), unread: Some(error.clone()) }
+    Found { file: file.into(), form: None, left: Some(error.message.clone()) }
 }
 
 /// What a file holds in addition to a fresh terminal.
@@ -46,13 +44,8 @@ fn left_over(stored: &Stored, defaults: &Given) -> Option<String> {
         return Some(damage.clone());
     }
     let beside = |terminal: &Terminal| {
-        // The library says whether a byte differs, and the changes only which.
-        let held = Terminal { tables: terminal.tables, waiting: terminal.waiting.clone(), defaults: defaults.clone() };
-        if held.is_fresh() {
-            return None;
-        }
         let changes = changes(&fresh, terminal);
-        let first = changes.first().map_or("other bytes".into(), |change| change.text());
+        let first = changes.first()?.text();
         Some(match changes.len() {
             _ if !terminal.is_sound() => "tables that are not sound".into(),
             1 => first,
@@ -91,7 +84,7 @@ impl Found {
     }
 }
 
-/// A line for each file, and how many are fresh: status 0 where all are, 2 where one could not be read.
+/// A line for each file, and how many are fresh: status 0 where all are.
 pub fn report(found: &[Found]) -> Report {
     let fresh = found.iter().filter(|one| one.is_fresh()).count();
     let line = |one: &Found| {
@@ -102,8 +95,7 @@ pub fn report(found: &[Found]) -> Report {
     let lines: Vec<String> = found.iter().map(line).collect();
     let sum = format!("{}, {fresh} fresh, {} not\n", many(found.len(), "file"), found.len() - fresh);
     let json = json!({ "files": found.iter().map(Found::json).collect::<Vec<_>>(), "fresh": fresh, "not": found.len() - fresh });
-    let unread: Vec<&Error> = found.iter().filter_map(|one| one.unread.as_ref()).collect();
-    Report::new(columns(&lines) + &sum, json, Status::of(fresh == found.len())).undone(&unread)
+    Report::new(columns(&lines) + &sum, json, Status::of(fresh == found.len()))
 }
 
 #[cfg(test)]

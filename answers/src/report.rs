@@ -5,21 +5,17 @@ use std::path::{Path, PathBuf};
 
 use serde_json::Value;
 
-use crate::error::{Error, Kind};
-
 thread_local! {
     static WIDTH: Cell<Option<usize>> = const { Cell::new(None) };
 }
 
-/// The exit status of a command that has a report.
+/// The exit status of a command that could be done.
 #[derive(Clone, Copy, Debug, PartialEq, Eq)]
 pub enum Status {
     /// Permitted, sound, accepted: 0.
     Yes,
     /// Refused, not sound, not accepted: 1.
     No,
-    /// One of many files could not be looked at, or not be changed: the status of its error.
-    Undone(Kind),
 }
 
 impl Status {
@@ -30,20 +26,6 @@ impl Status {
         } else {
             Status::No
         }
-    }
-
-    /// As a number.
-    pub fn number(self) -> u8 {
-        match self {
-            Status::Yes => 0,
-            Status::No => 1,
-            Status::Undone(kind) => kind.status(),
-        }
-    }
-
-    /// The highest of many; 0 of none.
-    pub fn highest(all: impl Iterator<Item = Status>) -> Status {
-        all.max_by_key(|status| status.number()).unwrap_or(Status::Yes)
     }
 }
 
@@ -65,18 +47,6 @@ impl Report {
     /// The result of a command that changed no file.
     pub fn new(text: String, json: Value, status: Status) -> Report {
         Report { text, json, status, notices: Vec::new(), changed: None }
-    }
-
-    /// Of a command on many files, some of which could not be looked at, or not be changed: the highest status of all, and one
-    /// line among the errors.
-    pub fn undone(mut self, errors: &[&Error]) -> Report {
-        let own = errors.iter().map(|error| Status::Undone(error.kind));
-        self.status = Status::highest(own.chain([self.status]));
-        self.notices.extend(errors.first().map(|first| match errors.len() - 1 {
-            0 => first.to_string(),
-            more => format!("{first}; and {more} more"),
-        }));
-        self
     }
 
     /// The result of a command that changed this file.
@@ -193,13 +163,6 @@ mod tests {
         );
         set_width(None);
         assert_eq!(table(head, &rows), wide);
-    }
-
-    #[test]
-    fn the_highest_status() {
-        let all = [Status::Yes, Status::Undone(Kind::InUse), Status::No, Status::Undone(Kind::Failed)];
-        assert_eq!(Status::highest(all.into_iter()), Status::Undone(Kind::InUse));
-        assert_eq!(Status::highest([].into_iter()), Status::Yes);
     }
 
     #[test]

@@ -62,10 +62,8 @@ fn nearly(rights: &Rights) -> Vec<String> {
     };
     let given = |fit: &Fit| fit.row.permission.contains(rights.needed) || fit.fits;
     let rows = rights.rows.iter().filter(|fit| given(fit));
-    rows.filter_map(|fit| {
-        Some(format!("access row {} would permit it except for its {}", fit.row.number, lacking(fit)?))
-    })
-    .collect()
+    rows.filter_map(|fit| Some(format!("access row {} would do but for its {}", fit.row.number, lacking(fit)?)))
+        .collect()
 }
 
 /// The checks before the refusing one.

@@ -37,7 +37,6 @@ pub enum Asked {
     /// The first byte of the tables is changed by these bits; no call.
     Spoil = 9,
     IsSound = 10,
-    IsFresh = 11,
 }
 
 /// A call, and what comes of it.
@@ -147,9 +146,6 @@ impl Terminal {
                 0
             }
             Asked::IsSound => Tables::read(&self.tables).is_ok_and(|t| Queue::read(&self.queue, &t).is_ok()).into(),
-            Asked::IsFresh => {
-                (self.tables == Defaults::none().fresh().bytes() && self.queue == QueueBytes::empty()).into()
-            }
         }
     }
 
@@ -203,7 +199,7 @@ pub fn steps() -> Vec<Step> {
 
 /// From a new terminal to one in service, and what is refused on the way.
 fn set_up(x: &mut Terminal) {
-    x.step("a new terminal", Asked::IsFresh, 0, &[]);
+    x.step("a new terminal", Asked::IsSound, 0, &[]);
     x.judge("too short", 1, &[0x40, 0x80, 0]);
     x.judge("no verb", 1, &[0xA0, 0, 0, 0]);
     x.judge("a zero bit", 1, &[0x20, 0x01, 0, 0]);
@@ -289,11 +285,11 @@ fn take_down(x: &mut Terminal) {
     x.step("the bit is turned back", Asked::Spoil, 0, &[0x40]);
     x.step("sound", Asked::IsSound, 0, &[]);
     x.judge("to RESET", 3, &compose(Verb::Update, PSTAT, OWNER, &target_body(RESET)));
-    x.step("a new terminal again", Asked::IsFresh, 0, &[]);
+    x.step("a new terminal again", Asked::IsSound, 0, &[]);
     x.judge("anybody's row", 3, &compose(Verb::Update, CRED, 0, &cred(HAULIER, 2, None)));
-    x.step("not a new one", Asked::IsFresh, 0, &[]);
+    x.step("sound with that row", Asked::IsSound, 0, &[]);
     x.step("the clear button", Asked::Clear, 0, &[]);
-    x.step("a new one", Asked::IsFresh, 0, &[]);
+    x.step("a new one", Asked::IsSound, 0, &[]);
 }
 
 /// The table of the header, a line or more for each step.

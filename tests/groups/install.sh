@@ -10,7 +10,7 @@ test_install() {
     log tool_of "$archive" && by_target "$archive" || return 1
     touch "$archive" && cp -R tests/install "$outside" && sed -i "s|@BINDING@|$root/bindings/rust|" "$outside/Cargo.toml" || return 1
     log make install PREFIX="$prefix" ARCHIVE="$archive" LIBRARIES=- &&
-        log outside_c "$prefix/lib" "$outside" && log diff - "$work/text" <<<"interface 3000, format 1, state 1, answer 8, not permitted" &&
+        log outside_c "$prefix/lib" "$outside" && log diff - "$work/text" <<<"interface 2000, format 1, state 1, answer 8, not permitted" &&
         log cmake -S "$outside" -B "$outside/build" -DCMAKE_PREFIX_PATH="$prefix" && log cmake --build "$outside/build" &&
         log "$outside/build/outside" &&
         log env TILLERCLOVER_LIB="$prefix/lib" cargo run --quiet --offline --manifest-path "$outside/Cargo.toml" || return 1

@@ -171,8 +171,7 @@ pub fn clear(arguments: &ArgMatches) -> Result<Report, Error> {
     }
     text += &format!("{}, {cleared} cleared, {} not\n", many(done.len(), "file"), done.len() - cleared);
     let json = json!({ "files": parts, "cleared": cleared, "not": done.len() - cleared });
-    let errors: Vec<&Error> = done.iter().filter_map(|(_, result)| result.as_ref().err()).collect();
-    let report = Report::new(text, json, Status::Yes).undone(&errors);
+    let report = Report::new(text, json, Status::of(cleared == done.len()));
     Ok(match done.iter().find(|(_, result)| result.is_ok()) {
         Some((file, _)) => report.after_change(file),
         None => report,

@@ -126,9 +126,8 @@ pub struct Sum {
     pub not: &'static str,
 }
 
-/// One report of many: the first part of each, up to an empty line, and a sum. Its status is the highest of theirs.
+/// One report of many: the first part of each, up to an empty line, and a sum. Status 0 where all are well.
 pub fn together(reports: Vec<Result<Report, Error>>, sum: &Sum) -> Report {
-    let errors: Vec<Error> = reports.iter().filter_map(|report| report.as_ref().err()).cloned().collect();
     let well = reports.iter().filter(|one| matches!(one, Ok(report) if report.status == Status::Yes)).count();
     let count = reports.len();
     let mut text = String::new();
@@ -148,5 +147,5 @@ pub fn together(reports: Vec<Result<Report, Error>>, sum: &Sum) -> Report {
     }
     text += &format!("{}, {well} {}, {} {}\n", many(count, sum.what), sum.well, count - well, sum.not);
     let json = json!({ "files": parts, "well": well, "not": count - well });
-    Report::new(text, json, Status::of(well == count)).undone(&errors.iter().collect::<Vec<_>>())
+    Report::new(text, json, Status::of(well == count))
 }

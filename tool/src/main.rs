@@ -33,7 +33,8 @@ fn main() -> ExitCode {
         Done::Printed(status) => Ok(status),
     });
     match done {
-        Ok(status) => ExitCode::from(status.number()),
+        Ok(Status::Yes) => ExitCode::SUCCESS,
+        Ok(Status::No) => ExitCode::from(1),
         Err(error) => fail(&error, json),
     }
 }

@@ -5,6 +5,7 @@
 use std::fs;
 use std::path::{Path, PathBuf};
 use std::process::Command;
+use std::sync::Mutex;
 use std::time::Duration;
 
 use tool::error::Kind;
@@ -17,6 +18,9 @@ try:
 except OSError:
     sys.exit(1)
 ";
+
+/// One test after the other: a process that is being started holds the locks of the other test for a moment.
+static ALONE: Mutex<()> = Mutex::new(());
 
 /// Whether a terminal could take the file now.
 fn free(path: &Path) -> bool {
@@ -31,6 +35,7 @@ fn file(name: &str) -> PathBuf {
 
 #[test]
 fn the_lock_is_held_until_the_file_is_replaced() {
+    let _alone = ALONE.lock();
     let path = file("held");
     let locked = Locked::open(&path, Duration::ZERO).expect("a lock");
     assert!(!free(&path));
@@ -44,6 +49,7 @@ fn the_lock_is_held_until_the_file_is_replaced() {
 
 #[test]
 fn a_second_run_is_refused() {
+    let _alone = ALONE.lock();
     let path = file("twice");
     let first = Locked::open(&path, Duration::ZERO).expect("a lock");
     let error = Locked::open(&path, Duration::from_millis(50)).expect_err("no second lock");

@@ -106,10 +106,10 @@ macro_rules! calls {
             record: &[u8],
             reply: &mut [u8],
         ) -> $crate::Outcome {
-            let (given, room, mut said) = (record.as_ptr(), reply.as_mut_ptr(), [0; 10]);
+            let (given, room, mut said) = (record.as_ptr(), reply.as_mut_ptr(), [0; 9]);
             let (length, capacity) = (record.len() as u64, reply.len() as u64);
             unsafe { judge_at(tables, waiting, defaults, clock, given, length, room, capacity, said.as_mut_ptr()) }
-            $crate::Outcome::of(&said)
+            $crate::Outcome::of(&said, record)
         }
 
         /// Hands a record in: it waits in its sender's place until its turn comes.
@@ -117,9 +117,9 @@ macro_rules! calls {
         #[must_use]
         pub fn hand_in(tables: &$crate::Tables, waiting: &mut $crate::Waiting, record: &[u8]) -> $crate::Outcome {
             let ([t0, t1, t2, t3, t4], queue) = ($crate::interface::parts(tables), waiting.bytes.as_mut_ptr());
-            let (length, mut said) = (record.len() as u64, [0; 10]);
+            let (length, mut said) = (record.len() as u64, [0; 9]);
             unsafe { hand_in_at(t0, t1, t2, t3, t4, queue, record.as_ptr(), length, said.as_mut_ptr()) }
-            $crate::Outcome::of(&said)
+            $crate::Outcome::of(&said, record)
         }
 
         /// Takes the record whose turn it is, and judges it.
@@ -132,10 +132,10 @@ macro_rules! calls {
             clock: u32,
             reply: &mut [u8],
         ) -> $crate::Taken {
-            let (mut said, mut length, mut record) = ([0; 10], 0, [0; $crate::interface::RECORD_MAX]);
+            let (mut said, mut length, mut record) = ([0; 9], 0, [0; $crate::interface::RECORD_MAX]);
             let (room, said_at, bytes) = (reply.len() as u64, said.as_mut_ptr(), record.as_mut_ptr());
             unsafe { take_at(tables, waiting, defaults, clock, reply.as_mut_ptr(), room, said_at, &mut length, bytes) }
-            $crate::Taken { outcome: $crate::Outcome::of(&said), record_length: length as usize, record }
+            $crate::Taken { outcome: $crate::Outcome::of(&said, &record), record_length: length as usize, record }
         }
 
         /// Writes the access list as the office's JSON.

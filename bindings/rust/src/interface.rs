@@ -3,7 +3,8 @@
 
 use core::mem::offset_of;
 
-use crate::names::{Answer, Permission, Set};
+use crate::names::{Answer, Permission, Resource, Set};
+use crate::record::Header;
 use crate::tables::{Tables, Waiting};
 
 /// The longest record that is not refused for its length.
@@ -32,17 +33,6 @@ pub enum Table {
     Creds,
     /// Access rows.
     Aces,
-}
-
-impl Table {
-    /// The table of the header's number, `TILLERCLOVER_CREDS` or `TILLERCLOVER_ACES`; none for another.
-    pub const fn from_number(number: u64) -> Option<Table> {
-        match number {
-            1 => Some(Table::Creds),
-            2 => Some(Table::Aces),
-            _ => None,
-        }
-    }
 }
 
 /// What becomes of a record. All fields but the answer are 0, or none, for a refusal.
@@ -118,7 +108,7 @@ const _: () = assert!(offset_of!(Tables, creds) == 84 && offset_of!(Tables, aces
 
 /// The numbers that the library says of a record.
 #[doc(hidden)]
-pub type Said = [u64; 10];
+pub type Said = [u64; 9];
 
 crate::changing! { "tillerclover_fresh_at", fresh_at() }
 crate::changing! { "tillerclover_clear_at", clear_at() }
@@ -130,18 +120,6 @@ extern "C" {
         creds: *const u8,
         aces: *const u8,
         queue: *const u8,
-    ) -> u64;
-    fn tillerclover_is_fresh_at(
-        counts: *const u8,
-        devowner: *const u8,
-        rowners: *const u8,
-        creds: *const u8,
-        aces: *const u8,
-        queue: *const u8,
-        default_creds: *const u8,
-        default_creds_length: u64,
-        default_aces: *const u8,
-        default_aces_length: u64,
     ) -> u64;
 }
 
@@ -169,19 +147,22 @@ pub fn parts_mut(tables: &mut Tables) -> [*mut u8; 5] {
 }
 
 impl Outcome {
-    /// What was reported of a record, word by word.
+    /// What was reported of this record. Where there are places to store, its resource names their table.
     #[inline(always)]
     #[doc(hidden)]
-    pub fn of(said: &Said) -> Outcome {
-        let &[answer, permission, offset, length, reply_length, store_first, store_count, links, link_count, table] =
-            said;
+    pub fn of(said: &Said, record: &[u8]) -> Outcome {
+        let &[answer, permission, offset, length, reply_length, store_first, store_count, links, link_count] = said;
+        let table = || match Header::read(record)?.resource {
+            Resource::CRED => Some(Table::Creds),
+            _ => Some(Table::Aces),
+        };
         Outcome {
             answer: Answer(answer as u8),
             permission: Permission(permission as u8),
             payload_offset: offset as usize,
             payload_length: length as usize,
             reply_length: reply_length as usize,
-            store_table: Table::from_number(table),
+            store_table: if store_count == 0 { None } else { table() },
             store_first: store_first as usize,
             store_count: store_count as usize,
             link_set: Set(links),
@@ -220,24 +201,6 @@ pub fn clear(tables: &mut Tables, waiting: &mut Waiting, defaults: Defaults) {
 pub fn is_sound(tables: &Tables, waiting: &Waiting) -> bool {
     let [t0, t1, t2, t3, t4] = parts(tables);
     unsafe { tillerclover_is_sound_at(t0, t1, t2, t3, t4, waiting.bytes.as_ptr()) != 0 }
-}
-
-/// Whether every byte is that of a new terminal with these default rows: exactly what [`fresh`] makes.
-///
-/// ```
-/// use tillerclover::{interface, Defaults, Tables, Waiting};
-/// let (mut tables, mut waiting) = (Tables::default(), Waiting::FRESH);
-/// assert!(!interface::is_fresh(&tables, &waiting, Defaults::default()));
-/// interface::fresh(&mut tables, &mut waiting, Defaults::default());
-/// assert!(interface::is_fresh(&tables, &waiting, Defaults::default()));
-/// ```
-#[inline]
-#[must_use]
-pub fn is_fresh(tables: &Tables, waiting: &Waiting, defaults: Defaults) -> bool {
-    let (Defaults { creds, aces }, queue) = (defaults, waiting.bytes.as_ptr());
-    let [t0, t1, t2, t3, t4] = parts(tables);
-    let (many, more) = (creds.len() as u64, aces.len() as u64);
-    unsafe { tillerclover_is_fresh_at(t0, t1, t2, t3, t4, queue, creds.as_ptr(), many, aces.as_ptr(), more) == 1 }
 }
 
 // What a record, a text and a list come to.

@@ -56,7 +56,7 @@
 extern crate alloc;
 
 /// The version of the interface, as in the C header.
-pub const INTERFACE_MAJOR: u8 = 3;
+pub const INTERFACE_MAJOR: u8 = 2;
 /// What was added since.
 pub const INTERFACE_MINOR: u8 = 0;
 /// The version of the bytes of tables and waiting records, as in the C header: what was stored in another one means other

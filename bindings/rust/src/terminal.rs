@@ -162,20 +162,6 @@ impl Terminal {
         interface::is_sound(&self.tables, &self.waiting)
     }
 
-    /// Whether every byte is that of a new terminal with the same default rows.
-    ///
-    /// ```
-    /// use tillerclover::Terminal;
-    /// let mut yard = Terminal::new();
-    /// assert!(yard.is_fresh());
-    /// yard.tables.rowners[0] = 1;
-    /// assert!(!yard.is_fresh());
-    /// ```
-    #[must_use]
-    pub fn is_fresh(&self) -> bool {
-        interface::is_fresh(&self.tables, &self.waiting, self.defaults.lent())
-    }
-
     /// The access list as the office's JSON, or why there is none.
     ///
     /// ```

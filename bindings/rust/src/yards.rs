@@ -26,7 +26,7 @@ use crate::tables::Tables;
 use crate::terminal::Terminal;
 
 /// The identity that this crate is made for, as in the header.
-pub const IDENTITY: u64 = 1_003_000;
+pub const IDENTITY: u64 = 1_002_000;
 
 /// Whether the senders of a list are isolated, or the first reason why they may not be. Entries and rows are counted from 1.
 #[must_use]

@@ -3,7 +3,7 @@
 #![tactic(auto)]
 
 ghost use Rattle.std.specs.Prelude.{◌≡◌, true, false, not, ◌&&◌, [], ◌∷◌, length};
-ghost use Rattle.rows.specs.Words.{was, became};
+ghost use Rattle.rows.specs.Words.{was};
 ghost use Rattle.text.specs.Buffer.{Puts};
 ghost use Rattle.rows.specs.Rows.{joined, without};
 ghost use Rattle.rules.specs.Roles.{no_role, free, same_role, roles_in_force, cred_sound, with_role, both_taken, asserted};
@@ -39,7 +39,7 @@ pub fn both_taken(clock: u32, new: &[u8], row: &[u8]) -> bool
 
 // Writes the slot's role if it is in force.
 fn put_role(out: &mut [u8], at: usize, clock: u32, slot: &[u8]) -> usize
-    ensures { Puts (was out) at (joined (without (free clock) (was slot ∷ []))) (became out) result }
+    ensures { Puts out.old at (joined (without (free clock) (was slot ∷ []))) out.new result }
 {
     if in_force(clock, slot) {
         return put(out, at, slot);
@@ -50,7 +50,7 @@ fn put_role(out: &mut [u8], at: usize, clock: u32, slot: &[u8]) -> usize
 // Writes the row's roles in force, in order of arrival.
 // Rules out: an expired role; the second slot first.
 pub fn put_roles(out: &mut [u8], at: usize, clock: u32, row: &[u8]) -> usize
-    ensures { Puts (was out) at (joined (roles_in_force clock (was row))) (became out) result }
+    ensures { Puts out.old at (joined (roles_in_force clock (was row))) out.new result }
 {
     let p = put_role(out, at, clock, cred::role_slot(row, 0));
     put_role(out, p, clock, cred::role_slot(row, 1))
@@ -58,7 +58,7 @@ pub fn put_roles(out: &mut [u8], at: usize, clock: u32, row: &[u8]) -> usize
 
 // Writes the role of the last slot, if it is in force and another one, and the new role.
 fn put_last(out: &mut [u8], at: usize, clock: u32, new: &[u8], slot: &[u8]) -> usize
-    ensures { Puts (was out) at (joined (with_role (was new) (without (free clock) (was slot ∷ [])))) (became out) result }
+    ensures { Puts out.old at (joined (with_role (was new) (without (free clock) (was slot ∷ [])))) out.new result }
 {
     if holds_other(clock, new, slot) {
         let p = put(out, at, slot);
@@ -69,7 +69,7 @@ fn put_last(out: &mut [u8], at: usize, clock: u32, new: &[u8], slot: &[u8]) -> u
 
 // Writes the row's roles in force with the new one: it replaces its equal, or comes last.
 fn put_with(out: &mut [u8], at: usize, clock: u32, new: &[u8], row: &[u8]) -> usize
-    ensures { Puts (was out) at (joined (with_role (was new) (roles_in_force clock (was row)))) (became out) result }
+    ensures { Puts out.old at (joined (with_role (was new) (roles_in_force clock (was row)))) out.new result }
 {
     let first = cred::role_slot(row, 0);
     let second = cred::role_slot(row, 1);

@@ -3,7 +3,7 @@
 #![tactic(auto)]
 
 ghost use Rattle.std.specs.Prelude.{◌≡◌, []};
-ghost use Rattle.rules.specs.Promises.Words.{was, became};
+ghost use Rattle.rules.specs.Promises.Words.{was};
 ghost use Rattle.rules.specs.Promises.Results.{result_with};
 ghost use Rattle.rules_interface.specs.Memory.{head_at, counts_of};
 ghost use Rattle.rules_interface.specs.Interface.{offset_of, words_in};
@@ -30,9 +30,9 @@ pub fn head_at(counts: &[u8; 4], devowner: &[u8; 16], rowners: &[u8; 64]) -> Hea
 // Puts a head back.
 // Rules out: a head that is not put back whole; the counts exchanged.
 pub fn put_head(h: Head, counts: &mut [u8; 4], devowner: &mut [u8; 16], rowners: &mut [u8; 64])
-    ensures counts_value { became counts ≡ counts_of h }
-    ensures devowner_value { became devowner ≡ h.devowner }
-    ensures rowners_value { became rowners ≡ h.rowners }
+    ensures counts_value { counts.new ≡ counts_of h }
+    ensures devowner_value { devowner.new ≡ h.devowner }
+    ensures rowners_value { rowners.new ≡ h.rowners }
 {
     let owner = h.devowner;
     let owners = h.rowners;

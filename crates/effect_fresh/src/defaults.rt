@@ -1,7 +1,7 @@
 // Fresh tables with the build's default rows: two lists of bytes, each with at most two rows in the form of their longest bodies.
 // A list that is not good counts as none.
 ghost use Rattle.std.specs.Prelude.{◌≡◌, ◌*◌, ◌≤◌, length, replicate};
-ghost use Rattle.rows.specs.Words.{was, became};
+ghost use Rattle.rows.specs.Words.{was};
 ghost use Rattle.text.specs.Buffer.{written, Puts};
 ghost use Rattle.rows.specs.Rows.{joined, packed};
 ghost use Rattle.rules.specs.Tables.{tables_of, longest, row_from, table_size};
@@ -28,7 +28,7 @@ const NO_ROLES: [u8; 16] = [0; 16];
 
 // Writes the row that a body of the longest form is.
 fn put_listed_row(table: Table, out: &mut [u8], at: usize, body: &[u8]) -> usize
-    ensures { Puts (was out) at (row_from table (was body)) (became out) result }
+    ensures { Puts out.old at (row_from table (was body)) out.new result }
 {
     let p = put(out, at, body);
     let more = stride_of(table) - longest_of(table);
@@ -37,7 +37,7 @@ fn put_listed_row(table: Table, out: &mut [u8], at: usize, body: &[u8]) -> usize
 
 // Writes the rows of a list, in the form of the tables.
 fn put_listed(table: Table, out: &mut [u8], list: &[u8]) -> usize
-    ensures { Puts (was out) 0 (joined (listed table (was list))) (became out) result }
+    ensures { Puts out.old 0 (joined (listed table (was list))) out.new result }
 {
     let long = longest_of(table);
     let mut p = 0;
@@ -70,7 +70,7 @@ fn good_list(table: Table, list: &[u8], rows: &[u8]) -> bool
 fn put_defaults(table: Table, out: &mut [u8], list: &[u8]) -> usize
     requires { out.old ≡ replicate (table_size table) 0 }
     ensures value { (result ≡ length (default_rows table (was list))) × (result ≤ 2) }
-    ensures out_value { became out ≡ packed (table_size table) (default_rows table (was list)) }
+    ensures out_value { out.new ≡ packed (table_size table) (default_rows table (was list)) }
 {
     put_listed(table, out, list);
     if good_list(table, list, out) {
@@ -88,7 +88,7 @@ pub fn fresh_in(
     default_creds: &[u8],
     default_aces: &[u8],
 ) -> Head
-    ensures { tables_of result (became creds) (became aces) ≡ fresh (defaults (was default_creds) (was default_aces)) }
+    ensures { tables_of result creds.new aces.new ≡ fresh (defaults (was default_creds) (was default_aces)) }
 {
     let empty = Tables::empty();
     let no_creds = empty.creds;

@@ -1,8 +1,6 @@
 -- The answer of one entry, and the loop over the entries.
-use Rattle.rows.proofs.Prelude.{◌≡◌, refl, sym, ap, ◌∙◌, true, false, List, [], ◌∷◌, ℕ, suc, ◌+◌, ◌-◌, ◌*◌, ◌/◌, ◌≤◌, ◌<◌, add-one, arith}
+use Rattle.rows.proofs.Prelude.{◌≡◌, refl, sym, ap, ◌∙◌, true, false, List, ◌∷◌, ℕ, suc, ◌+◌, ◌-◌, ◌*◌, ◌/◌, ◌≤◌, ◌<◌, add-one, arith}
 use Rattle.rows.proofs.Prelude.{length, take, drop, length-drop, bool_cases}
-use types.Run.{OneOf, miss}
-use denote.Enum.Declared.{tag_of}
 use Rattle.rows.specs.Rows.{rows_of}
 use Rattle.rows.specs.declared.Found.TheVariants.{At, Nothing}
 use Rattle.rows.specs.Promises.{index_of}
@@ -15,14 +13,13 @@ use Rattle.rules.specs.Permission.{sender_row, connection_of}
 use Rattle.rules.specs.Isolation.{names_owner, may_alter}
 use Rattle.rules_isolation.specs.declared.Isolation.{Isolation}
 use Rattle.rules_isolation.specs.declared.Isolation.TheVariants.{Isolated, NamesOwner, MayAlter}
-use Rattle.rules_isolation.specs.contracts.Isolation.{the_type}
 use Rattle.rules_isolation.specs.Question.{entries, sender_of, lets_alter, altering_number, entry_answer, entries_answer}
 
 -- ---- an entry
 
--- an answer that is not the first variant
+-- an answer that says why not
 abbrev pub IsReason : Isolation → Type 0
-IsReason x = OneOf (1 ∷ 2 ∷ 3 ∷ 4 ∷ 5 ∷ []) (tag_of the_type x)
+IsReason x = x ≡ Isolated → ⊥
 
 module _ (t : Tables) (i : ℕ) (s : Sender) where
   pub names_answer : names_owner t s ≡ true → NamesOwner i ≡ entry_answer t i s Isolated
@@ -48,7 +45,7 @@ module _ (t : Tables) (i : ℕ) (s : Sender) where
   reason_stays x rest e k =
       bool_cases (names_owner t s) (λ f. rw f (rw f at e))
       (λ f. bool_cases (may_alter t s) (λ g. rw (f, g) (rw (f, g) at e))
-      (λ g. let is : x ≡ Isolated = rw (f, g) at e in absurd (miss (1 ∷ 2 ∷ 3 ∷ 4 ∷ 5 ∷ []) 0 tt (rw is at k))))
+      (λ g. let is : x ≡ Isolated = rw (f, g) at e in absurd (k is)))
 
   -- without one, what follows is the answer
   pub rest_follows : (rest : Isolation) → entry_answer t i s Isolated ≡ Isolated → entry_answer t i s rest ≡ rest

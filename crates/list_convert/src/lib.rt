@@ -3,7 +3,7 @@
 #![tactic(auto)]
 
 ghost use Rattle.std.specs.Prelude.{◌≡◌, ◌≤◌, length};
-ghost use Rattle.rows.specs.Words.{was, became};
+ghost use Rattle.rows.specs.Words.{was};
 ghost use Rattle.text.specs.Buffer.{Puts};
 ghost use Rattle.rows.specs.Rows.{some, joined};
 ghost use Rattle.rules.specs.Reading.{filled};
@@ -65,7 +65,7 @@ fn count_made(file: &[u8]) -> usize
 // The rows made, in a buffer that holds them.
 fn put_all(out: &mut [u8], file: &[u8]) -> usize
     requires { (length (rows_made file.now) ≤ 32) × (length (joined (rows_made file.now)) ≤ length out.old) }
-    ensures { Puts (was out) 0 (joined (rows_made (was file))) (became out) result }
+    ensures { Puts out.old 0 (joined (rows_made (was file))) out.new result }
 {
     let mut p = 0;
     let mut number = 1u16;
@@ -84,9 +84,9 @@ fn put_all(out: &mut [u8], file: &[u8]) -> usize
 // A file of old rows as access rows: the answer, the length of the rows, and the caller's buffer afterwards.
 // Rules out: a byte written on a refusal; 24 for 32 rows, or before 23; 25 where the rows just fit; anon-clear before auth-crypt.
 pub fn convert(file: &[u8], rows: &mut [u8]) -> Converted
-    ensures answer { result.answer ≡ number_of (conversion_verdict (was file) (length (was rows))) }
-    ensures length { result.length ≡ length (conversion_reply (was file) (length (was rows))) }
-    ensures buffer { became rows ≡ filled (was rows) (conversion_reply (was file) (length (was rows))) }
+    ensures answer { result.answer ≡ number_of (conversion_verdict (was file) (length rows.old)) }
+    ensures length { result.length ≡ length (conversion_reply (was file) (length rows.old)) }
+    ensures buffer { rows.new ≡ filled rows.old (conversion_reply (was file) (length rows.old)) }
 {
     let bad = is_bad_file(file);
     let made = count_made(file);

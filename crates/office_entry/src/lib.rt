@@ -3,7 +3,7 @@
 #![tactic(auto)]
 
 ghost use Rattle.std.specs.Prelude.{◌≡◌, ◌++◌, ◌<◌};
-ghost use Rattle.rows.specs.Words.{was, became};
+ghost use Rattle.rows.specs.Words.{was};
 ghost use Rattle.text.specs.Text.{ascii, decimal};
 ghost use Rattle.text.specs.Buffer.{Puts};
 ghost use Rattle.rules_office.specs.Office.{hex_digit, dashed, dash, hex_byte, uuid_text, uuid_subject};
@@ -37,7 +37,7 @@ fn is_dashed(i: usize) -> bool
 }
 
 fn put_dash(out: &mut [u8], at: usize, i: usize) -> usize
-    ensures { Puts (was out) at (dash i) (became out) result }
+    ensures { Puts out.old at (dash i) out.new result }
 {
     if is_dashed(i) {
         return direct::put(out, at, b"-");
@@ -47,7 +47,7 @@ fn put_dash(out: &mut [u8], at: usize, i: usize) -> usize
 
 // Byte i of a UUID: a dash before some, and two digits.
 fn put_hex(out: &mut [u8], at: usize, i: usize, b: u8) -> usize
-    ensures { Puts (was out) at (hex_byte i b) (became out) result }
+    ensures { Puts out.old at (hex_byte i b) out.new result }
 {
     let p = put_dash(out, at, i);
     let p = put_byte(out, p, hex_digit(b / 16));
@@ -55,7 +55,7 @@ fn put_hex(out: &mut [u8], at: usize, i: usize, b: u8) -> usize
 }
 
 fn put_uuid(out: &mut [u8], at: usize, u: &[u8]) -> usize
-    ensures { Puts (was out) at (uuid_text (was u)) (became out) result }
+    ensures { Puts out.old at (uuid_text (was u)) out.new result }
 {
     let mut p = at;
     let mut i = 0;
@@ -67,7 +67,7 @@ fn put_uuid(out: &mut [u8], at: usize, u: &[u8]) -> usize
 }
 
 fn put_uuid_subject(out: &mut [u8], at: usize, row: &[u8]) -> usize
-    ensures { Puts (was out) at (uuid_subject (was row)) (became out) result }
+    ensures { Puts out.old at (uuid_subject (was row)) out.new result }
 {
     let p = direct::put(out, at, b"{\"uuid\":\"");
     let p = put_uuid(out, p, ace::subject(row));
@@ -76,14 +76,14 @@ fn put_uuid_subject(out: &mut [u8], at: usize, row: &[u8]) -> usize
 
 // A key and a number.
 fn put_number(out: &mut [u8], at: usize, key: &[u8], n: u16) -> usize
-    ensures { Puts (was out) at (was key ++ decimal n) (became out) result }
+    ensures { Puts out.old at (was key ++ decimal n) out.new result }
 {
     let p = put(out, at, key);
     put_decimal(out, p, n as usize)
 }
 
 fn put_role_subject(out: &mut [u8], at: usize, row: &[u8]) -> usize
-    ensures { Puts (was out) at (role_subject (was row)) (became out) result }
+    ensures { Puts out.old at (role_subject (was row)) out.new result }
 {
     let p = put_number(out, at, b"{\"authority\":\"", ace::authority(row));
     let p = put_number(out, p, b"\",\"role\":\"", ace::role(row));
@@ -91,7 +91,7 @@ fn put_role_subject(out: &mut [u8], at: usize, row: &[u8]) -> usize
 }
 
 fn put_connection_subject(out: &mut [u8], at: usize, row: &[u8]) -> usize
-    ensures { Puts (was out) at (connection_subject (was row)) (became out) result }
+    ensures { Puts out.old at (connection_subject (was row)) out.new result }
 {
     if ace::connection(row) == 1 {
         return put(out, at, b"{\"conntype\":\"auth-crypt\"}");
@@ -100,7 +100,7 @@ fn put_connection_subject(out: &mut [u8], at: usize, row: &[u8]) -> usize
 }
 
 fn put_subject(out: &mut [u8], at: usize, row: &[u8]) -> usize
-    ensures { Puts (was out) at (subject_text (was row)) (became out) result }
+    ensures { Puts out.old at (subject_text (was row)) out.new result }
 {
     let kind = ace::kind(row);
     match kind {
@@ -113,7 +113,7 @@ fn put_subject(out: &mut [u8], at: usize, row: &[u8]) -> usize
 
 // A key and the subject.
 fn put_keyed_subject(out: &mut [u8], at: usize, row: &[u8]) -> usize
-    ensures { Puts (was out) at (ascii ",\"subject\":" ++ subject_text (was row)) (became out) result }
+    ensures { Puts out.old at (ascii ",\"subject\":" ++ subject_text (was row)) out.new result }
 {
     let p = direct::put(out, at, b",\"subject\":");
     put_subject(out, p, row)
@@ -121,7 +121,7 @@ fn put_keyed_subject(out: &mut [u8], at: usize, row: &[u8]) -> usize
 
 // A key and the resources.
 fn put_keyed_resources(out: &mut [u8], at: usize, row: &[u8]) -> usize
-    ensures { Puts (was out) at (ascii ",\"resources\":[" ++ resources_text (was row)) (became out) result }
+    ensures { Puts out.old at (ascii ",\"resources\":[" ++ resources_text (was row)) out.new result }
 {
     let p = direct::put(out, at, b",\"resources\":[");
     put_resources(out, p, row)
@@ -130,7 +130,7 @@ fn put_keyed_resources(out: &mut [u8], at: usize, row: &[u8]) -> usize
 // The text of a row.
 // Rules out: a wildcard that is lost; the UUID in upper case; the resources in another order.
 pub fn put_row(out: &mut [u8], at: usize, row: &[u8]) -> usize
-    ensures { Puts (was out) at (row_text (was row)) (became out) result }
+    ensures { Puts out.old at (row_text (was row)) out.new result }
 {
     let p = put_number(out, at, b"{\"aceid\":", be16(row));
     let p = put_keyed_subject(out, p, row);

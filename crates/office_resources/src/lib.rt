@@ -3,7 +3,7 @@
 #![tactic(auto)]
 
 ghost use Rattle.std.specs.Prelude.{cond, [], ◌++◌, map, length, drop};
-ghost use Rattle.rows.specs.Words.{was, became};
+ghost use Rattle.rows.specs.Words.{was};
 ghost use Rattle.text.specs.Text.{ascii};
 ghost use Rattle.text.specs.Buffer.{Puts};
 ghost use Rattle.rules.specs.Lookup.{lookup};
@@ -16,7 +16,7 @@ use text::{direct, put};
 // A comma, but not before the first.
 // Rules out: a comma before the first; none before the second.
 pub fn put_comma(out: &mut [u8], at: usize, first: bool) -> usize
-    ensures { Puts (was out) at (comma first) (became out) result }
+    ensures { Puts out.old at (comma first) out.new result }
 {
     if first {
         return direct::put(out, at, b"");
@@ -26,7 +26,7 @@ pub fn put_comma(out: &mut [u8], at: usize, first: bool) -> usize
 
 // The names of the application resources, which are in `names` after the five of security.
 fn put_application(out: &mut [u8], at: usize, n: u16) -> usize
-    ensures { Puts (was out) at (ascii (lookup n (drop 5 names) "")) (became out) result }
+    ensures { Puts out.old at (ascii (lookup n (drop 5 names) "")) out.new result }
 {
     match n {
         Resource::WEIGHT => direct::put(out, at, b"/weight"),
@@ -44,7 +44,7 @@ fn put_application(out: &mut [u8], at: usize, n: u16) -> usize
 // The name of resource n; a number that is not known has none.
 // In two groups, the first handing on to the second, since what a match costs to prove grows faster than its arms.
 fn put_name(out: &mut [u8], at: usize, n: u16) -> usize
-    ensures { Puts (was out) at (ascii (lookup n names "")) (became out) result }
+    ensures { Puts out.old at (ascii (lookup n names "")) out.new result }
 {
     match n {
         Resource::DOXM => put(out, at, b"/oic/sec/doxm"),
@@ -58,7 +58,7 @@ fn put_name(out: &mut [u8], at: usize, n: u16) -> usize
 
 // Resource n, if the row names it.
 fn put_item(out: &mut [u8], at: usize, first: bool, named: bool, n: u16) -> usize
-    ensures { Puts (was out) at (cond named (comma first ++ braced (href (lookup n names ""))) []) (became out) result }
+    ensures { Puts out.old at (cond named (comma first ++ braced (href (lookup n names ""))) []) out.new result }
 {
     if !named {
         return direct::put(out, at, b"");
@@ -71,7 +71,7 @@ fn put_item(out: &mut [u8], at: usize, first: bool, named: bool, n: u16) -> usiz
 
 // A wildcard's text, if the row names it.
 fn put_wildcard(out: &mut [u8], at: usize, first: bool, named: bool, text: &[u8]) -> usize
-    ensures { Puts (was out) at (cond named (comma first ++ was text) []) (became out) result }
+    ensures { Puts out.old at (cond named (comma first ++ was text) []) out.new result }
 {
     if !named {
         return direct::put(out, at, b"");
@@ -82,8 +82,8 @@ fn put_wildcard(out: &mut [u8], at: usize, first: bool, named: bool, text: &[u8]
 
 // The wildcards: what may be named after the known resources.
 fn put_wildcards(out: &mut [u8], at: usize, first: bool, row: &[u8]) -> usize
-    ensures { Puts (was out) at
-        (separated first (map braced (picked (drop (length names) (chosen (was row))) (drop (length names) choices)))) (became out) result }
+    ensures { Puts out.old at
+        (separated first (map braced (picked (drop (length names) (chosen (was row))) (drop (length names) choices)))) out.new result }
 {
     let plus = ace::plus(row);
     let minus = ace::minus(row);
@@ -99,7 +99,7 @@ const NUMBERS: [u16; 13] = [0, 1, 2, 3, 4, 8, 9, 10, 11, 12, 13, 14, 16];
 // The resources of a row: those that it names, with a comma between them, and then its wildcards.
 // Rules out: the wildcards before the resources; a resource that is not in the set.
 pub fn put_resources(out: &mut [u8], at: usize, row: &[u8]) -> usize
-    ensures { Puts (was out) at (resources_text (was row)) (became out) result }
+    ensures { Puts out.old at (resources_text (was row)) out.new result }
 {
     let mut p = at;
     let mut first = true;

@@ -3,7 +3,7 @@
 #![tactic(auto)]
 
 ghost use Rattle.std.specs.Prelude.{◌≡◌, cond, ◌∷◌, ◌++◌, ◌*◌, ◌≤◌, ◌<◌, length, drop, get_or};
-ghost use Rattle.rows.specs.Words.{was, became};
+ghost use Rattle.rows.specs.Words.{was};
 ghost use Rattle.rows.specs.Rows.{rows_of, packed, without, has_key};
 ghost use Rattle.rows.specs.Promises.{IsTable};
 ghost use Rattle.rules_terminal.specs.Slots.{anew, after_seat, slot_of, record_of, round_bytes, round_of, waiting, queue_of, empty_queue, slot_size};
@@ -44,7 +44,7 @@ fn slot_of(rec: &[u8]) -> [u8; SLOT]
 // Rules out: a record in another's seat; a record that lost a byte; a round that moves.
 pub fn enqueue(queue: &mut [u8], rec: &[u8])
     requires { (IsQueue queue.old) × (get_or queue.old 0 0 < 25) × (4 ≤ length rec.now) × (length rec.now ≤ 256) }
-    ensures { became queue ≡ with_record (was rec) (was queue) }
+    ensures { queue.new ≡ with_record (was rec) queue.old }
 {
     let count = queue[0] as usize;
     let slot = slot_of(rec);
@@ -55,7 +55,7 @@ pub fn enqueue(queue: &mut [u8], rec: &[u8])
 // Writes the count and the round before the slots.
 fn put_head(queue: &mut [u8], count: usize, round: [u8; 3])
     requires { (4 ≤ length queue.old) × (count ≤ 25) }
-    ensures { became queue ≡ count ∷ (round ++ drop 4 (was queue)) }
+    ensures { queue.new ≡ count ∷ (round ++ drop 4 queue.old) }
 {
     queue[0] = count as u8;
     queue[1] = round[0];
@@ -66,9 +66,9 @@ fn put_head(queue: &mut [u8], count: usize, round: [u8; 3])
 // Takes the slot of a seat out: the slots after it move down. Returns how many are left.
 fn take_out(slots: &mut [u8], count: usize, seat: &[u8]) -> usize
     requires { IsTable slot_size count slots.old }
-    ensures value { result ≡ length (without (has_key 0 (was seat)) (rows_of slot_size count (was slots))) }
-    ensures slots_value { became slots
-        ≡ packed (length (was slots)) (without (has_key 0 (was seat)) (rows_of slot_size count (was slots))) }
+    ensures value { result ≡ length (without (has_key 0 (was seat)) (rows_of slot_size count slots.old)) }
+    ensures slots_value { slots.new
+        ≡ packed (length slots.old) (without (has_key 0 (was seat)) (rows_of slot_size count slots.old)) }
 {
     let used = count * SLOT;
     rows_change::remove(&mut slots[..used], SLOT, count, 0, seat)
@@ -78,7 +78,7 @@ fn take_out(slots: &mut [u8], count: usize, seat: &[u8]) -> usize
 // Rules out: another's record emptied; a round that is still.
 pub fn dequeue(queue: &mut [u8], seat: &[u8])
     requires { (IsQueue queue.old) × (length seat.now ≡ 2) }
-    ensures { became queue ≡ queue_of (after_seat (was seat)) (without (has_key 0 (was seat)) (waiting (was queue))) }
+    ensures { queue.new ≡ queue_of (after_seat (was seat)) (without (has_key 0 (was seat)) (waiting queue.old)) }
 {
     let count = queue[0] as usize;
     let left = take_out(&mut queue[4..], count, seat);
@@ -104,9 +104,9 @@ fn is_seat(count: u8, creds: &[u8; CRED_ROWS], seat: &[u8]) -> bool
 // Takes out each slot whose seat is none of these rows'. Returns how many are left.
 fn drop_orphans(rows: u8, creds: &[u8; CRED_ROWS], slots: &mut [u8], count: usize) -> usize
     requires { IsTable slot_size count slots.old }
-    ensures value { result ≡ length (without (orphaned (seats_in rows (was creds))) (rows_of slot_size count (was slots))) }
-    ensures slots_value { became slots
-        ≡ packed (length (was slots)) (without (orphaned (seats_in rows (was creds))) (rows_of slot_size count (was slots))) }
+    ensures value { result ≡ length (without (orphaned (seats_in rows (was creds))) (rows_of slot_size count slots.old)) }
+    ensures slots_value { slots.new
+        ≡ packed (length slots.old) (without (orphaned (seats_in rows (was creds))) (rows_of slot_size count slots.old)) }
 {
     let mut n = count;
     let mut i = 0;
@@ -153,9 +153,9 @@ fn round_after(was_valid: bool, count: u8, creds: &[u8; CRED_ROWS], queue: &[u8]
 // Rules out: a record that outlives its row; a record that is dropped though its row stays; a round that a new row revives.
 pub fn settle(was_valid: bool, count: u8, creds: &[u8; CRED_ROWS], queue: &mut [u8])
     requires { IsQueue queue.old }
-    ensures { became queue
-        ≡ queue_of (valid_round (seats_in count (was creds)) (cond was_valid (round_of (was queue)) anew))
-        (without (orphaned (seats_in count (was creds))) (waiting (was queue))) }
+    ensures { queue.new
+        ≡ queue_of (valid_round (seats_in count (was creds)) (cond was_valid (round_of queue.old) anew))
+        (without (orphaned (seats_in count (was creds))) (waiting queue.old)) }
 {
     let round = round_after(was_valid, count, creds, queue);
     let used = queue[0] as usize;
@@ -166,7 +166,7 @@ pub fn settle(was_valid: bool, count: u8, creds: &[u8; CRED_ROWS], queue: &mut [
 // Nothing waits, and the round starts over.
 // Rules out: a byte left.
 pub fn clear(queue: &mut [u8; QUEUE])
-    ensures { became queue ≡ empty_queue }
+    ensures { queue.new ≡ empty_queue }
 {
     rows_change::clear(queue);
 }

@@ -7,17 +7,17 @@ use Rattle.rules.specs.Record.{Request as ByteRequest}
 use Rattle.rules.specs.Defaults.{Defaults}
 use Rattle.rules.specs.Tables.{sound as soundBytes}
 use Rattle.rules.specs.Outcome.{Outcome, tables_after}
-use Rattle.rules.specs.Run.{replies, final, Along, kept}
-use Rattle.rules.specs.Isolation.{is_others as isOthersBytes, compared as comparedBytes}
+use Rattle.rules.specs.Run.{replies, final, kept}
+use Rattle.rules.specs.Isolation.{is_others as isOthersBytes}
 use Rattle.rules.proofs.SoundKept.{sound_same}
 use Rattle.rules.proofs.Refusals.{unsound_refused}
-use Rattle.rules_typed.specs.Lists.{Maybe, none, is_none, when}
-use Rattle.rules_typed.specs.Types.{Record, Tables}
+use Rattle.rules_typed.specs.Lists.{none, is_none, when}
+use Rattle.rules_typed.specs.Types.{Record}
 use Rattle.rules_typed.specs.Tables.{is_bytes}
-use Rattle.rules_typed.specs.Reading.{tables_of, read_tables, read_record}
+use Rattle.rules_typed.specs.Reading.{tables_of, read_tables}
 use Rattle.rules_typed.specs.Writing.{written}
 use Rattle.rules_typed.specs.Outcome.{respond, next}
-use Rattle.rules_typed.specs.Isolation.{Premise, compared}
+use Rattle.rules_typed.specs.Isolation.{compared}
 use Rattle.rules_typed.specs.Struct.{IsStruct, DefaultBytes, AllBytes}
 use Rattle.rules_typed.proofs.SoundExact.{read_is}
 use Rattle.rules_typed.proofs.Whole.{replies_written, final_read}
@@ -26,13 +26,13 @@ use Rattle.rules_typed.proofs.ComparedRead.{compared_read}
 use Rattle.rules_terminal.specs.Terminal.{Terminal}
 use Rattle.rules_terminal.specs.Inputs.{Input}
 use Rattle.rules_terminal.specs.CallRun.{Call, Built, handed_back, all_shown}
-use Rattle.rules_runs.specs.Isolation.{requests_of, all_responses, AsRules, BookPremise, Isolated}
+use Rattle.rules_runs.specs.Isolation.{requests_of, all_responses, BookPremise}
 use Rattle.rules_runs.proofs.Calls.{handed_isolation, built_rules}
 use Rattle.rules_interface.specs.Memory.{Memory, terminal_at}
 use Rattle.rules_interface.specs.Calls.{CCall, CBuilt}
 use Rattle.rules_interface.specs.CallRun.{calls_of}
 use Rattle.rules_interface.proofs.CCalls.{c_built}
-use Rattle.rules_demands.specs.Demands.{fresh_of, AsTyped, fed, TypedPremise, TypedIsolated, InputBytes}
+use Rattle.rules_demands.specs.Demands.{fresh_of, AsTyped, TypedPremise, TypedIsolated, InputBytes}
 use Rattle.rules_demands.proofs.FedBytes.{fed_bytes}
 
 -- sound tables stay sound, and others stay

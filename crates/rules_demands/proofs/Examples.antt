@@ -8,13 +8,13 @@ use Rattle.rules.specs.Bits.{bit, bits, be16}
 use Rattle.rules.specs.Record.{received}
 use Rattle.rules.specs.Run.{Along}
 use Rattle.rules_typed.specs.Lists.{Maybe, none, just, when, any, all, find, without, put, distinct, union}
-use Rattle.rules_typed.specs.Types.{Bytes, Uuid, Permission, Answer, Security, Application, Acl2, Weight, Connection, AnonClear, AuthCrypt, RFPRO, RFNOP, State, To}
+use Rattle.rules_typed.specs.Types.{Bytes, Uuid, Permission, Security, Application, Acl2, Weight, Connection, AnonClear, AuthCrypt, RFPRO, RFNOP, State, To}
 use Rattle.rules_typed.specs.Types.{Credential, IsConnection}
 use Rattle.rules_typed.specs.Types.{Access, Tables, Caller, Outcome}
 use Rattle.rules_typed.specs.Directory.{resource_of}
 use Rattle.rules_typed.specs.Permission.{has, caller_of, same_role, expired, roles_in_force, has_role, subject_fits, resource_fits, in_period, gives, is_owner}
 use Rattle.rules_typed.specs.Permission.{effective}
-use Rattle.rules_typed.specs.States.{state_number, is_state_lem, may_move}
+use Rattle.rules_typed.specs.States.{state_number, is_state, may_move}
 use Rattle.rules_typed.specs.Tables.{is_bytes, is_uuid, is_number, valid_role, valid_asserted, valid_credential, valid_access, sound, fresh_tables}
 use Rattle.rules_typed.specs.Writing.{nil, be32, owner_bytes, target_bytes, credential_bytes, asserted_bytes}
 use Rattle.rules_typed.specs.Reading.{verb_of, connection_as, state_of, target_of, owner_of, role_of, read_owner, read_target, read_credential, read_access, read_asserted}
@@ -27,7 +27,7 @@ use Rattle.rules_typed.specs.Isolation.{names_owner, may_fit, row_alters, may_al
 -- `unfolding definitions` opens all that this line names
 unfoldable definitions : Unit {0}
 unfolding same all_zero bit bits be16 when any all find without put distinct union resource_of has same_role expired roles_in_force has_role subject_fits
-    resource_fits in_period gives is_owner effective is_state_lem is_bytes is_uuid is_number valid_role valid_asserted valid_credential valid_access sound nil be32
+    resource_fits in_period gives is_owner effective is_state is_bytes is_uuid is_number valid_role valid_asserted valid_credential valid_access sound nil be32
     owner_bytes target_bytes credential_bytes asserted_bytes verb_of connection_as state_of target_of owner_of role_of read_owner read_target read_credential read_access
     read_asserted read new_row_owner row_numbered sender_of both_taken verdict gap links_of outcome ones names_owner may_fit
     row_alters may_alter

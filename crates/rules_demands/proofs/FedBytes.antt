@@ -2,7 +2,7 @@
 use Rattle.rows.proofs.Prelude.{◌≡◌, refl, Bool, true, false, List, [], ◌∷◌, ◌++◌, map, ℕ, zero, suc, min, take, drop, get_or, eqb, cond_cases}
 use Rattle.rows.specs.Rows.{Row, rows_of, first_row, without}
 use Rattle.rules.specs.Bits.{bits}
-use Rattle.rules.specs.Record.{received, credential}
+use Rattle.rules.specs.Record.{credential}
 use Rattle.rules_typed.specs.Tables.{is_bytes}
 use Rattle.rules_typed.specs.Struct.{AllBytes}
 use Rattle.rules_typed.proofs.ByteLaws.{bytes_take, bytes_drop}

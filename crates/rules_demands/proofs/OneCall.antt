@@ -1,5 +1,5 @@
 -- Theorems, demands 1 and 2 of one call: what the contracts of `judge` and `take` promise is the typed outcome, written.
-use Rattle.rows.proofs.Prelude.{◌≡◌, refl, sym, ap, ◌∙◌, true, false, List, ℕ, bool_cases, not-false}
+use Rattle.rows.proofs.Prelude.{◌≡◌, ap, ◌∙◌, true, false, List, ℕ, bool_cases, not-false}
 use Rattle.rules.specs.declared.Check.TheVariants.{Pass}
 use Rattle.rules.specs.Record.{Request as ByteRequest, received}
 use Rattle.rules.specs.Defaults.{Defaults}
@@ -20,7 +20,7 @@ use Rattle.rules_typed.specs.Writing.{written_outcome, written_links}
 use Rattle.rules_typed.specs.Struct.{IsStruct, DefaultBytes}
 use Rattle.rules_typed.proofs.SoundExact.{read_is}
 use Rattle.rules_typed.proofs.Whole.{outcome_written}
-use Rattle.rules_terminal.specs.Terminal.{Terminal, Transition, sound_terminal, take_checks, due, taken, HandedOut, judged}
+use Rattle.rules_terminal.specs.Terminal.{Terminal, sound_terminal, take_checks, due, taken, HandedOut, judged}
 use Rattle.rules_terminal.specs.Calls.{Takes, Judges}
 use Rattle.rules_terminal.proofs.Sound.{terminal_parts}
 use Rattle.rules_demands.specs.Demands.{fresh_of, tables_in, judged_in, Tells}

@@ -11,7 +11,7 @@ use Rattle.rules.specs.Promises.Results.{Result, result_of}
 use Rattle.rules.specs.Run.{replies, final, Along, kept, kept_of}
 use Rattle.rules.specs.Isolation.{is_others as isOthersBytes}
 use Rattle.rules_typed.specs.Lists.{Maybe, none, when}
-use Rattle.rules_typed.specs.Types.{Record, Tables, Response, Outcome}
+use Rattle.rules_typed.specs.Types.{Record, Tables, Outcome}
 use Rattle.rules_typed.specs.Tables.{is_bytes}
 use Rattle.rules_typed.specs.Writing.{reply_bytes, written, written_outcome}
 use Rattle.rules_typed.specs.Reading.{tables_of, read_tables, read_record, read_fresh}

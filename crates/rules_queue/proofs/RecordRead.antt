@@ -18,16 +18,16 @@ use Rattle.rules_typed.specs.Directory.{number_of, resource_of}
 use Rattle.rules_typed.specs.Permission.{connection_of}
 use Rattle.rules_typed.specs.Tables.{is_bytes, is_number}
 use Rattle.rules_typed.specs.Bodies.{sender_of, sender_over}
-use Rattle.rules_typed.specs.Checks.{agree, header_checks}
+use Rattle.rules_typed.specs.Checks.{agree}
 use Rattle.rules_typed.specs.Reading.{verb_of, connection_as, read_record}
-use Rattle.rules_typed.specs.Writing.{verb_number, connection_number}
+use Rattle.rules_typed.specs.Writing.{connection_number}
 use Rattle.rules_typed.proofs.DirectoryRead.{Found, known, unknown, found, resource_read}
 use Rattle.rules_typed.proofs.WriteBack.{two_at}
 use Rattle.rules_typed.proofs.RowsRead.{bytes_join}
 use Rattle.rules_typed.proofs.RowWritten.{two_small, word_read, number_small}
-use Rattle.rules_typed.proofs.StateRead.{is_verb, no_verb_read}
-use Rattle.rules_queue.specs.Queue.{Waiting, sender_number, valid_sender, record_at}
-use Rattle.rules_queue.specs.QueueBytes.{record_bytes, or_else, waiting_from}
+use Rattle.rules_typed.proofs.StateRead.{is_verb, no_verb_read, verb_number as number_of_verb}
+use Rattle.rules_queue.specs.Queue.{Waiting, header_checks, sender_number, valid_sender, record_at}
+use Rattle.rules_queue.specs.QueueBytes.{verb_number, record_bytes, or_else, waiting_from}
 
 -- ---- read
 
@@ -74,10 +74,17 @@ module _ (x : Record) (p : verdictBytes (header_checks x) ≡ Pass) where
       }
 
 -- numbers of what is read
+same_number : (v : Verb) → verb_number v ≡ number_of_verb v
+same_number Create = refl
+same_number Retrieve = refl
+same_number Update = refl
+same_number Delete = refl
+same_number Observe = refl
+
 verb_number_lem : (v : ℕ) → is_none (verb_of v) ≡ false → verb_number (or_else (verb_of v) Observe) ≡ v
 verb_number_lem v e =
     let k = is_verb v (ltb-false 4 v (sym (no_verb_read v) ∙ e)) in
-    ap (λ (m : Maybe Verb). verb_number (or_else m Observe)) k.read ∙ sym k.number
+    ap (λ (m : Maybe Verb). verb_number (or_else m Observe)) k.read ∙ same_number k.verb ∙ sym k.number
 
 resource_number : (n : ℕ) → Found n → is_none (resource_of n) ≡ false → number_of (or_else (resource_of n) (Security Roles)) ≡ n
 resource_number n (known e) h = rw (resource_read e)

@@ -2,7 +2,7 @@
 use Rattle.rows.proofs.Prelude.{◌≡◌, refl, sym, ap, ap₂, ◌∙◌, Bool, true, false, List, [], ◌∷◌, ◌++◌, map, ℕ, ◌-◌, ◌≤◌, ◌<◌, arith, length}
 use Rattle.rows.proofs.Prelude.{take, drop, eqb, eqb-true, bool_cases, contradiction, and_left, and_right, and_both, not-false, lt-ltb, le-leb}
 use Rattle.rows.proofs.Prelude.{length-drop, leb-true, not-true, replicate}
-use Rattle.rows.specs.Rows.{Row, same, has_key, numbered_as, some, first_row}
+use Rattle.rows.specs.Rows.{Row, has_key, numbered_as, some, first_row}
 use Rattle.rules.specs.declared.Sender.{Sender}
 use Rattle.rules.specs.declared.Tables.{Tables as ByteTables}
 use Rattle.rules.specs.declared.Table.TheVariants.{Creds}
@@ -22,7 +22,7 @@ use Rattle.rules_typed.specs.Tables.{is_bytes, is_number}
 use Rattle.rules_typed.specs.Struct.{Given}
 use Rattle.rules_typed.specs.Reading.{tables_of, read_record}
 use Rattle.rules_typed.specs.Bodies.{sender_of, sender_over}
-use Rattle.rules_typed.specs.Checks.{agree, header_checks}
+use Rattle.rules_typed.specs.Checks.{agree}
 use Rattle.rules_typed.proofs.ListLaws.{Each, any_read, find_read}
 use Rattle.rules_typed.proofs.ByteLaws.{Good, bytes_take, bytes_drop, numbered_read, number_read}
 use Rattle.rules_typed.proofs.LinksRead.{form}
@@ -34,7 +34,7 @@ use Rattle.rules_terminal.specs.Round.{seats, is_seat, occupied}
 use Rattle.rules_terminal.specs.Terminal.{slot_sound}
 use Rattle.rules_terminal.proofs.SlotLaws.{slot_parts, slot_length, slot_key, short_record, slot_made, record_back as slot-record}
 use Rattle.rules_terminal.proofs.Held.{slot_held, held_is}
-use Rattle.rules_queue.specs.Queue.{Waiting, sender_number, is_place, waits_in, valid_sender, valid_waiting, same_waiting, first_of, record_at}
+use Rattle.rules_queue.specs.Queue.{Waiting, header_checks, sender_number, is_place, waits_in, valid_sender, valid_waiting, same_waiting, first_of, record_at}
 use Rattle.rules_queue.specs.QueueBytes.{record_bytes, slot_bytes, waiting_from, waiting_as}
 use Rattle.rules_queue.proofs.RecordRead.{sender_over_lem, sender_fits, record_back, record_again, waiting_again, passes_again, record_bytes_lem}
 use Rattle.rules_queue.proofs.RecordRead.{record_long, sender_small}

@@ -1,6 +1,6 @@
 -- Theorems: in a terminal of any content, what a hand-in, a take and a record judged at once give is what the typed rules give, written;
 -- and the terminal that they leave is read as the typed one.
-use Rattle.rows.proofs.Prelude.{◌≡◌, refl, sym, ap, ap₂, ◌∙◌, Bool, true, false, List, [], ◌∷◌, ◌++◌, map, ℕ, ◌-◌, ◌≤◌, arith, length, take, ones}
+use Rattle.rows.proofs.Prelude.{◌≡◌, refl, sym, ap, ap₂, ◌∙◌, Bool, true, false, List, [], ◌∷◌, ◌++◌, map, ℕ, ◌-◌, ◌≤◌, arith, length, ones}
 use Rattle.rows.proofs.Prelude.{eqb, eqb-true, bool_cases, contradiction, replicate, le_trans, subst}
 use mathlib.Core.List.{map-append}
 use Rattle.rows.specs.Rows.{Row, has_key, some, first_row, stored, without as withoutRows}
@@ -28,7 +28,7 @@ use Rattle.rules_typed.specs.Struct.{Given, IsStruct, DefaultBytes}
 use Rattle.rules_typed.specs.Reading.{tables_of, read_record, read_fresh}
 use Rattle.rules_typed.specs.Writing.{written_tables, written_links}
 use Rattle.rules_typed.specs.Bodies.{sender_of, request, request_of, request_by}
-use Rattle.rules_typed.specs.Checks.{header_checks, no_credential, verdict}
+use Rattle.rules_typed.specs.Checks.{no_credential, verdict}
 use Rattle.rules_typed.proofs.ListLaws.{Each, without_read}
 use Rattle.rules_typed.proofs.RowsRead.{each_without, bytes_join, zero_bytes}
 use Rattle.rules_typed.proofs.RowWritten.{two_small}
@@ -55,7 +55,7 @@ use Rattle.rules_terminal.proofs.Refused.{take_empty}
 use Rattle.rules_terminal.proofs.Held.{few_slots}
 use Rattle.rules_terminal.proofs.Sound.{terminal_parts, hand_passed, hand_free, hand_keeps, turn_is, sound_next, fresh_is}
 use Rattle.rules_terminal.specs.Inputs.{hand_in, take_at, direct, next as nextBytes}
-use Rattle.rules_queue.specs.Queue.{cleared, empty_queue}
+use Rattle.rules_queue.specs.Queue.{cleared, empty_queue, header_checks}
 use Rattle.rules_queue.specs.QueueBytes.{queue_bytes}
 use Rattle.rules_queue.specs.Queue.{Waiting, After, Terminal, Transition, places, waits_in, hand_in_checks, waiting_of, keeping, told}
 use Rattle.rules_queue.specs.Queue.{hand_in_of, handed_in, judged, in_turn, first_of, due, emptying, record_at, giving, take_of, taken}

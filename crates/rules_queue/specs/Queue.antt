@@ -1,6 +1,6 @@
 -- Waiting records (U13): what a hand-in, a take and a record that is judged at once give in a terminal, which has tables and a queue.
 -- A place is named by its sender: each credential row has one, and unauthenticated senders share one.
-use Rattle.std.specs.Prelude.{ℕ, ◌+◌, Bool, true, false, not, ◌&&◌, cond, List, [], ◌∷◌, ◌++◌, map, eqb, leb, length}
+use Rattle.std.specs.Prelude.{ℕ, ◌+◌, Bool, true, false, not, ◌&&◌, ◌||◌, cond, List, [], ◌∷◌, ◌++◌, map, eqb, leb, ltb, length}
 use Rattle.rules.specs.declared.Sender.{Sender}
 use Rattle.rules.specs.declared.Sender.TheVariants.{Unauthenticated, Partner}
 use Rattle.rules_typed.specs.Lists.{Maybe, none, just, is_none, holds, list_of, any, all, find, without, distinct}
@@ -9,10 +9,10 @@ use Rattle.rules_typed.specs.Types.{Outcome}
 use Rattle.rules_typed.specs.Types.{Action, Serve, Read, SetRowOwner, SetOwner, Move, StoreCredential, StoreAccess, DeleteCredentials, DeleteSubject}
 use Rattle.rules_typed.specs.Types.{DeleteAccesses, AssertRole}
 use Rattle.rules_typed.specs.Permission.{connection_of}
-use Rattle.rules_typed.specs.Tables.{is_bytes, is_number, sound}
+use Rattle.rules_typed.specs.Tables.{is_bytes, is_number}
 use Rattle.rules_typed.specs.Bodies.{sender_of, request_of}
-use Rattle.rules_typed.specs.Checks.{no_credential, header_checks, verdict, answer_of}
-use Rattle.rules_typed.specs.Outcome.{numberAlone, outcome}
+use Rattle.rules_typed.specs.Checks.{agree, no_credential, verdict, answer_of}
+use Rattle.rules_typed.specs.Outcome.{refused, outcome}
 
 -- ---- words
 
@@ -97,6 +97,16 @@ cleared fresh terminal = record { tables = fresh; queue = empty_queue }
 
 -- ---- a hand-in: 1 to 7, then 26, the sender's place is occupied
 
+-- 2 to 6, of the record alone
+abbrev pub header_checks : Record → List (Answer × Bool)
+header_checks r =
+    (2, ltb r.size 4 || ltb 256 r.size)
+    ∷ (3, is_none r.verb)
+    ∷ (4, not (eqb r.zeros 0))
+    ∷ (5, not (agree r.connection r.credential))
+    ∷ (6, is_none r.resource)
+    ∷ []
+
 abbrev pub hand_in_checks : Maybe Terminal → Record → List (Answer × Bool)
 hand_in_checks terminal r =
     (1, is_none terminal)
@@ -111,9 +121,13 @@ waiting_of q = record { sender = q.sender; verb = q.verb; resource = q.resource;
 abbrev pub keeping : Request → Terminal → Terminal
 keeping q x = record { tables = x.tables; queue = record { waiting = x.queue.waiting ++ waiting_of q ∷ []; round = x.queue.round } }
 
+-- a number alone: permission 0, the empty payload
+abbrev pub number_alone : Answer → Response
+number_alone n = (refused n none).response
+
 -- the answer's number, with permission 0
 abbrev pub told : Answer → Maybe Terminal → Transition
-told n terminal = record { given = none; response = numberAlone n; terminal = terminal }
+told n terminal = record { given = none; response = number_alone n; terminal = terminal }
 
 -- without a terminal, or without a request, one of 1 to 6 is the answer
 abbrev pub hand_in_of : Maybe Terminal → Maybe Request → Verdict → Transition

@@ -7,13 +7,13 @@ use Rattle.rules.specs.declared.Sender.TheVariants.{Unauthenticated, Partner}
 use Rattle.rules.specs.Bits.{bits, be16}
 use Rattle.rules.specs.Record.{received}
 use Rattle.rules_typed.specs.Lists.{Maybe, none, just, when}
-use Rattle.rules_typed.specs.Types.{Bytes, Observe, Security, Roles, Record}
+use Rattle.rules_typed.specs.Types.{Bytes, Verb, Create, Retrieve, Update, Delete, Observe, Security, Roles, Record}
 use Rattle.rules_typed.specs.Directory.{number_of}
 use Rattle.rules_typed.specs.Permission.{connection_of}
 use Rattle.rules_typed.specs.Tables.{is_bytes, sound}
 use Rattle.rules_typed.specs.Struct.{IsStruct}
 use Rattle.rules_typed.specs.Bodies.{sender_of}
-use Rattle.rules_typed.specs.Writing.{verb_number, connection_number, written_tables, written}
+use Rattle.rules_typed.specs.Writing.{connection_number, written_tables, written}
 use Rattle.rules_typed.specs.Reading.{tables_of, same_tables, read_record}
 use Rattle.rules_terminal.specs.Slots.{record_of, round_of, waiting, anew, after_seat, Round as ByteRound}
 use Rattle.rules_terminal.specs.Terminal.{Terminal as ByteTerminal, Transition as ByteTransition}
@@ -22,6 +22,13 @@ use Rattle.rules_queue.specs.Queue.{Waiting, Round, Anew, After, Queue, Terminal
 use Rattle.rules_queue.specs.Queue.{Judge}
 
 -- ---- written
+
+abbrev pub verb_number : Verb → ℕ
+verb_number Create = 0
+verb_number Retrieve = 1
+verb_number Update = 2
+verb_number Delete = 3
+verb_number Observe = 4
 
 -- verb (3), connection (1), resource (6), zeros (6), credential number (16), body
 unfoldable pub record_bytes : Waiting → Bytes

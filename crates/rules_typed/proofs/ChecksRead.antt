@@ -51,7 +51,7 @@ use Rattle.rules.specs.declared.Header.{Header}
 
 -- ---- 7 and 16
 
-no_credential_lem : (t : ByteTables) → Given t → (s : Sender) → no_credential (tables_of t) s ≡ no_row (rows Creds t) s
+pub no_credential_lem : (t : ByteTables) → Given t → (s : Sender) → no_credential (tables_of t) s ≡ no_row (rows Creds t) s
 no_credential_lem t g Unauthenticated = refl
 no_credential_lem t g (Partner n) =
     rw (find_read credential_as (Good cred_sound) (numbered n) (λ c. eqb c.number n) (number_of_lem n) (rows Creds t) (creds_good t g))

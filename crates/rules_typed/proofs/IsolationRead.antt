@@ -66,7 +66,7 @@ row_fits : (a : Row) (s : SecurityResource) → resource_fits (Security s) (acce
 unfolding resource_fits resourceFitsBytes
 row_fits a s = sym (ap (λ (e : ByteResource). resourceFitsBytes e a) (entry_read (Security s)))
 
-alters_read : (a : Row) → row_alters (access_of a) ≡ rowAltersBytes a
+pub alters_read : (a : Row) → row_alters (access_of a) ≡ rowAltersBytes a
 unfolding row_alters rowAltersBytes has hasBytes
 alters_read a = rw (security_any (λ s. resource_fits (Security s) (access_of a)) (λ n. resourceFitsBytes (byteResource n) a) (row_fits a))
 

@@ -297,7 +297,7 @@ module _ (T : Tables) (s : sound T ≡ true) where
     owners_long = owners_size T.row_owners four_good;
     creds_long = length-replicate {A = ℕ} 936 0;
     aces_long = length-replicate {A = ℕ} 1152 0;
-    owner_bytes_lem = uuid_good T.owner owner_good;
+    owner_bytes = uuid_good T.owner owner_good;
     owners_bytes = owners_bytes T.row_owners four_good;
     creds_bytes = zero_bytes 936;
     aces_bytes = zero_bytes 1152;
@@ -401,7 +401,7 @@ credential_valid w g =
 access_is_valid : (w : Row) → Good ace_storable w → valid_access (access_of w) ≡ true
 access_is_valid w g = and_left _ _ (sym (access_exact w g.1) ∙ g.0)
 
-all_valid : {A : Type 0} (read : Row → A) (passes : A → Bool) (Q : Row → Type 0) → ((w : Row) → Q w → passes (read w) ≡ true) → (ws : List Row) → Each Q ws
+pub all_valid : {A : Type 0} (read : Row → A) (passes : A → Bool) (Q : Row → Type 0) → ((w : Row) → Q w → passes (read w) ≡ true) → (ws : List Row) → Each Q ws
     → all passes (map read ws) ≡ true
 unfolding all
 all_valid read passes Q e [] q = refl
@@ -436,7 +436,7 @@ module _ (t : ByteTables) (g : Given t) where
       let creds-apart =
       distinct_read credential_as (Good cred_sound) same_credential same_credential_lem (rows Creds t) cs ∙ (table_parts Creds t g.is_sound).distinct in
       let aces-apart = distinct_read access_of (Good ace_storable) same_access same_access_lem (rows Aces t) xs ∙ (table_parts Aces t g.is_sound).distinct in
-      let owner = owner_valid t.devowner g.struct.owner_long g.struct.owner_bytes_lem in
+      let owner = owner_valid t.devowner g.struct.owner_long g.struct.owner_bytes in
       let owners =
       and_both _ _ (and_both _ _ (and_both _ _ (and_both _ _ owner (row_owner_good 0 (omega arith))) (row_owner_good 1 (omega arith)))
       (row_owner_good 2 (omega arith))) (row_owner_good 3 (omega arith)) in

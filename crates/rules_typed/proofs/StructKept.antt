@@ -41,7 +41,7 @@ unfolding joined is_bytes
 bytes_joined [] q = refl
 bytes_joined (w ∷ ws) q = bytes_join w (joined ws) q.0 (bytes_joined ws q.1)
 
-bytes_packed : (n : ℕ) (ws : List Row) → Each IsBytes ws → is_bytes (packed n ws) ≡ true
+pub bytes_packed : (n : ℕ) (ws : List Row) → Each IsBytes ws → is_bytes (packed n ws) ≡ true
 unfolding packed
 bytes_packed n ws q = bytes_join (joined ws) (replicate (n - length (joined ws)) 0) (bytes_joined ws q) (zero_bytes (n - length (joined ws)))
 
@@ -64,7 +64,7 @@ rows_struct Creds t ws s q x = record {
   owners_long = x.owners_long;
   creds_long = rows_long Creds ws (omega (arith, s.few)) s;
   aces_long = x.aces_long;
-  owner_bytes_lem = x.owner_bytes_lem;
+  owner_bytes = x.owner_bytes;
   owners_bytes = x.owners_bytes;
   creds_bytes = bytes_packed (table_size Creds) ws q;
   aces_bytes = x.aces_bytes;
@@ -74,7 +74,7 @@ rows_struct Aces t ws s q x = record {
   owners_long = x.owners_long;
   creds_long = x.creds_long;
   aces_long = rows_long Aces ws (omega (arith, s.few)) s;
-  owner_bytes_lem = x.owner_bytes_lem;
+  owner_bytes = x.owner_bytes;
   owners_bytes = x.owners_bytes;
   creds_bytes = x.creds_bytes;
   aces_bytes = bytes_packed (table_size Aces) ws q;
@@ -96,7 +96,7 @@ row_owner_struct t n b h l i x = record {
   owners_long = length_owners n b t.rowners h l x.owners_long;
   creds_long = x.creds_long;
   aces_long = x.aces_long;
-  owner_bytes_lem = x.owner_bytes_lem;
+  owner_bytes = x.owner_bytes;
   owners_bytes = bytes_owners n b t.rowners i x.owners_bytes;
   creds_bytes = x.creds_bytes;
   aces_bytes = x.aces_bytes;
@@ -108,7 +108,7 @@ owner_struct t o u l i x = record {
   owners_long = x.owners_long;
   creds_long = x.creds_long;
   aces_long = x.aces_long;
-  owner_bytes_lem = i;
+  owner_bytes = i;
   owners_bytes = x.owners_bytes;
   creds_bytes = x.creds_bytes;
   aces_bytes = x.aces_bytes;
@@ -120,7 +120,7 @@ state_struct t s x = record {
   owners_long = x.owners_long;
   creds_long = x.creds_long;
   aces_long = x.aces_long;
-  owner_bytes_lem = x.owner_bytes_lem;
+  owner_bytes = x.owner_bytes;
   owners_bytes = x.owners_bytes;
   creds_bytes = x.creds_bytes;
   aces_bytes = x.aces_bytes;
@@ -148,7 +148,7 @@ empty_struct = record {
   owners_long = refl;
   creds_long = refl;
   aces_long = refl;
-  owner_bytes_lem = zero_bytes 16;
+  owner_bytes = zero_bytes 16;
   owners_bytes = zero_bytes 64;
   creds_bytes = zero_bytes (table_size Creds);
   aces_bytes = zero_bytes (table_size Aces);

@@ -13,7 +13,7 @@ pub record IsStruct (t : ByteTables) : Type 0 where
   pub owners_long : length t.rowners ≡ 64
   pub creds_long : length t.creds ≡ 936
   pub aces_long : length t.aces ≡ 1152
-  pub owner_bytes_lem : is_bytes t.devowner ≡ true
+  pub owner_bytes : is_bytes t.devowner ≡ true
   pub owners_bytes : is_bytes t.rowners ≡ true
   pub creds_bytes : is_bytes t.creds ≡ true
   pub aces_bytes : is_bytes t.aces ≡ true

@@ -12,8 +12,7 @@ use rules::{ACE_ROWS, CRED_ROWS, Tables};
 
 // Whether the senders of a list are isolated from all others: the reason why not, 0 for none, the entry and the access row, in `words`.
 // Rules out: tables whose counts are exchanged; a reason instead of an entry; a word left as it was.
-#[unsafe(no_mangle)]
-pub extern "C" fn tillerclover_isolated_at<'a>(
+pub fn tillerclover_isolated_at<'a>(
     counts: &[u8; 4],
     devowner: &[u8; 16],
     rowners: &[u8; 64],
@@ -32,8 +31,7 @@ pub extern "C" fn tillerclover_isolated_at<'a>(
 
 // The library's format and interface, in one number.
 // Rules out: the number of another format; that of another interface.
-#[unsafe(no_mangle)]
-pub extern "C" fn tillerclover_identity() -> u64
+pub fn tillerclover_identity() -> u64
     ensures { result ≡ identity }
 {
     1002000

@@ -14,6 +14,11 @@ ghost use Rattle.rules.specs.Defaults.{defaults};
 ghost use Rattle.rules_interface.specs.Memory.{memory_before, memory_after};
 ghost use Rattle.rules_interface.specs.Interface.{FreshAt, ClearsAt, IsSoundAt, HandsInAt, TakesAt, JudgesAt};
 
+pub use crate::isolated::{tillerclover_identity, tillerclover_isolated_at};
+pub use crate::lists::{
+    tillerclover_access_list_at, tillerclover_convert_list_at, tillerclover_test_list_at,
+};
+pub use crate::storing::{tillerclover_store_current, tillerclover_store_next};
 use c_memory::{head_at, put_head, words_of};
 use check_waiting::terminal_sound;
 use effect_fresh::defaults::fresh_in;
@@ -22,8 +27,7 @@ use rules_terminal::QUEUE;
 
 // Makes a new terminal of a build with these default rows, in memory of any content; nothing waits.
 // Rules out: tables that are not sound; tables with an owner; a byte left of what was there.
-#[unsafe(no_mangle)]
-pub extern "C" fn tillerclover_fresh_at(
+pub fn tillerclover_fresh_at(
     counts: &mut [u8; 4],
     devowner: &mut [u8; 16],
     rowners: &mut [u8; 64],
@@ -42,8 +46,7 @@ pub extern "C" fn tillerclover_fresh_at(
 
 // The clear button: memory of any content.
 // Rules out: a button that keeps a row; one that keeps a waiting record; one that asks for sound tables.
-#[unsafe(no_mangle)]
-pub extern "C" fn tillerclover_clear_at(
+pub fn tillerclover_clear_at(
     counts: &mut [u8; 4],
     devowner: &mut [u8; 16],
     rowners: &mut [u8; 64],
@@ -70,8 +73,7 @@ pub extern "C" fn tillerclover_clear_at(
 
 // Whether the terminal is sound: 1, or else 0.
 // Rules out: only the tables looked at; 1 of a terminal that answers each record with 1.
-#[unsafe(no_mangle)]
-pub extern "C" fn tillerclover_is_sound_at<'a>(
+pub fn tillerclover_is_sound_at<'a>(
     counts: &[u8; 4],
     devowner: &[u8; 16],
     rowners: &[u8; 64],
@@ -92,8 +94,7 @@ pub extern "C" fn tillerclover_is_sound_at<'a>(
 // Judges a record at once.
 // Rules out: the payload of a refused record; a byte of the tables or of the queue changed on a refusal; a byte of the
 // buffer changed after the reply; a record that outlives its credential row.
-#[unsafe(no_mangle)]
-pub extern "C" fn tillerclover_judge_at(
+pub fn tillerclover_judge_at(
     counts: &mut [u8; 4],
     devowner: &mut [u8; 16],
     rowners: &mut [u8; 64],
@@ -129,8 +130,7 @@ pub extern "C" fn tillerclover_judge_at(
 
 // Hands a record in. The tables are read alone.
 // Rules out: a payload, or a permission, of a record that is only kept; a byte of the queue changed on a refusal.
-#[unsafe(no_mangle)]
-pub extern "C" fn tillerclover_hand_in_at<'a>(
+pub fn tillerclover_hand_in_at<'a>(
     counts: &[u8; 4],
     devowner: &[u8; 16],
     rowners: &[u8; 64],
@@ -149,8 +149,7 @@ pub extern "C" fn tillerclover_hand_in_at<'a>(
 
 // Takes the record whose turn it is, and judges it. With 1 and with 27 its length is 0.
 // Rules out: the payload of a refused record; a record cut short; one that waits again after it was taken.
-#[unsafe(no_mangle)]
-pub extern "C" fn tillerclover_take_at(
+pub fn tillerclover_take_at(
     counts: &mut [u8; 4],
     devowner: &mut [u8; 16],
     rowners: &mut [u8; 64],

@@ -11,8 +11,7 @@ use rules_terminal::QUEUE;
 
 // The access list as office text.
 // Rules out: a byte written on 17 or 18; another list's text; a length that is not the text's.
-#[unsafe(no_mangle)]
-pub extern "C" fn tillerclover_access_list_at<'a>(
+pub fn tillerclover_access_list_at<'a>(
     counts: &[u8; 4],
     devowner: &[u8; 16],
     rowners: &[u8; 64],
@@ -31,8 +30,7 @@ pub extern "C" fn tillerclover_access_list_at<'a>(
 
 // Tests a list of access rows that the provisioning program writes.
 // Rules out: a list of 33 rows accepted; another row named than the first bad one.
-#[unsafe(no_mangle)]
-pub extern "C" fn tillerclover_test_list_at(rows: &[u8], words: &mut [u64; 2])
+pub fn tillerclover_test_list_at(rows: &[u8], words: &mut [u64; 2])
     ensures { TestsAt (was rows) (became words) }
 {
     let found = list_validation::test_list(rows);
@@ -41,8 +39,7 @@ pub extern "C" fn tillerclover_test_list_at(rows: &[u8], words: &mut [u64; 2])
 
 // An access list of an older terminal as access rows.
 // Rules out: a byte written on 23, 24 or 25; a byte changed after the rows; a length that is not that of the rows.
-#[unsafe(no_mangle)]
-pub extern "C" fn tillerclover_convert_list_at(file: &[u8], rows: &mut [u8], words: &mut [u64; 2])
+pub fn tillerclover_convert_list_at(file: &[u8], rows: &mut [u8], words: &mut [u64; 2])
     ensures { ConvertsAt (was file) (became words) (was rows) (became rows) }
 {
     let made = list_convert::convert(file, rows);

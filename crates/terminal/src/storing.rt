@@ -8,8 +8,7 @@ use rules_store::Step;
 // What to do next to store an image: 0, nothing, it is the current one; 1, write the byte at the place; 2, nothing, since the store is not one
 // for images of this length. Address and byte are written only with 1.
 // Rules out: a mark before the last byte that differs; a byte that is there already; 0 while another image is current.
-#[unsafe(no_mangle)]
-pub extern "C" fn tillerclover_store_next(
+pub fn tillerclover_store_next(
     store: &[u8],
     image: &[u8],
     from: usize,
@@ -32,8 +31,7 @@ pub extern "C" fn tillerclover_store_next(
 
 // Where the current image starts, in a store for images of n bytes: 0, and 0 or n through `address`; or 2, and nothing, since the store is none.
 // Rules out: the spare image; an address in a store of another length.
-#[unsafe(no_mangle)]
-pub extern "C" fn tillerclover_store_current(store: &[u8], n: usize, address: &mut [u64; 1]) -> u64
+pub fn tillerclover_store_current(store: &[u8], n: usize, address: &mut [u64; 1]) -> u64
     ensures { StoresCurrent (was store) n result (was address) (became address) }
 {
     if store::fits(store.len(), n) {

@@ -73,17 +73,13 @@ struct Progress {
     differences: u64,
 }
 
-fn main() {
-    let path = b"vectors.bin";
-    let file = os::open_read(path);
-    if file < 0 {
-        os::fail(path);
-        return;
-    }
+fn main(rt: HostRuntime) {
+    let path = "vectors.bin";
     let mut bytes = buffer();
-    let n = io::read_full(file, &mut bytes);
-    libc::close(file);
-    print_result(walk(&bytes[..n]));
+    match input::read_file(&rt, path, &mut bytes) {
+        Ok(n) => print_result(&rt, walk(&rt, &bytes[..n])),
+        Err(error) => input::fail(&rt, path, &error),
+    }
 }
 
 // More than the model writes. Of a longer file the last entry is cut, and counts as a difference.
@@ -91,24 +87,15 @@ fn buffer() -> [u8; 400000] {
     [0; 400000]
 }
 
-fn print_result(p: Progress) {
-    io::write_all(1, b"vectors: ");
-    io::print_decimal(1, p.records);
-    io::write_all(1, b" records, ");
-    io::print_decimal(1, p.handed);
-    io::write_all(1, b" hand-ins, ");
-    io::print_decimal(1, p.takes);
-    io::write_all(1, b" takes, ");
-    io::print_decimal(1, p.tested);
-    io::write_all(1, b" lists, ");
-    io::print_decimal(1, p.converted);
-    io::write_all(1, b" older lists, ");
-    io::print_decimal(1, p.differences);
-    io::write_all(1, b" differences\n");
+fn print_result(rt: &impl Print, p: Progress) {
+    let _ = println!(rt;
+        "vectors: {} records, {} hand-ins, {} takes, {} lists, {} older lists, {} differences",
+        p.records, p.handed, p.takes, p.tested, p.converted, p.differences
+    );
 }
 
 // All entries in their order, up to one that is cut or has no known tag.
-fn walk(bytes: &[u8]) -> Progress {
+fn walk(rt: &impl Print, bytes: &[u8]) -> Progress {
     let mut p = Progress {
         tables: Tables::empty(),
         queue: [0u8; QUEUE],
@@ -124,35 +111,35 @@ fn walk(bytes: &[u8]) -> Progress {
     };
     let mut rest = bytes;
     while 0 < rest.len() {
-        p = counted(p);
+        counted(&mut p);
         let size = entry_size(rest);
-        if rest.len() < size {
-            return differing(p);
+        if rest.len() < size || size == 0 {
+            differing(rt, &mut p);
+            return p;
         }
-        if size == 0 {
-            return differing(p);
-        }
-        p = entry_done(p, part(rest, 0, size), skip(bytes, p.lists));
-        p = moved(p, size);
+        let lists = skip(bytes, p.lists);
+        entry_done(rt, &mut p, part(rest, 0, size), lists);
+        moved(&mut p, size);
         rest = &rest[size..];
     }
     p
 }
 
-fn counted(p: Progress) -> Progress {
-    let mut next = p;
-    next.entry = more(p.entry);
-    next
+fn counted(p: &mut Progress) {
+    p.entry = more(p.entry);
 }
 
 // Says which entry differs, and counts it.
-fn differing(p: Progress) -> Progress {
-    io::write_all(1, b"entry ");
-    io::print_decimal(1, p.entry);
-    io::write_all(1, b" differs\n");
-    let mut next = p;
-    next.differences = more(p.differences);
-    next
+fn differing(rt: &impl Print, p: &mut Progress) {
+    let entry = p.entry;
+    let _ = println!(rt; "entry {entry} differs");
+    p.differences = more(p.differences);
+}
+
+fn compared(rt: &impl Print, p: &mut Progress, is_same: bool) {
+    if !is_same {
+        differing(rt, p);
+    }
 }
 
 // Bytes of the first entry, its tag among them; 0 where the tag is not known.
@@ -235,86 +222,66 @@ fn default_aces(s: &[u8]) -> &[u8] {
 }
 
 // Goes on with the default lists of this entry.
-fn listed(p: Progress) -> Progress {
-    let mut next = p;
-    next.lists = p.at;
-    next
+fn listed(p: &mut Progress) {
+    p.lists = p.at;
 }
 
 // Goes on after an entry of this size.
-fn moved(p: Progress, size: usize) -> Progress {
-    let mut next = p;
-    next.at = if p.at <= usize::MAX - size {
-        p.at + size
-    } else {
-        usize::MAX
-    };
-    next
+fn moved(p: &mut Progress, size: usize) {
+    p.at = p.at.saturating_add(size);
 }
 
-fn entry_done(p: Progress, s: &[u8], lists: &[u8]) -> Progress {
+fn entry_done(rt: &impl Print, p: &mut Progress, s: &[u8], lists: &[u8]) {
     let tag = byte_at(s, 0);
+    let s = skip(s, 1);
     match tag {
-        Tag::TABLES => taken(p, skip(s, 1)),
-        Tag::RECORD => judged(p, skip(s, 1), lists),
-        Tag::REACHED => reached(p, skip(s, 1)),
+        Tag::TABLES => taken(p, s),
+        Tag::RECORD => judged(rt, p, s, lists),
+        Tag::REACHED => reached(rt, p, s),
         Tag::DEFAULTS => listed(p),
-        Tag::LIST => tested(p, skip(s, 1)),
-        Tag::OLDER_LIST => converted(p, skip(s, 1)),
-        Tag::QUEUE => lent(p, skip(s, 1)),
-        Tag::QUEUE_REACHED => kept(p, skip(s, 1)),
-        Tag::HAND_IN => handed_in(p, skip(s, 1)),
-        _ => taken_turn(p, skip(s, 1), lists),
+        Tag::LIST => tested(rt, p, s),
+        Tag::OLDER_LIST => converted(rt, p, s),
+        Tag::QUEUE => lent(p, s),
+        Tag::QUEUE_REACHED => kept(rt, p, s),
+        Tag::HAND_IN => handed_in(rt, p, s),
+        _ => taken_turn(rt, p, s, lists),
     }
 }
 
 // Goes on with the tables of these bytes.
-fn taken(p: Progress, bytes: &[u8]) -> Progress {
-    let t = tables_of(bytes);
-    let mut next = p;
-    next.tables = t;
-    next
+fn taken(p: &mut Progress, bytes: &[u8]) {
+    p.tables = tables_of(bytes);
 }
 
 // Compares the tables with these bytes.
-fn reached(p: Progress, bytes: &[u8]) -> Progress {
-    let t = p.tables;
-    if same_tables(t, tables_of(bytes)) {
-        p
-    } else {
-        differing(p)
-    }
+fn reached(rt: &impl Print, p: &mut Progress, bytes: &[u8]) {
+    let is_same = same_tables(&p.tables, &tables_of(bytes));
+    compared(rt, p, is_same);
 }
 
 // Tests the list after its length, and compares what is reported of it with what follows.
-fn tested(p: Progress, s: &[u8]) -> Progress {
+fn tested(rt: &impl Print, p: &mut Progress, s: &[u8]) {
     let length = be16(s) as usize;
     let expected = skip(skip(s, 2), length);
     let found = list_validation::test_list(part(s, 2, length));
-    let mut next = p;
-    next.tested = more(p.tested);
-    if (found.answer == byte_at(expected, 0)) & (found.row == byte_at(expected, 1) as usize) {
-        next
-    } else {
-        differing(next)
-    }
+    p.tested = more(p.tested);
+    let is_same = (found.answer == byte_at(expected, 0))
+        & (found.row == byte_at(expected, 1) as usize);
+    compared(rt, p, is_same);
 }
 
 // Converts the older list after its length with a buffer of the room after it, and compares the result with the one that follows.
-fn converted(p: Progress, s: &[u8]) -> Progress {
+fn converted(rt: &impl Print, p: &mut Progress, s: &[u8]) {
     let length = be16(s) as usize;
     let behind = skip(skip(s, 2), length);
     let expected = skip(behind, 2);
     let made = part(expected, 3, be16(skip(expected, 1)) as usize);
     let mut buffer = [165u8; 1300];
     let found = convert_within(part(s, 2, length), &mut buffer, be16(behind) as usize);
-    let mut next = p;
-    next.converted = more(p.converted);
-    if (found.answer == byte_at(expected, 0)) & same_filled(found.length as u64, &buffer, made) {
-        next
-    } else {
-        differing(next)
-    }
+    p.converted = more(p.converted);
+    let is_same = (found.answer == byte_at(expected, 0))
+        & same_filled(found.length as u64, &buffer, made);
+    compared(rt, p, is_same);
 }
 
 // Converts an older list with the first `capacity` bytes of the buffer, or all where it has fewer.
@@ -324,22 +291,15 @@ fn convert_within(file: &[u8], buffer: &mut [u8], capacity: usize) -> Converted 
 }
 
 // Goes on with the memory that begins with the bytes after their length.
-fn lent(p: Progress, s: &[u8]) -> Progress {
-    let queue = memory_of(s);
-    let mut next = p;
-    next.queue = queue;
-    next
+fn lent(p: &mut Progress, s: &[u8]) {
+    p.queue = memory_of(s);
 }
 
 // Compares the queue with the bytes after their length.
-fn kept(p: Progress, s: &[u8]) -> Progress {
-    let queue = p.queue;
+fn kept(rt: &impl Print, p: &mut Progress, s: &[u8]) {
     let expected = memory_of(s);
-    if rows::same_bytes(&queue, &expected) {
-        p
-    } else {
-        differing(p)
-    }
+    let is_same = rows::same_bytes(&p.queue, &expected);
+    compared(rt, p, is_same);
 }
 
 // Zeros are after the bytes.
@@ -350,69 +310,45 @@ fn memory_of(s: &[u8]) -> [u8; QUEUE] {
 }
 
 // Hands the record after its length in, and compares the answer; nothing else is reported of it, and the tables stay.
-fn handed_in(p: Progress, s: &[u8]) -> Progress {
+fn handed_in(rt: &impl Print, p: &mut Progress, s: &[u8]) {
     let length = be16(s) as usize;
-    let mut queue = p.queue;
-    let t = p.tables;
-    let words = hand_in(t, &mut queue, part(s, 2, length));
+    let words = hand_in(&p.tables, &mut p.queue, part(s, 2, length));
     let expected = skip(skip(s, 2), length);
-    let mut next = p;
-    next.queue = queue;
-    next.handed = more(p.handed);
-    if (words[0] == byte_at(expected, 0) as u64)
+    p.handed = more(p.handed);
+    let is_same = (words[0] == byte_at(expected, 0) as u64)
         & (words[1] == 0)
         & (words[2] == 0)
         & (words[3] == 0)
         & (words[4] == 0)
         & same_range(&words, b"")
-        & same_links(&words, b"")
-    {
-        next
-    } else {
-        differing(next)
-    }
+        & same_links(&words, b"");
+    compared(rt, p, is_same);
 }
 
 // Takes at the clock with a buffer of the room after it, and compares the outcome and the record with those that follow.
-fn taken_turn(p: Progress, s: &[u8], lists: &[u8]) -> Progress {
+fn taken_turn(rt: &impl Print, p: &mut Progress, s: &[u8], lists: &[u8]) {
     let expected = skip(s, 6);
     let mut buffer = [165u8; 1300];
-    let mut queue = p.queue;
-    let t = p.tables;
     let u = take_within(
-        t,
-        &mut queue,
+        &p.tables,
+        &mut p.queue,
         default_creds(lists),
         default_aces(lists),
         be32(s),
         &mut buffer,
         be16(skip(s, 4)) as usize,
     );
-    let j = u.told;
-    let t = j.tables;
-    let words = j.words;
-    let mut next = p;
-    next.tables = t;
-    next.queue = queue;
-    next.takes = more(p.takes);
-    if same_outcome(&words, expected)
-        & same_reply(words[4], &buffer, skip(expected, 6))
-        & same_range(&words, skip(expected, 8))
-        & same_links(&words, skip(expected, 10))
-        & same_record(
-            u,
-            skip(skip(expected, 19), be16(skip(expected, 6)) as usize),
-        )
-    {
-        next
-    } else {
-        differing(next)
-    }
+    let record = skip(skip(expected, 19), be16(skip(expected, 6)) as usize);
+    let is_same = same_judged(&u.told.words, &buffer, expected)
+        & same_record(u.size, &u.bytes, record);
+    p.tables = u.told.tables;
+    p.takes = more(p.takes);
+    compared(rt, p, is_same);
 }
 
 // Takes with the first `capacity` bytes of the buffer, or all where it has fewer.
 fn take_within(
-    t: Tables,
+    t: &Tables,
     queue: &mut [u8; QUEUE],
     creds: &[u8],
     aces: &[u8],
@@ -426,7 +362,7 @@ fn take_within(
 
 // Takes on these tables.
 fn take(
-    t: Tables,
+    t: &Tables,
     queue: &mut [u8; QUEUE],
     creds: &[u8],
     aces: &[u8],
@@ -467,25 +403,23 @@ fn take(
 }
 
 // Whether the record taken is the one after its length, with zeros after it.
-fn same_record(u: Turn, expected: &[u8]) -> bool {
+fn same_record(size: u64, bytes: &[u8; 256], expected: &[u8]) -> bool {
     let record = part(expected, 2, be16(expected) as usize);
     let mut filled = [0u8; 256];
     text::put(&mut filled, 0, record);
-    (u.size == record.len() as u64) & rows::same_bytes(&u.bytes, &filled)
+    (size == record.len() as u64) & rows::same_bytes(bytes, &filled)
 }
 
 // Judges the record after its clock and its length with a buffer of the room after it, and compares the outcome with the one that follows.
-fn judged(p: Progress, s: &[u8], lists: &[u8]) -> Progress {
+fn judged(rt: &impl Print, p: &mut Progress, s: &[u8], lists: &[u8]) {
     let length = be16(skip(s, 4)) as usize;
     let record = part(s, 6, length);
     let behind = skip(skip(s, 6), length);
     let expected = skip(behind, 2);
     let mut buffer = [165u8; 1300];
-    let mut queue = p.queue;
-    let t = p.tables;
-    let j = judge_within(
-        t,
-        &mut queue,
+    let told = judge_within(
+        &p.tables,
+        &mut p.queue,
         default_creds(lists),
         default_aces(lists),
         be32(s),
@@ -493,26 +427,23 @@ fn judged(p: Progress, s: &[u8], lists: &[u8]) -> Progress {
         &mut buffer,
         be16(behind) as usize,
     );
-    let t = j.tables;
-    let words = j.words;
-    let mut next = p;
-    next.tables = t;
-    next.queue = queue;
-    next.records = more(p.records);
-    if same_outcome(&words, expected)
-        & same_reply(words[4], &buffer, skip(expected, 6))
-        & same_range(&words, skip(expected, 8))
-        & same_links(&words, skip(expected, 10))
-    {
-        next
-    } else {
-        differing(next)
-    }
+    let is_same = same_judged(&told.words, &buffer, expected);
+    p.tables = told.tables;
+    p.records = more(p.records);
+    compared(rt, p, is_same);
+}
+
+// Whether the outcome, the reply, the places and the links are those of these bytes.
+fn same_judged(words: &[u64; 9], buffer: &[u8], expected: &[u8]) -> bool {
+    same_outcome(words, expected)
+        & same_reply(words[4], buffer, skip(expected, 6))
+        & same_range(words, skip(expected, 8))
+        & same_links(words, skip(expected, 10))
 }
 
 // Judges a record with the first `capacity` bytes of the buffer, or all where it has fewer.
 fn judge_within(
-    t: Tables,
+    t: &Tables,
     queue: &mut [u8; QUEUE],
     creds: &[u8],
     aces: &[u8],
@@ -527,7 +458,7 @@ fn judge_within(
 
 // Judges a record on these tables.
 fn judge(
-    t: Tables,
+    t: &Tables,
     queue: &mut [u8; QUEUE],
     creds: &[u8],
     aces: &[u8],
@@ -562,7 +493,7 @@ fn judge(
 }
 
 // Hands a record in with these tables: what is reported, in words.
-fn hand_in(t: Tables, queue: &mut [u8; QUEUE], record: &[u8]) -> [u64; 9] {
+fn hand_in(t: &Tables, queue: &mut [u8; QUEUE], record: &[u8]) -> [u64; 9] {
     let counts = counts_of(t);
     let devowner = t.devowner;
     let rowners = t.rowners;
@@ -573,7 +504,7 @@ fn hand_in(t: Tables, queue: &mut [u8; QUEUE], record: &[u8]) -> [u64; 9] {
     words
 }
 
-fn counts_of(t: Tables) -> [u8; 4] {
+fn counts_of(t: &Tables) -> [u8; 4] {
     [t.state, t.owned, t.ncreds, t.naces]
 }
 
@@ -630,7 +561,7 @@ fn same_outcome(words: &[u64; 9], expected: &[u8]) -> bool {
         & (words[3] == be16(skip(expected, 4)) as u64)
 }
 
-fn same_tables(t: Tables, u: Tables) -> bool {
+fn same_tables(t: &Tables, u: &Tables) -> bool {
     (t.state == u.state)
         & (t.owned == u.owned)
         & (t.ncreds == u.ncreds)

@@ -50,17 +50,13 @@ struct Write {
     byte: u8,
 }
 
-fn main() {
-    let path = b"queries.bin";
-    let file = os::open_read(path);
-    if file < 0 {
-        os::fail(path);
-        return;
-    }
+fn main(rt: HostRuntime) {
+    let path = "queries.bin";
     let mut bytes = buffer();
-    let n = io::read_full(file, &mut bytes);
-    libc::close(file);
-    print_result(walk(&bytes[..n]));
+    match input::read_file(&rt, path, &mut bytes) {
+        Ok(n) => print_result(&rt, walk(&rt, &bytes[..n])),
+        Err(error) => input::fail(&rt, path, &error),
+    }
 }
 
 // More than the model writes. The last entry of a longer file is cut, and counts as a difference.
@@ -68,22 +64,15 @@ fn buffer() -> [u8; 200000] {
     [0; 200000]
 }
 
-fn print_result(p: Progress) {
-    io::write_all(1, b"queries: ");
-    io::print_decimal(1, p.questions);
-    io::write_all(1, b" lists of senders, ");
-    io::print_decimal(1, p.steps);
-    io::write_all(1, b" steps, ");
-    io::print_decimal(1, p.currents);
-    io::write_all(1, b" current images, ");
-    io::print_decimal(1, p.runs);
-    io::write_all(1, b" runs, ");
-    io::print_decimal(1, p.differences);
-    io::write_all(1, b" differences\n");
+fn print_result(rt: &impl Print, p: Progress) {
+    let _ = println!(rt;
+        "queries: {} lists of senders, {} steps, {} current images, {} runs, {} differences",
+        p.questions, p.steps, p.currents, p.runs, p.differences
+    );
 }
 
 // All entries in their order, up to an entry that is cut: a tag, the length of what follows, and that.
-fn walk(bytes: &[u8]) -> Progress {
+fn walk(rt: &impl Print, bytes: &[u8]) -> Progress {
     let mut p = Progress {
         entry: 0,
         questions: 0,
@@ -97,11 +86,12 @@ fn walk(bytes: &[u8]) -> Progress {
     let mut image = tables;
     let mut rest = bytes;
     while 0 < rest.len() {
-        p = counted(p);
+        counted(&mut p);
         let tag = byte_at(rest, 0);
         let size = 3 + be16(skip(rest, 1)) as usize;
         if rest.len() < size {
-            return differing(p);
+            differing(rt, &mut p);
+            return p;
         }
         let body = skip(part(rest, 0, size), 3);
         let t = one_of(tag == Tag::TABLES, body, tables);
@@ -110,7 +100,7 @@ fn walk(bytes: &[u8]) -> Progress {
         tables = t;
         store = m;
         image = i;
-        p = answered(p, tag, body, tables, store, image);
+        answered(rt, &mut p, tag, body, tables, store, image);
         rest = &rest[size..];
     }
     p
@@ -121,54 +111,54 @@ fn one_of<'a>(test: bool, a: &'a [u8], b: &'a [u8]) -> &'a [u8] {
     if test { a } else { b }
 }
 
-fn counted(p: Progress) -> Progress {
-    let mut next = p;
-    next.entry = more(p.entry);
-    next
+fn counted(p: &mut Progress) {
+    p.entry = more(p.entry);
 }
 
 // Says which entry differs, and counts it.
-fn differing(p: Progress) -> Progress {
-    io::write_all(1, b"entry ");
-    io::print_decimal(1, p.entry);
-    io::write_all(1, b" differs\n");
-    let mut next = p;
-    next.differences = more(p.differences);
-    next
+fn differing(rt: &impl Print, p: &mut Progress) {
+    let entry = p.entry;
+    let _ = println!(rt; "entry {entry} differs");
+    p.differences = more(p.differences);
 }
 
-fn compared(p: Progress, same: bool) -> Progress {
-    if same { p } else { differing(p) }
+fn compared(rt: &impl Print, p: &mut Progress, is_same: bool) {
+    if !is_same {
+        differing(rt, p);
+    }
 }
 
 // An entry that is put to the library; tables, a store and an image only become the current ones.
-fn answered(p: Progress, tag: u8, s: &[u8], tables: &[u8], store: &[u8], image: &[u8]) -> Progress {
+fn answered(
+    rt: &impl Print,
+    p: &mut Progress,
+    tag: u8,
+    s: &[u8],
+    tables: &[u8],
+    store: &[u8],
+    image: &[u8],
+) {
     match tag {
-        Tag::TABLES => p,
-        Tag::STORE => p,
-        Tag::IMAGE => p,
-        Tag::QUESTION => asked(p, s, tables),
-        Tag::STEP => stepped(p, s, store, image),
-        Tag::CURRENT => located(p, s, store),
-        Tag::RUN => stored(p, s, store, image),
-        _ => differing(p),
+        Tag::TABLES | Tag::STORE | Tag::IMAGE => {}
+        Tag::QUESTION => asked(rt, p, s, tables),
+        Tag::STEP => stepped(rt, p, s, store, image),
+        Tag::CURRENT => located(rt, p, s, store),
+        Tag::RUN => stored(rt, p, s, store, image),
+        _ => differing(rt, p),
     }
 }
 
 // Asks whether the senders after reason, entry and row are isolated.
-fn asked(p: Progress, s: &[u8], tables: &[u8]) -> Progress {
+fn asked(rt: &impl Print, p: &mut Progress, s: &[u8], tables: &[u8]) {
     let t = tables_of(tables);
     let creds = t.creds;
     let aces = t.aces;
     let found = isolation_of(t.head(), &creds, &aces, skip(s, 4)).report();
-    let mut next = p;
-    next.questions = more(p.questions);
-    compared(
-        next,
-        (found.reason == byte_at(s, 0))
-            & (found.entry == be16(skip(s, 1)) as usize)
-            & (found.row == byte_at(s, 3) as usize),
-    )
+    p.questions = more(p.questions);
+    let is_same = (found.reason == byte_at(s, 0))
+        & (found.entry == be16(skip(s, 1)) as usize)
+        & (found.row == byte_at(s, 3) as usize);
+    compared(rt, p, is_same);
 }
 
 // A number of 64 bits.
@@ -177,13 +167,13 @@ fn be64(s: &[u8]) -> usize {
 }
 
 // Asks for the next step from a position.
-fn stepped(p: Progress, s: &[u8], store: &[u8], image: &[u8]) -> Progress {
-    let mut next = p;
-    next.steps = more(p.steps);
+fn stepped(rt: &impl Print, p: &mut Progress, s: &[u8], store: &[u8], image: &[u8]) {
+    p.steps = more(p.steps);
     compared(
-        next,
-        same_step(step_from(store, image, be64(s)), skip(s, 8)),
-    )
+        rt,
+        p,
+        same_step(&step_from(store, image, be64(s)), skip(s, 8)),
+    );
 }
 
 fn step_from(store: &[u8], image: &[u8], from: usize) -> Write {
@@ -208,18 +198,16 @@ fn step_from(store: &[u8], image: &[u8], from: usize) -> Write {
 }
 
 // Whether a step is the one of these bytes: answer, place and byte.
-fn same_step(w: Write, expected: &[u8]) -> bool {
+fn same_step(w: &Write, expected: &[u8]) -> bool {
     (w.answer == byte_at(expected, 0))
         & (w.address == be16(skip(expected, 1)) as usize)
         & (w.byte == byte_at(expected, 3))
 }
 
 // Asks where the current image of that many bytes starts.
-fn located(p: Progress, s: &[u8], store: &[u8]) -> Progress {
-    let n = be64(s);
-    let mut next = p;
-    next.currents = more(p.currents);
-    compared(next, same_current(store, n, skip(s, 8)))
+fn located(rt: &impl Print, p: &mut Progress, s: &[u8], store: &[u8]) {
+    p.currents = more(p.currents);
+    compared(rt, p, same_current(store, be64(s), skip(s, 8)));
 }
 
 // Whether the answer and the place are those of these bytes: 0 and the place, or 2 and 0 where the store is none for such images.
@@ -231,13 +219,12 @@ fn same_current(store: &[u8], n: usize, expected: &[u8]) -> bool {
 }
 
 // Stores the image in a copy of the store, to the end.
-fn stored(p: Progress, s: &[u8], store: &[u8], image: &[u8]) -> Progress {
-    let mut next = p;
-    next.runs = more(p.runs);
+fn stored(rt: &impl Print, p: &mut Progress, s: &[u8], store: &[u8], image: &[u8]) {
+    p.runs = more(p.runs);
     let mut memory = [0u8; 17360];
     text::put(&mut memory, 0, store);
     let n = text::within(&memory, store.len());
-    compared(next, same_run(&mut memory[..n], image, s))
+    compared(rt, p, same_run(&mut memory[..n], image, s));
 }
 
 // Whether the writes of a whole run are those of these bytes, four for each, and it is done then.
@@ -247,7 +234,7 @@ fn same_run(memory: &mut [u8], image: &[u8], expected: &[u8]) -> bool {
     while 4 <= rest.len() {
         let step = step_from(memory, image, from);
         let address = step.address;
-        if !same_step(step, rest) {
+        if !same_step(&step, rest) {
             return false;
         }
         if memory.len() <= address {

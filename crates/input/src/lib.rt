@@ -1,0 +1,47 @@
+// What comes in from outside, read into a buffer of the caller's.
+#![tactic(auto)]
+
+ghost use Rattle.std.specs.Prelude.{◌≡◌, ◌≤◌, length, IfOk};
+
+use std::io::Read;
+use std::rt::Files;
+use std::{fs, io};
+
+// Reads until the buffer is full, the input ends or a read fails. The result is how many bytes stand at the buffer's beginning.
+// Rules out: a count that goes past the buffer.
+pub fn read_full<R: Read>(input: &mut R, buf: &mut [u8]) -> usize
+    ensures part { result ≤ length buf.new }
+    ensures room { length buf.new ≡ length buf.old }
+{
+    let mut done = 0;
+    while done < buf.len() {
+        let n = input.read(&mut buf[done..]).unwrap_or(0);
+        if n == 0 {
+            return done;
+        }
+        done += n;
+    }
+    done
+}
+
+// The same of a file. An error says that it could not be opened.
+// Rules out: a count that goes past the buffer.
+pub fn read_file(rt: &impl Files, path: &str, buf: &mut [u8]) -> io::Result<usize>
+    ensures part { IfOk result (λ n. n ≤ length buf.new) }
+    ensures room { length buf.new ≡ length buf.old }
+{
+    let mut file = fs::open(rt, path)?;
+    Ok(read_full(&mut file, buf))
+}
+
+// Says on standard error what could not be read, and why, in the system's words.
+pub fn fail(rt: &(impl Eprint + AllocGlobal), path: &str, error: &io::Error) {
+    if let Ok(text) = format!(in rt.alloc(); "{error}") {
+        let said = text.as_str();
+        let said = match said.split_once(" (os error ") {
+            Some((words, _)) => words,
+            None => said,
+        };
+        let _ = eprintln!(rt; "{path}: {said}");
+    }
+}

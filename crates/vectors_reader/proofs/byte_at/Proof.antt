@@ -1,7 +1,0 @@
--- `byte_at`: past the end 0.
-use Rattle.rows.proofs.Prelude.{sym, List·getD-eq-default, now, needs}
-use Rattle.vectors_reader.proofs.byte_at.Tie as tie
-
-pub byte_at_spec : {M : Type 1} → Rattle.vectors_reader.proofs.byte_at.Statement.statement M
-byte_at_spec = tie.close (tie.spec
-    (λ c. search needs) (λ c. search needs) (λ c. sym (List·getD-eq-default (now c.before.args.s) 0 c.if1.false)))
