@@ -23,7 +23,7 @@ INSTALL ?= install
 
 HEADERS := include/tillerclover.h include/tillerclover_known.h include/tillerclover_records.h \
     include/tillerclover_self_test.h include/tillerclover_store.h include/tillerclover_words.h include/tillerclover_yards.h
-SOURCES := crates.txt $(shell find crates -path '*/must-fail' -prune -o \( -name '*.rt' -o -name '*.antt' \) -print)
+SOURCES := crates.txt $(shell find crates \( -path '*/must-fail' -o -path 'crates/*/out' \) -prune -o \( -name '*.rt' -o -name '*.antt' \) -print)
 MAJOR := $(shell sed -n 's/^.define TILLERCLOVER_INTERFACE_MAJOR //p' include/tillerclover.h)
 MINOR := $(shell sed -n 's/^.define TILLERCLOVER_INTERFACE_MINOR //p' include/tillerclover.h)
 LIB := $(DESTDIR)$(LIBDIR)
@@ -58,7 +58,7 @@ DEBS := target/deb
 sample: ## proves the decision, builds the run program and tries it on a sample of five records (the default)
 	@echo "Proving: every record, on any tables, gets exactly the outcome of the rules (crates/rules/specs)."
 	@echo "Some six minutes on two idle cores; what was proved before and has not changed is not proved again."
-	@packaging/prove.sh check run
+	@packaging/prove.sh program
 	@echo "The sample, by the program that was proved:"
 	@target/bin/run <crates/run/stdin
 
@@ -94,7 +94,7 @@ endif
 
 # only where it is missing or older than a source
 target/staticlib/libterminal.a: $(SOURCES)
-	@packaging/prove.sh staticlib terminal
+	@packaging/prove.sh library
 	@touch $@
 
 tool/target/release/tillerclover: $(ARCHIVE) $(wildcard tool/src/* answers/src/* bindings/rust/src/*)

@@ -12,7 +12,7 @@ out=target/bench/callgrind
 
 # The instructions between two marks are one file. Each case has two on each side: a first call, and the call that counts.
 count() {
-    [ -f target/staticlib/libterminal.a ] || rt staticlib terminal >/dev/null
+    [ -f target/staticlib/libterminal.a ] || packaging/library.sh >/dev/null
     (cd model && cargo build --quiet --release --features yardstick --bin bench)
     rm -rf "$out" && mkdir -p "$out"
     valgrind --tool=callgrind --callgrind-out-file="$out/part" --dump-after=measured_mark \

@@ -1,7 +1,7 @@
 #!/usr/bin/env bash
 # Makes the figures of docs/BENCHMARKS.md and docs/benchmarks.svg again: runs the programs that measure, and writes what they print.
 #
-#     rt staticlib terminal && bench/page.sh     all of them, some three minutes
+#     packaging/library.sh && bench/page.sh      all of them, some three minutes
 #     bench/page.sh PART..                       some; the others' figures stay as they were measured last
 #
 # PART            measured by                                                needs
@@ -15,6 +15,8 @@
 # casbin          bench/casbin.sh: another engine                            Go and casbin (bench/casbin.sh --install); left out without them
 set -euo pipefail
 cd "$(dirname "$0")/.."
+# shellcheck source=packaging/below.sh
+. packaging/below.sh
 
 PARTS=(same_compiler counts times cortex worst targets by_hand casbin)
 out=target/bench
@@ -23,11 +25,8 @@ counts() { bench/callgrind.sh; }
 
 # The kit's compiler has no headers of its own.
 same_compiler() {
-    local rt clang
-    rt=$(readlink -f "$(command -v rt)")
-    clang=${RATTLE_HOME:-$(dirname "$(dirname "$rt")")}/on/$(uname -m)/toolchain/bin/clang
     printf '#!/bin/sh\nexec %s -isystem %s -isystem /usr/include -isystem /usr/include/%s "$@"\n' \
-        "$clang" "$(cc -print-file-name=include)" "$(cc -print-multiarch)" >"$out/clang"
+        "$(kit)/toolchain/bin/clang" "$(cc -print-file-name=include)" "$(cc -print-multiarch)" >"$out/clang"
     chmod +x "$out/clang"
     CC=$PWD/$out/clang CARGO_TARGET_DIR=$PWD/$out/model bench/callgrind.sh
 }
@@ -60,7 +59,7 @@ casbin() { bench/casbin.sh; }
 for part in "$@"; do
     [[ " ${PARTS[*]} " == *" $part "* ]] || { echo "no part '$part'; they are: ${PARTS[*]}" >&2 && exit 2; }
 done
-[ -f target/staticlib/libterminal.a ] || rt staticlib terminal >/dev/null
+[ -f target/staticlib/libterminal.a ] || packaging/library.sh >/dev/null
 mkdir -p "$out"
 if [ $# -eq 0 ]; then
     command -v go >/dev/null || PARTS=("${PARTS[@]/casbin/}")

@@ -23,7 +23,7 @@ esac
 
 on_x86() {
     mkdir -p "$out/worst"
-    [ -f target/staticlib/libterminal.a ] || rt staticlib terminal >/dev/null
+    [ -f target/staticlib/libterminal.a ] || packaging/library.sh >/dev/null
     cc -std=c11 -O1 -Wall -Wextra -Wpedantic -Wconversion -Werror -Iinclude bench/worst.c target/staticlib/libterminal.a -o "$out/worst/program"
     DUMPS=$out/worst/part valgrind --quiet --tool=callgrind --callgrind-out-file="$out/worst/part" --toggle-collect='tillerclover_*_at' \
         "$out/worst/program" bench/worst.txt "$rounds" "$seed" 2>"$out/worst/log" || { cat "$out/worst/log" >&2 && return 1; }

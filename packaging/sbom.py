@@ -2,6 +2,10 @@
 """What a release is made of: an SBOM, CycloneDX 1.5 in JSON, from what nm, cargo and dpkg know.
 
     packaging/sbom.py ARCHIVE PROGRAM.. >FILE
+    packaging/sbom.py --check FILE [FOLDER]      compares a file with packaging/cyclonedx.json; status 1 where it does not fit
+
+With FOLDER the file is held to CycloneDX's own schema too, by the module jsonschema. The folder has the files of Debian's package
+python3-cyclonedx-lib, cyclonedx/schema/_res.
 
 The archive: each symbol is of a crate of crates.txt, or called in the C library. A program: the packages of the shared libraries that
 the loader finds; the command, called tillerclover, also the crates that cargo links. Licences are those that crates and packages state.
@@ -54,7 +58,7 @@ def own(ref, file, version, **values):
 def library(path, version):
     """The archive. A symbol that is neither the project's nor the C library's ends the program."""
     symbols = re.findall(r"^[0-9a-f ]+ ([TtU]) (.+)$", said("nm", path), re.M)
-    crates = set(re.findall(r"^(\w+):", read("crates.txt"), re.M))
+    crates = set(re.findall(r"^(\w+)(?: staticlib)?:", read("crates.txt"), re.M))
     known = {"T": lambda name: name.startswith("tillerclover_"), "U": C_LIBRARY.__contains__}
     known["t"] = lambda name: name.split("::")[0] in crates
     unknown = [name for kind, name in symbols if not known[kind](name)]
@@ -144,6 +148,89 @@ def document(archive, programs):
     return {**made, "serialNumber": f"urn:uuid:{uuid.uuid5(uuid.NAMESPACE_URL, json.dumps(made, sort_keys=True))}"}
 
 
+# ---- the check: as much of JSON Schema as packaging/cyclonedx.json uses
+
+
+def faults_of(value, schema, definitions, place="the file"):
+    if "$ref" in schema:
+        schema = definitions[schema["$ref"].split("/")[-1]]
+    types = {"object": dict, "array": list, "string": str, "integer": int}
+    if "type" in schema and (not isinstance(value, types[schema["type"]]) or isinstance(value, bool)):
+        return [f"{place} is no {schema['type']}"]
+    found = []
+    if "const" in schema and value != schema["const"]:
+        found.append(f"{place} is not '{schema['const']}'")
+    if "enum" in schema and value not in schema["enum"]:
+        found.append(f"{place} is none of {schema['enum']}")
+    if "pattern" in schema and not re.search(schema["pattern"], value):
+        found.append(f"{place}, '{value}', has another form")
+    if len(value) < schema.get("minLength", 0) if isinstance(value, str) else False:
+        found.append(f"{place} is empty")
+    if isinstance(value, int) and value < schema.get("minimum", value):
+        found.append(f"{place} is too small")
+    if isinstance(value, list):
+        if schema.get("uniqueItems") and len(set(value)) != len(value):
+            found.append(f"{place} has one thing twice")
+        for at, item in enumerate(value):
+            found += faults_of(item, schema.get("items", {}), definitions, f"{place}[{at}]")
+    if isinstance(value, dict):
+        known = schema.get("properties", {})
+        found += [f"{place} has no {name}" for name in schema.get("required", []) if name not in value]
+        if schema.get("additionalProperties") is False:
+            found += [f"{place} has an unknown {name}" for name in value if name not in known]
+        for name, part in value.items():
+            found += faults_of(part, known.get(name, {}), definitions, f"{place}.{name}")
+    return found
+
+
+def by_standard(made, folder):
+    """What CycloneDX's own schema says against a file. It cites two others, which become definitions of its own."""
+    import jsonschema  # no part of Python, and asked for here alone
+
+    def part(name):
+        return read(os.path.join(os.path.abspath(folder), f"{name}.SNAPSHOT.schema.json"))
+
+    def no_more(_, allowed, value, within):
+        # In Debian 12 the module fails where it has to say which items are too many.
+        if allowed is False and isinstance(value, list) and len(value) > len(within["items"]):
+            yield jsonschema.ValidationError(f"{len(value)} items, and {len(within['items'])} are allowed")
+
+    schema = json.loads(
+        re.sub(r'"(spdx|jsf-0\.82)\.SNAPSHOT\.schema\.json(?:#/definitions)?', r'"#/definitions/\1', part("bom-1.5"))
+    )
+    schema["definitions"]["spdx"] = json.loads(part("spdx"))
+    schema["definitions"]["jsf-0.82"] = {"signature": False}
+    for inner in (schema, schema["definitions"]["spdx"]):
+        inner.pop("$id")
+    validator = jsonschema.validators.extend(jsonschema.Draft7Validator, {"additionalItems": no_more})
+    validator.check_schema(schema)
+    faults = validator(schema, format_checker=jsonschema.FormatChecker()).iter_errors(made)
+    return [f"by CycloneDX's schema, {fault.json_path}: {fault.message[:200]}" for fault in faults]
+
+
+def check(path, folder=None):
+    schema = json.loads(read("packaging/cyclonedx.json"))
+    made = json.loads(read(os.path.abspath(path)))
+    found = faults_of(made, schema, schema["definitions"])
+    if not found:
+        refs = [component["bom-ref"] for component in [made["metadata"]["component"], *made["components"]]]
+        found += [f"two components are called {ref}" for ref in sorted(set(refs)) if refs.count(ref) > 1]
+        used = {ref for edge in made["dependencies"] for ref in [edge["ref"], *edge["dependsOn"]]}
+        found += [f"there is no component {ref}" for ref in sorted(used - set(refs))]
+        found += [
+            f"{component['name']} states no licence"
+            for component in made["components"]
+            if not component.get("licenses")
+        ]
+    if folder:
+        found += by_standard(made, folder)
+    for line in found:
+        print(f"sbom: {line}", file=sys.stderr)
+    return 1 if found else 0
+
+
+if len(sys.argv) in (3, 4) and sys.argv[1] == "--check":
+    sys.exit(check(*sys.argv[2:]))
 if len(sys.argv) < 2 or sys.argv[1].startswith("-"):
     sys.exit(__doc__.strip())
 print(json.dumps(document(*[os.path.abspath(sys.argv[1]), [os.path.abspath(path) for path in sys.argv[2:]]]), indent=2))

@@ -14,6 +14,8 @@
 # sources are copied below one, and no path of the machine is written into the module.
 set -euo pipefail
 cd "$(dirname "$0")/.."
+# shellcheck source=packaging/below.sh
+. packaging/below.sh
 
 root=$PWD
 out=$root/target/page
@@ -72,7 +74,7 @@ END
 # linker KIT: the toolchain's, which is told by its name what it links, and links the calls at random too. They are no flag of cargo's:
 # with other flags it would build everything again.
 linker() {
-    mkdir -p "$out/lld" && ln -sfn "$1/on/$(uname -m)/toolchain/bin/clang" "$out/lld/wasm-ld"
+    mkdir -p "$out/lld" && ln -sfn "$1/toolchain/bin/clang" "$out/lld/wasm-ld"
     cat >"$out/wasm-ld" <<END
 #!/bin/sh
 case "\$*" in *tillerclover_page*) exec '$out/lld/wasm-ld' "\$@" '$out/digest.o' ;; esac
@@ -101,8 +103,7 @@ sum() { sha256sum "$1" | cut -d ' ' -f 1; }
 [ -x "$rust/cargo" ] || stop "there is no $rust/cargo: it is in Debian's package cargo-web, or cargo"
 library=$("$rust/rustc" --print sysroot)/lib/rustlib/src/rust/library
 [ -d "$library" ] || stop "there is no $library: it is in Debian's package rust-web-src, or rust-src"
-kit=$(readlink -f "$(command -v rt)") || stop "the toolchain's command rt is not on the path"
-kit=${RATTLE_HOME:-$(dirname "$(dirname "$kit")")}
+kit=$(kit) || stop "the toolchain's command rt is not on the path"
 mkdir -p "$out"
 linker "$kit"
 sources

@@ -4,8 +4,8 @@
 #     targets/build.sh              all targets
 #     targets/build.sh TRIPLE..     some of them; an unknown one lists them all
 #
-# `rt staticlib terminal` proves the library and hands a module to its compiler, once for x86-64. This script keeps that
-# module (target/lib/module.bc) and compiles it for each target, at -O3 and at -O2:
+# `rt lib` in crates/terminal_c proves the library and hands a module to its compiler, once for x86-64. packaging/library.sh --keep keeps
+# that module (target/lib/module.bc), and this script compiles it for each target, at -O3 and at -O2:
 #
 #     target/lib/TRIPLE/O3/libterminal.a    fast, as the toolchain compiles
 #     target/lib/TRIPLE/O2/libterminal.a    about a tenth smaller
@@ -18,6 +18,8 @@
 # numbers is refused. Nothing but the toolchain is needed.
 set -euo pipefail
 cd "$(dirname "$0")/.."
+# shellcheck source=packaging/below.sh
+. packaging/below.sh
 
 # triple, and the compiler's words for it
 TARGETS=(
@@ -33,16 +35,17 @@ TARGETS=(
 )
 OWN=x86_64-unknown-linux-gnu
 # how the toolchain calls its compiler, except for the target's words and the level
-FLAGS=(-ffunction-sections -fdata-sections -mllvm -trap-unreachable -mllvm -no-trap-after-noreturn --no-default-config
+FLAGS=(-ffunction-sections -fdata-sections -mllvm -trap-unreachable -mllvm -no-trap-after-noreturn -mllvm -no-x86-call-frame-opt
+    -mllvm -disable-machine-licm -mllvm -disable-postra-machine-licm -mllvm -sink-common-insts=false --no-default-config
     -no-canonical-prefixes -fintegrated-cc1 -fno-crash-diagnostics -Werror -c -x ir)
+# the crate whose code the module is; the compiler's object, in an archive, has its name
+CRATE=terminal_c
 
 lib=$PWD/target/lib
 archive=$PWD/target/staticlib/libterminal.a
-rt=$(readlink -f "$(command -v rt)") || { echo "the toolchain's command rt is not on the path" >&2 && exit 2; }
-kit=${RATTLE_HOME:-$(dirname "$(dirname "$rt")")}
-tools=on/$(uname -m)/toolchain
-clang=$kit/$tools/bin/clang
-ar=$kit/$tools/bin/llvm-ar
+kit=$(kit) || exit 2
+clang=$kit/toolchain/bin/clang
+ar=$kit/toolchain/bin/llvm-ar
 
 stop() {
     echo "build.sh: $*" >&2
@@ -51,49 +54,16 @@ stop() {
 
 # ---- the module
 
-# links FROM TO: each entry of a folder, by a link
-links() { mkdir -p "$2" && ln -s "$1"/* "$2"/; }
-
-# The kit by links, with a compiler that keeps what it is given and then calls the real one. The prover clears the
-# environment of its compiler, so the paths are in the script.
-keeping_kit() {
-    local bin=$1/$tools/bin
-    links "$kit" "$1" && rm "$1/on" && links "$kit/on/$(uname -m)" "$1/on/$(uname -m)"
-    rm "$1/$tools" && links "$kit/$tools" "$1/$tools" && rm "$1/$tools/bin" && links "$kit/$tools/bin" "$bin" && rm "$bin/clang"
-    cat >"$bin/clang" <<END
-#!/bin/sh
-for word in "\$@"; do
-    case \$word in *.bc) cp "\$word" '$2' ;; esac
-done
-exec '$clang' "\$@"
-END
-    chmod +x "$bin/clang"
-}
-
-# The repository by links, with folders of its own for what rt writes: another test may read the archive meanwhile.
-beside() {
-    mkdir -p "$1/target/log" "$1/target/staticlib"
-    ln -s "$PWD/crates" "$PWD/crates.txt" "$1/"
-    ln -s "$PWD/target/rlib" "$PWD/target/stamp" "$1/target/"
-}
-
-# Proves the library, and keeps the module, unless the kept module is the archive's.
+# Keeps the module, unless the kept module is the archive's.
 module() {
-    [ -f "$archive" ] || rt staticlib terminal >/dev/null || stop "the library is not proved"
+    [ -f "$archive" ] || packaging/library.sh >/dev/null || stop "the library is not proved"
     if [ -f "$lib/module.bc" ] && cmp -s "$archive" "$lib/archive.a"; then
         return
     fi
-    local work
-    echo "build.sh: proves the library once more, to keep its module"
-    work=$(mktemp -d) && mkdir -p "$lib"
-    keeping_kit "$work/kit" "$work/module.bc"
-    beside "$work/root"
-    (cd "$work/root" && RATTLE_HOME=$work/kit "$rt" staticlib terminal) >"$work/log" 2>&1 ||
-        { tail -n 20 "$work/log" >&2 && stop "the library is not proved"; }
-    cmp -s "$archive" "$work/root/target/staticlib/libterminal.a" || stop "$archive is of other sources: rt staticlib terminal makes it anew"
-    mv "$work/module.bc" "$lib/module.bc"
-    cp "$archive" "$lib/archive.a"
-    rm -rf "$work"
+    echo "build.sh: proves the library's own crate once more, to keep its module"
+    packaging/library.sh --keep "$lib.new" || stop "the library is not proved"
+    cmp -s "$archive" "$lib.new/archive.a" || stop "$archive is of other sources: packaging/library.sh makes it anew"
+    mkdir -p "$lib" && mv "$lib.new/module.bc" "$lib.new/archive.a" "$lib/" && rmdir "$lib.new"
 }
 
 # exported FILE: the names of the functions that the module's text exports
@@ -139,9 +109,9 @@ build() {
     fi
     for level in O3 O2; do
         rm -rf "${folder:?}/$level" && mkdir "$folder/$level"
-        "$clang" --target="$1" "${@:2}" "${FLAGS[@]}" "-$level" "$from" -o "$folder/$level/terminal.o"
-        "$ar" rcsD "$folder/$level/libterminal.a" "$folder/$level/terminal.o"
-        rm "$folder/$level/terminal.o"
+        "$clang" --target="$1" "${@:2}" "${FLAGS[@]}" "-$level" "$from" -o "$folder/$level/$CRATE.o"
+        "$ar" rcsD "$folder/$level/libterminal.a" "$folder/$level/$CRATE.o"
+        rm "$folder/$level/$CRATE.o"
         [[ $1 != wasm32-* ]] || link_module "$folder/$level/libterminal.a" "$folder/$level/terminal.wasm"
     done
     rm -f "$folder/module.ll"

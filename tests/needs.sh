@@ -53,6 +53,23 @@ need_crates() {
 # What the example terminal is linked with.
 need_coap() { need /usr/include/coap3/coap.h libcoap3-dev && need /usr/include/openssl/ssl.h libssl-dev; }
 
+# need_schema: CycloneDX's own schema; $schema is its folder, empty where it cannot be had. Debian 13 has it in python3-cyclonedx-lib. An
+# older Debian takes the package from there, by the signature of its archive, and unpacks it here: nothing is installed.
+need_schema() {
+    local own="$work/debian-13" from_13 package=python3-cyclonedx-lib
+    from_13=(-o "Dir::Etc::SourceList=$own/sources" -o Dir::Etc::SourceParts=/dev/null -o "Dir::State::Lists=$own/lists" -o "Dir::Cache=$own/cache")
+    schema=$work/cyclonedx/usr/lib/python3/dist-packages/cyclonedx/schema/_res
+    mkdir -p "$own/lists/partial" "$own/cache/archives/partial" &&
+        echo "deb [signed-by=/usr/share/keyrings/debian-archive-keyring.gpg] http://deb.debian.org/debian trixie main" >"$own/sources" || return 1
+    if python3 -c 'import jsonschema' 2>/dev/null || get python3-jsonschema; then
+        (cd "$work" && { apt-get download $package || { timeout 120 apt-get "${from_13[@]}" update && apt-get "${from_13[@]}" download $package; }; } &&
+            dpkg-deb -x $package*.deb cyclonedx) >"$work/apt" 2>&1
+    fi
+    [ ! -e "$schema/bom-1.5.SNAPSHOT.schema.json" ] || return 0
+    schema=
+    echo "CycloneDX's own schema cannot be had here: the SBOM is compared with packaging/cyclonedx.json alone"
+}
+
 # log COMMAND..: runs it, and shows what it wrote only where it fails
 log() {
     "$@" >"$work/log" 2>&1 && return
@@ -65,10 +82,10 @@ log() {
 # LIBRARY_BUILT says that the caller has built both.
 library_built=${LIBRARY_BUILT-}
 library() {
-    [ -n "$library_built" ] || log rt staticlib terminal || return 1
+    [ -n "$library_built" ] || log packaging/library.sh || return 1
     library_built=yes
 }
-run_program() { [ -n "${LIBRARY_BUILT-}" ] || log rt check run; }
+run_program() { [ -n "${LIBRARY_BUILT-}" ] || log packaging/program.sh; }
 
 in_model() { (cd model && "$@"); }
 in_binding() { (cd bindings/rust && "$@"); }

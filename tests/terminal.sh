@@ -381,24 +381,25 @@ part_turns() {
     # One unauthenticated client waits; the others may try again.
     kill -STOP "$pid"
     for i in 1 2 3 4 5; do
-        send 0 get /oic/sec/pstat "$work/clear.$i"
+        send 0 get /oic/sec/pstat "$work/clear.$i" -o "$work/state.$i"
         clients[i]=$client
     done
     # time for the front, which is not halted
     sleep 1
     kill -CONT "$pid"
     wait "${clients[@]}"
-    many="$(grep -al " c:2.05 " "$work"/clear.? | wc -l) $(grep -al "^5.03 26 another record of this sender waits" "$work"/clear.? | wc -l)"
-    [ "$many" = "1 4" ] || fault "five in clear: $many were permitted and have to wait"
+    many="$(grep -al " c:2.05 " "$work"/clear.? | wc -l) $(cat "$work"/state.? | od -An -v -tx1 | tr -d ' \n') "
+    many+=$(grep -al "^5.03 26 another record of this sender waits" "$work"/clear.? | wc -l)
+    [ "$many" = "1 20$(uuid 00) 4" ] || fault "five in clear: permitted, the state, and how many have to wait: $many"
     # A row that is deleted takes its record with it, and the client gets an answer.
     expect "2.04 " 0 post /oic/sec/cred "$(cred 7 "$(uuid 07)")"
     again
     i=$client
-    send 0 delete /oic/sec/cred "$work/deleted" -e "$(percent "$(number 7)")"
+    send 0 delete /oic/sec/cred "$work/deleted" -e "$(percent "$(number 7)")" -o "$work/nothing"
     sleep 1
     kill -CONT "$pid"
     wait "$i" "$client"
-    grep -aq " c:2.02 " "$work/deleted" && grep -aq "5.03 27 the record was dropped with its row" "$work/again" ||
+    grep -aq " c:2.02 " "$work/deleted" && [ ! -s "$work/nothing" ] && grep -aq "5.03 27 the record was dropped with its row" "$work/again" ||
         fault "a record of a deleted row: $(cat "$work/deleted" "$work/again")"
     # A client that closes its session before its turn takes nobody's answer.
     expect "2.04 " 0 post /oic/sec/cred "$(cred 7 "$(uuid 07)")"

@@ -26,7 +26,12 @@ def plain(name):
 def names_of(crate):
     with tempfile.TemporaryDirectory() as d:
         folder = os.path.join(d, "names")
-        r = subprocess.run(["rt", "check", "--generated", folder, "--old-names"], cwd=os.path.join("crates", crate), capture_output=True, text=True)
+        r = subprocess.run(
+            ["rt", "check", "--generated", folder, "--old-names"],
+            cwd=os.path.join("crates", crate),
+            capture_output=True,
+            text=True,
+        )
         path = os.path.join(folder, "names.json")
         if not os.path.exists(path):
             raise SystemExit(f"{crate}: no names: {r.stdout[-2000:]}{r.stderr[-500:]}")
@@ -64,7 +69,13 @@ def anchored(text, it, where, said):
     step = [place[2][1] for place in it["places"]]
     by_name = {name: i for i, name in enumerate(names)}
     asked = {"Need-" + need[1]: by_name.get(at[1]) for need, at in zip(it["needs"], it["asked_at"])}
-    helpers = {m[1]: by_name.get(m[2]) for m in re.finditer(r"(?m)^(?:pub )?(?:abbrev )?(" + WORD + r") : (?:\(c : )?tie\.(" + WORD + r")(?: invariant[^)→\n]*)?\)? →", text)}
+    helpers = {
+        m[1]: by_name.get(m[2])
+        for m in re.finditer(
+            r"(?m)^(?:pub )?(?:abbrev )?(" + WORD + r") : (?:\(c : )?tie\.(" + WORD + r")(?: invariant[^)→\n]*)?\)? →",
+            text,
+        )
+    }
 
     def distance(a, b):
         n = 0
@@ -110,7 +121,11 @@ def anchored(text, it, where, said):
         for m in aliases.finditer(chunk):
             if m[2] in known and m[1] not in known:
                 known[m[1]] = known[m[2]]
-        chunk = re.sub(r"(?<![\w.'-])(" + WORD + r")((?:\.before)*)(?:\.(" + WORD + "))", lambda m: found(m) if m[3] != "before" else m[0], chunk)
+        chunk = re.sub(
+            r"(?<![\w.'-])(" + WORD + r")((?:\.before)*)(?:\.(" + WORD + "))",
+            lambda m: found(m) if m[3] != "before" else m[0],
+            chunk,
+        )
         for helper, target in helpers.items():
             if target is None:
                 continue
@@ -121,7 +136,11 @@ def anchored(text, it, where, said):
                 end = "c" + ".before" * distance(known[m[2]][0], target)
                 return f"{m[1]} {end}"
 
-            chunk = re.sub(r"(?<![\w.'-])(" + re.escape(helper) + r") (" + WORD + r")((?:\.before)*)(?![\w.'-])", call, chunk)
+            chunk = re.sub(
+                r"(?<![\w.'-])(" + re.escape(helper) + r") (" + WORD + r")((?:\.before)*)(?![\w.'-])",
+                call,
+                chunk,
+            )
         for m in list(aliases.finditer(chunk)):
             if m[2] in known and len(re.findall(r"(?<![\w.'-])" + re.escape(m[1]) + r"(?![\w'-])", chunk)) == 1:
                 chunk = re.sub(r"[ \n]*" + re.escape(m[0]) + r"(?=\s)", "", chunk, count=1)
@@ -205,7 +224,12 @@ def turn(text, it, where):
                 return f"tie.{head}-{loops[p[len(head) + 1 :]]}"
         if p.startswith("Need_"):
             q = p[5:]
-            for one in (q, re.sub(r"^overflow_", "", q), re.sub(r"^slice_bounds_", "part_", q), re.sub(r"^bounds_", "", q)):
+            for one in (
+                q,
+                re.sub(r"^overflow_", "", q),
+                re.sub(r"^slice_bounds_", "part_", q),
+                re.sub(r"^bounds_", "", q),
+            ):
                 if one in needs:
                     return "tie.Need-" + needs[one]
             said.append(f"{where}: no goal {name}")
@@ -228,17 +252,35 @@ def turn(text, it, where):
             if re.match(r"\s*(pub |unfoldable )*use ", one):
                 continue
             one = re.sub(r"\btie\.(" + WORD + ")", tie, one)
-            one = re.sub(r"(?<=[\w'₀-₉)-])\.(" + WORD + ")", lambda m: label(m) if not m.string[: m.start()].endswith("tie") else m[0], one)
+            one = re.sub(
+                r"(?<=[\w'₀-₉)-])\.(" + WORD + ")",
+                lambda m: label(m) if not m.string[: m.start()].endswith("tie") else m[0],
+                one,
+            )
             lines[k] = re.sub(r"(?<![\w.'-])needs(?![\w'-])", "rules", one)
         parts[i] = "\n".join(lines)
     text = "".join(parts)
     text = without_import(text, "now")
-    text = re.sub(r"(?m)^(use Rattle\.rows\.proofs\.Prelude\.\{[^}\n]*)\bneeds\b", r"\1rules", text)
+    text = re.sub(
+        r"(?m)^(use Rattle\.rows\.proofs\.Prelude\.\{[^}\n]*)\bneeds\b",
+        r"\1rules",
+        text,
+    )
     text = anchored(text, it, where, said)
     return text, said
 
 
-KEPT = {"before", "args", "requires", "ensures", "now", "new", "old", "result", "invariant"}
+KEPT = {
+    "before",
+    "args",
+    "requires",
+    "ensures",
+    "now",
+    "new",
+    "old",
+    "result",
+    "invariant",
+}
 
 
 def main(crates):
@@ -261,7 +303,11 @@ def main(crates):
                 else:
                     text = now_behind(was)
                     text = without_import(text, "now")
-                    text = re.sub(r"(?m)^(use Rattle\.rows\.proofs\.Prelude\.\{[^}\n]*)\bneeds\b", r"\1rules", text)
+                    text = re.sub(
+                        r"(?m)^(use Rattle\.rows\.proofs\.Prelude\.\{[^}\n]*)\bneeds\b",
+                        r"\1rules",
+                        text,
+                    )
                     text = re.sub(r"\bsearch needs\b", "search rules", text)
                     text = re.sub(r"\bsearch \(needs,", "search (rules,", text)
                 if text != was:

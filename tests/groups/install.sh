@@ -69,17 +69,21 @@ released() {
         log make -C "$release/examples/terminal" INCLUDE=../../include ARCHIVE=../../lib/libtillerclover.a OUT="$work" CFLAGS=-O0
 }
 
-# bill_of FILE NAME..: what the programs are made of fits the part of CycloneDX's schema that is written, and has components of these names;
-# one without its version's number does not fit
+# bill_of FILE NAME..: what the programs are made of fits the schema, CycloneDX's own too, and has components of these names; a spoilt one
+# is noticed
 bill_of() {
     local name
-    python3 -c 'import jsonschema' 2>/dev/null || get python3-jsonschema || return 1
-    log python3 -W ignore -m jsonschema -i "$1" packaging/cyclonedx.json || return 1
-    sed '/"specVersion"/d' "$1" >"$work/spoilt.json"
-    ! python3 -W ignore -m jsonschema -i "$work/spoilt.json" packaging/cyclonedx.json >"$work/log" 2>&1 ||
-        { echo "install: the SBOM may have no version" && return 1; }
+    need_schema && log packaging/sbom.py --check "$1" ${schema:+"$schema"} || return 1
+    # two licences, of which one is an expression, are against only the standard
+    sed '0,/"licenses": \[/s//"licenses": [{"expression": "MIT"},/' "$1" >"$work/spoilt.json"
+    packaging/sbom.py --check "$work/spoilt.json" && { [ -z "$schema" ] || ! packaging/sbom.py --check "$work/spoilt.json" "$schema" 2>/dev/null; } ||
+        { echo "install: CycloneDX's own schema is not asked" && return 1; }
     for name in "${@:2}"; do
         grep -qE "\"name\": \"$name\"" "$1" || { echo "install: the SBOM has no $name" && return 1; }
+    done
+    for name in '/"specVersion"/d' 's/"SHA-256"/"MD5"/' 's/"ref": "program:[a-z]*"/"ref": "another"/' '/"licenses": \[/,/\]/c "licenses": []'; do
+        sed "$name" "$1" >"$work/spoilt.json"
+        ! packaging/sbom.py --check "$work/spoilt.json" 2>/dev/null || { echo "install: the SBOM may be spoilt by $name" && return 1; }
     done
 }
 

@@ -6,8 +6,8 @@ use Rattle.rules.specs.declared.Tables.{Tables}
 use Rattle.rules.specs.declared.Header.{Header}
 use Rattle.rules.specs.declared.Check.TheVariants.{Pass}
 use Rattle.rules.specs.Bits.{be16}
-use Rattle.rules.specs.Directory.{known, resource_of, links}
-use Rattle.rules.specs.Record.{header_of, sender, body}
+use Rattle.rules.specs.Directory.{known}
+use Rattle.rules.specs.Record.{header_of}
 use Rattle.rules.specs.Permission.{sender_row}
 use Rattle.rules.specs.Links.{asks_links, own_record, permits, link_set, links_of}
 use Rattle.rules.specs.Checks.{verdict, is_pass, bad_length, no_verb, zero_bit_set, mismatch, unknown_resource, no_row, no_credential}

@@ -9,7 +9,7 @@ ghost use Rattle.rules_terminal.specs.Round.{occupied};
 ghost use Rattle.rules.specs.Promises.Results.{number_judgement, result_with};
 ghost use Rattle.rules_terminal.specs.Terminal.{terminal, hand_in_checks};
 ghost use Rattle.rules_terminal.specs.Calls.{HandsIn};
-ghost use Rattle.rules.specs.Promises.Words.{was, became, before};
+ghost use Rattle.rules.specs.Promises.Words.{was, before};
 
 use caller::check_record;
 use check_waiting::check_terminal;
@@ -74,8 +74,8 @@ pub fn hand_in<'a>(
     queue: &mut [u8; QUEUE],
     rec: &[u8],
 ) -> Judgement
-    ensures { HandsIn (terminal (before h creds aces) (was queue))
-        (was rec) (result_with result (was creds) (was aces)) (became queue) }
+    ensures { HandsIn (terminal (before h creds aces) queue.old)
+        (was rec) (result_with result (was creds) (was aces)) queue.new }
 {
     let c = check_hand_in(h, creds, aces, queue, rec);
     let Check::Pass = c else {

@@ -8,7 +8,7 @@ ghost use Rattle.text.specs.Buffer.{Puts};
 ghost use Rattle.rows.specs.Rows.{rows_of};
 ghost use Rattle.rules.specs.declared.Table.TheVariants.{Aces};
 ghost use Rattle.rules.specs.Tables.{rows_in};
-ghost use Rattle.rules.specs.Promises.Words.{was, became, before};
+ghost use Rattle.rules.specs.Promises.Words.{was, before};
 ghost use Rattle.rules.specs.Reading.{filled};
 ghost use Rattle.rules.specs.Checks.{number_of};
 ghost use Rattle.rules_terminal.specs.Terminal.{terminal};
@@ -44,7 +44,7 @@ fn is_seasonal(row: &[u8]) -> bool
 
 // A row after its comma, or nothing where the row is left out.
 fn put_entry(out: &mut [u8], at: usize, first: bool, row: &[u8]) -> usize
-    ensures { Puts (was out) at (cond (seasonal (was row)) [] (comma first ++ row_text (was row))) (became out) result }
+    ensures { Puts out.old at (cond (seasonal (was row)) [] (comma first ++ row_text (was row))) out.new result }
 {
     if is_seasonal(row) {
         return direct::put(out, at, b"");
@@ -55,7 +55,7 @@ fn put_entry(out: &mut [u8], at: usize, first: bool, row: &[u8]) -> usize
 
 fn put_rows(out: &mut [u8], at: usize, rows: &[u8], count: usize) -> usize
     requires { count * ace_row_size ≤ length rows.now }
-    ensures { Puts (was out) at (rows_text (rows_written (rows_of ace_row_size count (was rows)))) (became out) result }
+    ensures { Puts out.old at (rows_text (rows_written (rows_of ace_row_size count (was rows)))) out.new result }
 {
     let mut p = at;
     let mut first = true;
@@ -72,7 +72,7 @@ fn put_rows(out: &mut [u8], at: usize, rows: &[u8], count: usize) -> usize
 }
 
 fn put_list(out: &mut [u8], naces: u8, aces: &[u8; ACE_ROWS]) -> usize
-    ensures { Puts (was out) 0 (list_text (rows_written (rows_in Aces naces (was aces)))) (became out) result }
+    ensures { Puts out.old 0 (list_text (rows_written (rows_in Aces naces (was aces)))) out.new result }
 {
     let p = put(out, 0, b"{\"aclist2\":[");
     let count = capped(naces, ACES);
@@ -103,9 +103,9 @@ pub fn access_list<'a>(
     queue: &[u8; QUEUE],
     out: &mut [u8],
 ) -> Listed
-    ensures answer { result.answer ≡ number_of (office_verdict (terminal (before h creds aces) (was queue)) (length (was out))) }
-    ensures length { result.length ≡ length (office_reply (terminal (before h creds aces) (was queue)) (length (was out))) }
-    ensures buffer { became out ≡ filled (was out) (office_reply (terminal (before h creds aces) (was queue)) (length (was out))) }
+    ensures answer { result.answer ≡ number_of (office_verdict (terminal (before h creds aces) (was queue)) (length out.old)) }
+    ensures length { result.length ≡ length (office_reply (terminal (before h creds aces) (was queue)) (length out.old)) }
+    ensures buffer { out.new ≡ filled out.old (office_reply (terminal (before h creds aces) (was queue)) (length out.old)) }
 {
     if !terminal_sound(h, creds, aces, queue) {
         return Listed {

@@ -13,7 +13,7 @@ ghost use Rattle.rules.specs.Checks.{refuse_if};
 ghost use Rattle.rules.specs.Promises.Callers.{caller_row};
 ghost use Rattle.rules.specs.Roles.{body_of};
 ghost use Rattle.rules.specs.Reading.{own_body, row_bytes, contents, reads, reply_to, too_short};
-ghost use Rattle.rules.specs.Promises.Words.{was, became, before};
+ghost use Rattle.rules.specs.Promises.Words.{was, before};
 ghost use Rattle.rules.specs.Sizes.{cred_row_size};
 
 use asserted_roles::put_roles;
@@ -28,14 +28,14 @@ use text::direct::put;
 use text::put_byte;
 
 fn put_owner(out: &mut [u8], at: usize, h: Head) -> usize
-    ensures { Puts (was out) at (own_body h 0) (became out) result }
+    ensures { Puts out.old at (own_body h 0) out.new result }
 {
     let p = put_byte(out, at, h.owned % 2 * 128);
     put(out, p, &h.devowner)
 }
 
 fn put_own(out: &mut [u8], at: usize, h: Head, resource: u16) -> usize
-    ensures { Puts (was out) at (own_body h resource) (became out) result }
+    ensures { Puts out.old at (own_body h resource) out.new result }
 {
     match resource {
         Resource::DOXM => put_owner(out, at, h),
@@ -57,7 +57,7 @@ fn body_at(row: &[u8]) -> [u8; CRED_BODY]
 // Writes the bodies of the first `count` credential rows.
 fn put_bodies(out: &mut [u8], at: usize, creds: &[u8], count: usize) -> usize
     requires { count * cred_row_size ≤ length creds.now }
-    ensures { Puts (was out) at (joined (map body_of (rows_of cred_row_size count (was creds)))) (became out) result }
+    ensures { Puts out.old at (joined (map body_of (rows_of cred_row_size count (was creds)))) out.new result }
 {
     let mut p = at;
     let mut rest = creds;
@@ -74,7 +74,7 @@ fn put_bodies(out: &mut [u8], at: usize, creds: &[u8], count: usize) -> usize
 // The same. Past the buffer's end the bodies are counted: as many bytes of the table are put, and none is written.
 fn put_creds(out: &mut [u8], at: usize, creds: &[u8], count: usize) -> usize
     requires { count * cred_row_size ≤ length creds.now }
-    ensures { Puts (was out) at (joined (map body_of (rows_of cred_row_size count (was creds)))) (became out) result }
+    ensures { Puts out.old at (joined (map body_of (rows_of cred_row_size count (was creds)))) out.new result }
 {
     if out.len() <= at {
         return put(out, at, part(creds, 0, count * CRED_BODY));
@@ -92,7 +92,7 @@ fn put_rows<'a>(
     found: Found,
     resource: u16,
 ) -> usize
-    ensures { Puts (was out) at (row_bytes clock (before h creds aces) (row_at found (rows Creds (before h creds aces))) resource) (became out) result }
+    ensures { Puts out.old at (row_bytes clock (before h creds aces) (row_at found (rows Creds (before h creds aces))) resource) out.new result }
 {
     match resource {
         Resource::CRED => {
@@ -117,7 +117,7 @@ fn put_contents<'a>(
     found: Found,
     resource: u16,
 ) -> usize
-    ensures { Puts (was out) 0 (contents clock (before h creds aces) (row_at found (rows Creds (before h creds aces))) resource) (became out) result }
+    ensures { Puts out.old 0 (contents clock (before h creds aces) (row_at found (rows Creds (before h creds aces))) resource) out.new result }
 {
     let p = put_own(out, 0, h, resource);
     let at = resource as usize * 16;
@@ -147,7 +147,7 @@ pub fn put_reply<'a>(
     aces: &'a [u8; ACE_ROWS],
     caller: Caller,
 ) -> usize
-    ensures { Puts (was out) 0 (reply_to clock (before h creds aces) (caller_row (before h creds aces) caller) caller.header) (became out) result }
+    ensures { Puts out.old 0 (reply_to clock (before h creds aces) (caller_row (before h creds aces) caller) caller.header) out.new result }
 {
     let header = caller.header;
     if !is_read(header) {

@@ -1,0 +1,6 @@
+-- `round_sound`: byte by byte.
+use Rattle.check_waiting.proofs.Laws.{round_is}
+use Rattle.check_waiting.proofs.round_sound.Goals as goal
+
+pub returns : goal.returns
+returns c = round_is c.args.m.now c.requires

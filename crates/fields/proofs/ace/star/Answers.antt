@@ -1,0 +1,5 @@
+-- `ace::star`: the field is 1.
+use Rattle.fields.proofs.ace.star.Goals as goal
+
+pub returns : goal.returns
+returns c = rw c.field.ensures
