@@ -1,5 +1,5 @@
 -- `judge_one`: with fresh memory a record gets its outcome.
-use Rattle.rows.proofs.Prelude.{◌≡◌, ap, ap₂, ◌∙◌, subst, now, needs, List, ℕ}
+use Rattle.rows.proofs.Prelude.{◌≡◌, ap, ap₂, ◌∙◌, subst, List, ℕ}
 use Rattle.rules.specs.declared.Head.{Head}
 use Rattle.rules.specs.declared.Tables.{Tables}
 use Rattle.rules.specs.Tables.{tables_of, head_of}
@@ -14,7 +14,7 @@ use Rattle.rules_terminal.proofs.Direct.{fresh_whole, as_outcome}
 use Rattle.report.specs.declared.Judged.{Judged}
 use Rattle.report.specs.Run.{lent}
 use Rattle.report.specs.Judged.{judged_as}
-use Rattle.report.proofs.judge_one.Tie as tie
+use Rattle.report.proofs.judge_one.Goals as goal
 
 -- what a line needs of what is reported
 abbrev told : Result → Judged
@@ -28,13 +28,5 @@ as_judged t h is q s lent queue buffer g =
     ap told whole.says
     ∙ ap₂ (λ (r : Response) (u : Tables). record { answer = r.answer; permission = r.permission; tables = u }) a.response a.tables
 
-returns : tie.Need-returns
-returns c =
-    let call = c.before.before.before.before in
-    let head = call.before.before.before.before.before.before.before in
-    let s = head.before.before.before.before in
-    as_judged s.args.t _ head.head.ensures (lent s.args.clock (now s.args.rec)) _ _ _ _ call.judge.ensures
-
-pub judge_one_spec : {M : Type 1} → Rattle.report.proofs.judge_one.Statement.statement M
-judge_one_spec = tie.close (tie.spec
-    (λ c κs. search needs) (λ c. search needs) (λ c. search needs) (λ c. search needs) (λ c κs. search needs) returns)
+pub returns : goal.returns
+returns c = as_judged c.args.t _ c.head.ensures (lent c.args.clock c.args.rec.now) _ _ _ _ c.judge-j.ensures
