@@ -5,11 +5,11 @@
 ghost use Rattle.std.specs.Prelude.{◌≡◌, true, length};
 ghost use Rattle.rules.specs.declared.Check.TheVariants.{Pass};
 ghost use Rattle.rules.specs.Record.{received};
-ghost use Rattle.rules.specs.Tables.{sound};
+ghost use Rattle.rules.specs.Tables.{sound, tables_of};
 ghost use Rattle.rules.specs.Defaults.{defaults};
 ghost use Rattle.rules.specs.Promises.Decision.{decided};
 ghost use Rattle.execute.specs.Executed.{Decided, IsWholeQueue, LeavesQueue, payload_by, Executes};
-ghost use Rattle.rules.specs.Promises.Words.{was, became, given, before};
+ghost use Rattle.rules.specs.Promises.Words.{was};
 ghost use Rattle.rules_terminal.specs.Terminal.{is_reset};
 
 use decision_links::links_of;
@@ -52,11 +52,11 @@ pub fn execute(
     rec: &[u8],
     reply: &mut [u8],
 ) -> Judgement
-    requires { Decided (given h creds aces) (received clock rec.now (length reply.old)) d }
+    requires { Decided (tables_of h creds.old aces.old) (received clock rec.now (length reply.old)) d }
     ensures { Executes (defaults (was default_creds) (was default_aces))
-        (before h creds aces)
-        (received clock (was rec) (length (was reply)))
-        (was reply) result (became creds) (became aces) (became reply) }
+        (tables_of h creds.old aces.old)
+        (received clock (was rec) (length reply.old))
+        reply.old result creds.new aces.new reply.new }
 {
     let caller = d.caller;
     put_reply(reply, clock, h, creds, aces, caller);
@@ -100,16 +100,16 @@ fn execute_changing(
     rec: &[u8],
     reply: &mut [u8],
 ) -> Judgement
-    requires decided { Decided (given h creds aces) (received clock rec.now (length reply.old)) d }
+    requires decided { Decided (tables_of h creds.old aces.old) (received clock rec.now (length reply.old)) d }
     requires whole_queue { IsWholeQueue queue.old }
     ensures executes { Executes (defaults (was default_creds) (was default_aces))
-        (before h creds aces)
-        (received clock (was rec) (length (was reply)))
-        (was reply) result (became creds) (became aces) (became reply) }
+        (tables_of h creds.old aces.old)
+        (received clock (was rec) (length reply.old))
+        reply.old result creds.new aces.new reply.new }
     ensures leaves_queue { LeavesQueue (defaults (was default_creds) (was default_aces))
-        (before h creds aces)
-        (received clock (was rec) (length (was reply)))
-        (was queue) (became queue) }
+        (tables_of h creds.old aces.old)
+        (received clock (was rec) (length reply.old))
+        queue.old queue.new }
 {
     let was_valid = queue::round_valid(h.ncreds, creds, queue);
     let a = d.action;
@@ -150,16 +150,16 @@ pub fn execute_queued(
     rec: &[u8],
     reply: &mut [u8],
 ) -> Judgement
-    requires decided { Decided (given h creds aces) (received clock rec.now (length reply.old)) d }
+    requires decided { Decided (tables_of h creds.old aces.old) (received clock rec.now (length reply.old)) d }
     requires whole_queue { IsWholeQueue queue.old }
     ensures executes { Executes (defaults (was default_creds) (was default_aces))
-        (before h creds aces)
-        (received clock (was rec) (length (was reply)))
-        (was reply) result (became creds) (became aces) (became reply) }
+        (tables_of h creds.old aces.old)
+        (received clock (was rec) (length reply.old))
+        reply.old result creds.new aces.new reply.new }
     ensures leaves_queue { LeavesQueue (defaults (was default_creds) (was default_aces))
-        (before h creds aces)
-        (received clock (was rec) (length (was reply)))
-        (was queue) (became queue) }
+        (tables_of h creds.old aces.old)
+        (received clock (was rec) (length reply.old))
+        queue.old queue.new }
 {
     let caller = d.caller;
     let header = caller.header;

@@ -3,7 +3,7 @@
 #![tactic(auto)]
 
 ghost use Rattle.std.specs.Prelude.{◌≡◌, [], ◌∷◌, ◌++◌, min, length};
-ghost use Rattle.rows.specs.Words.{was, became};
+ghost use Rattle.rows.specs.Words.{was};
 ghost use Rattle.text.specs.Text.{decimal};
 ghost use Rattle.text.specs.Buffer.{written, Puts, Counts};
 ghost use Rattle.rules.specs.Defaults.{no_defaults, fresh};
@@ -19,7 +19,7 @@ use text::{put, put_byte, put_decimal};
 
 // A number in decimal, and the byte after it.
 fn put_number(out: &mut [u8], at: usize, n: usize, after: u8) -> usize
-    ensures { Puts (was out) at (decimal n ++ after ∷ []) (became out) result }
+    ensures { Puts out.old at (decimal n ++ after ∷ []) out.new result }
 {
     let p = put_decimal(out, at, n);
     put_byte(out, p, after)
@@ -33,7 +33,7 @@ fn put_line(
     permission: u8,
     state: u8,
 ) -> usize
-    ensures puts { Puts (was out) at (line number answer permission state) (became out) result }
+    ensures puts { Puts out.old at (line number answer permission state) out.new result }
     ensures line_fits { LineFits number answer permission state }
 {
     let p = put_number(out, at, number, b' ');
@@ -43,7 +43,7 @@ fn put_line(
 }
 
 fn put_cut(out: &mut [u8], at: usize) -> usize
-    ensures { Puts (was out) at cut (became out) result }
+    ensures { Puts out.old at cut out.new result }
 {
     put(out, at, b"cut\n")
 }
@@ -103,7 +103,7 @@ fn judge_one(t: Tables, clock: u32, rec: &[u8]) -> Judged
 
 // The lines of a run, from fresh tables.
 fn put_lines(out: &mut [u8], at: usize, input: &[u8]) -> usize
-    ensures puts { Puts (was out) at (lines (was input)) (became out) result }
+    ensures puts { Puts out.old at (lines (was input)) out.new result }
     ensures lines_fit { LinesFit (was input) }
 {
     let mut p = at;
@@ -129,10 +129,10 @@ fn put_lines(out: &mut [u8], at: usize, input: &[u8]) -> usize
 // `whole`: a buffer of 131,092 bytes holds all of it, for every run that the run program reads. `part`: a caller may take `&out[..r]`.
 // Rules out: every record judged on the first tables; every record judged at the first clock; a cut record judged.
 pub fn run_text(input: &[u8], out: &mut [u8]) -> usize
-    ensures count { result ≡ min (length (run_text (was input))) (length (was out)) }
-    ensures buffer { became out ≡ written (was out) 0 (run_text (was input)) }
-    ensures whole { Whole (was input) (was out) result }
-    ensures part { Counts result (became out) }
+    ensures count { result ≡ min (length (run_text (was input))) (length out.old) }
+    ensures buffer { out.new ≡ written out.old 0 (run_text (was input)) }
+    ensures whole { Whole (was input) out.old result }
+    ensures part { Counts result out.new }
 {
     let p = put(out, 0, b"n answer perm state\n");
     let p = put_lines(out, p, input);

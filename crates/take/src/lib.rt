@@ -3,11 +3,12 @@
 #![tactic(auto)]
 
 ghost use Rattle.std.specs.Prelude.{◌≡◌, length};
+ghost use Rattle.rules.specs.Tables.{tables_of};
 ghost use Rattle.rules.specs.Defaults.{defaults};
 ghost use Rattle.rules.specs.Checks.{verdict};
 ghost use Rattle.rules_terminal.specs.Terminal.{terminal, take_checks, taken_of};
 ghost use Rattle.rules_terminal.specs.Calls.{Takes};
-ghost use Rattle.rules.specs.Promises.Words.{was, became, before};
+ghost use Rattle.rules.specs.Promises.Words.{was, before};
 
 use check_waiting::check_terminal;
 use decision::decide;
@@ -48,10 +49,10 @@ pub fn take(
     reply: &mut [u8],
 ) -> Taken
     ensures { Takes (defaults (was default_creds) (was default_aces))
-        (terminal (before h creds aces) (was queue))
-        clock (length (was reply))
-        (taken_of result (became creds) (became aces))
-        (was reply) (became queue) (became reply) }
+        (terminal (tables_of h creds.old aces.old) queue.old)
+        clock (length reply.old)
+        (taken_of result creds.new aces.new)
+        reply.old queue.new reply.new }
 {
     let c = check_take(h, creds, aces, queue);
     let Check::Pass = c else {

@@ -1,14 +1,15 @@
 // A call of each exported function, with the promise that the theorems over C calls suppose of it (crate `rules_interface`).
 // Its contract is all that a call here knows: an exported function that promises less is refused here.
 ghost use Rattle.std.specs.Prelude.{length};
-ghost use Rattle.rules.specs.Promises.Words.{was, became};
+ghost use Rattle.rules.specs.Promises.Words.{was};
 ghost use Rattle.rules.specs.Record.{received};
 ghost use Rattle.rules.specs.Defaults.{no_defaults, defaults};
 ghost use Rattle.rules_terminal.specs.Inputs.{hand_in, take_at, direct};
-ghost use Rattle.rules_interface.specs.Memory.{memory_before, memory_after, with_queue};
+ghost use Rattle.rules_interface.specs.Memory.{memory_before, with_queue};
 ghost use Rattle.rules_interface.specs.Interface.{FreshAt, ClearsAt, IsSoundAt, ListsAt, TestsAt, ConvertsAt};
 ghost use Rattle.rules_interface.specs.Storing.{StoresNext, StoresCurrent};
 ghost use Rattle.rules_interface.specs.Calls.{Promised, hand_in_call, judge_call, take_call};
+ghost use Rattle.terminal.specs.Memory.{memory_in};
 
 use crate::lists::{
     tillerclover_access_list_at, tillerclover_convert_list_at, tillerclover_test_list_at,
@@ -31,7 +32,7 @@ pub fn fresh(
     default_creds: &[u8],
     default_aces: &[u8],
 )
-    ensures { FreshAt (defaults (was default_creds) (was default_aces)) (memory_after counts devowner rowners creds aces queue) }
+    ensures { FreshAt (defaults (was default_creds) (was default_aces)) (memory_in counts.new devowner.new rowners.new creds.new aces.new queue.new) }
 {
     tillerclover_fresh_at(
         counts,
@@ -56,7 +57,7 @@ pub fn clear(
     default_aces: &[u8],
 )
     ensures { ClearsAt (defaults (was default_creds) (was default_aces))
-        (memory_before counts devowner rowners creds aces queue) (memory_after counts devowner rowners creds aces queue) }
+        (memory_in counts.old devowner.old rowners.old creds.old aces.old queue.old) (memory_in counts.new devowner.new rowners.new creds.new aces.new queue.new) }
 {
     tillerclover_clear_at(
         counts,
@@ -97,9 +98,9 @@ pub fn judge(
     reply: &mut [u8],
     words: &mut [u64; 9],
 )
-    ensures { Promised (defaults (was default_creds) (was default_aces)) (memory_before counts devowner rowners creds aces queue)
-        (direct (received clock (was rec) (length (was reply))))
-        (judge_call (became words) (memory_after counts devowner rowners creds aces queue) (was reply) (became reply)) }
+    ensures { Promised (defaults (was default_creds) (was default_aces)) (memory_in counts.old devowner.old rowners.old creds.old aces.old queue.old)
+        (direct (received clock (was rec) (length reply.old)))
+        (judge_call words.new (memory_in counts.new devowner.new rowners.new creds.new aces.new queue.new) reply.old reply.new) }
 {
     tillerclover_judge_at(
         counts,
@@ -127,8 +128,8 @@ pub fn hand_in<'a>(
     rec: &[u8],
     words: &mut [u64; 9],
 )
-    ensures { Promised no_defaults (memory_before counts devowner rowners creds aces queue) (hand_in (was rec))
-        (hand_in_call (became words) (with_queue (memory_before counts devowner rowners creds aces queue) (became queue))) }
+    ensures { Promised no_defaults (memory_in (was counts) (was devowner) (was rowners) (was creds) (was aces) queue.old) (hand_in (was rec))
+        (hand_in_call words.new (with_queue (memory_in (was counts) (was devowner) (was rowners) (was creds) (was aces) queue.old) queue.new)) }
 {
     tillerclover_hand_in_at(counts, devowner, rowners, creds, aces, queue, rec, words);
 }
@@ -148,9 +149,9 @@ pub fn take(
     size: &mut [u64; 1],
     bytes: &mut [u8; 256],
 )
-    ensures { Promised (defaults (was default_creds) (was default_aces)) (memory_before counts devowner rowners creds aces queue)
-        (take_at clock (length (was reply)))
-        (take_call (became words) (became size) (became bytes) (memory_after counts devowner rowners creds aces queue) (was reply) (became reply)) }
+    ensures { Promised (defaults (was default_creds) (was default_aces)) (memory_in counts.old devowner.old rowners.old creds.old aces.old queue.old)
+        (take_at clock (length reply.old))
+        (take_call words.new size.new bytes.new (memory_in counts.new devowner.new rowners.new creds.new aces.new queue.new) reply.old reply.new) }
 {
     tillerclover_take_at(
         counts,
@@ -179,19 +180,19 @@ pub fn access_list<'a>(
     text: &mut [u8],
     words: &mut [u64; 2],
 )
-    ensures { ListsAt (memory_before counts devowner rowners creds aces queue) (became words) (was text) (became text) }
+    ensures { ListsAt (memory_before counts devowner rowners creds aces queue) words.new text.old text.new }
 {
     tillerclover_access_list_at(counts, devowner, rowners, creds, aces, queue, text, words);
 }
 
 pub fn test_list(rows: &[u8], words: &mut [u64; 2])
-    ensures { TestsAt (was rows) (became words) }
+    ensures { TestsAt (was rows) words.new }
 {
     tillerclover_test_list_at(rows, words);
 }
 
 pub fn convert_list(file: &[u8], rows: &mut [u8], words: &mut [u64; 2])
-    ensures { ConvertsAt (was file) (became words) (was rows) (became rows) }
+    ensures { ConvertsAt (was file) words.new rows.old rows.new }
 {
     tillerclover_convert_list_at(file, rows, words);
 }
@@ -203,13 +204,13 @@ pub fn store_next(
     address: &mut [u64; 1],
     byte: &mut [u8; 1],
 ) -> u64
-    ensures { StoresNext (was store) (was image) from result (was address) (was byte) (became address) (became byte) }
+    ensures { StoresNext (was store) (was image) from result address.old byte.old address.new byte.new }
 {
     tillerclover_store_next(store, image, from, address, byte)
 }
 
 pub fn store_current(store: &[u8], n: usize, address: &mut [u64; 1]) -> u64
-    ensures { StoresCurrent (was store) n result (was address) (became address) }
+    ensures { StoresCurrent (was store) n result address.old address.new }
 {
     tillerclover_store_current(store, n, address)
 }

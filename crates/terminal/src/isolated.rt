@@ -1,7 +1,7 @@
 // The C interface of two questions: are the senders of a list isolated, and which library is this. Declared in
 // include/tillerclover_yards.h: pointers, 64-bit lengths and scalars alone; the tables as five arrays, in the order of their bytes.
 ghost use Rattle.std.specs.Prelude.{◌≡◌, eqb};
-ghost use Rattle.rules.specs.Promises.Words.{was, became};
+ghost use Rattle.rules.specs.Promises.Words.{was};
 ghost use Rattle.rules_isolation.specs.Question.{report_of, isolation_of};
 ghost use Rattle.rules_interface.specs.Memory.{tables_at};
 ghost use Rattle.rules_interface.specs.Isolated.{report_words, identity};
@@ -21,7 +21,7 @@ pub fn tillerclover_isolated_at<'a>(
     senders: &[u8],
     words: &mut [u64; 3],
 )
-    ensures { became words
+    ensures { words.new
         ≡ report_words (report_of (isolation_of (tables_at (was counts) (was devowner) (was rowners) (was creds) (was aces)) (was senders))) }
 {
     let h = head_at(counts, devowner, rowners);

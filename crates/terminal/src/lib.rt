@@ -8,11 +8,12 @@ mod lists;
 mod storing;
 
 ghost use Rattle.std.specs.Prelude.{length};
-ghost use Rattle.rules.specs.Promises.Words.{was, became};
+ghost use Rattle.rules.specs.Promises.Words.{was};
 ghost use Rattle.rules.specs.Record.{received};
 ghost use Rattle.rules.specs.Defaults.{defaults};
-ghost use Rattle.rules_interface.specs.Memory.{memory_before, memory_after};
+ghost use Rattle.rules_interface.specs.Memory.{memory_before};
 ghost use Rattle.rules_interface.specs.Interface.{FreshAt, ClearsAt, IsSoundAt, HandsInAt, TakesAt, JudgesAt};
+ghost use Rattle.terminal.specs.Memory.{memory_in};
 
 pub use crate::isolated::{tillerclover_identity, tillerclover_isolated_at};
 pub use crate::lists::{
@@ -37,7 +38,7 @@ pub fn tillerclover_fresh_at(
     default_creds: &[u8],
     default_aces: &[u8],
 )
-    ensures { FreshAt (defaults (was default_creds) (was default_aces)) (memory_after counts devowner rowners creds aces queue) }
+    ensures { FreshAt (defaults (was default_creds) (was default_aces)) (memory_in counts.new devowner.new rowners.new creds.new aces.new queue.new) }
 {
     let h = fresh_in(creds, aces, default_creds, default_aces);
     put_head(h, counts, devowner, rowners);
@@ -57,7 +58,7 @@ pub fn tillerclover_clear_at(
     default_aces: &[u8],
 )
     ensures { ClearsAt (defaults (was default_creds) (was default_aces))
-        (memory_before counts devowner rowners creds aces queue) (memory_after counts devowner rowners creds aces queue) }
+        (memory_in counts.old devowner.old rowners.old creds.old aces.old queue.old) (memory_in counts.new devowner.new rowners.new creds.new aces.new queue.new) }
 {
     tillerclover_fresh_at(
         counts,
@@ -108,9 +109,9 @@ pub fn tillerclover_judge_at(
     reply: &mut [u8],
     words: &mut [u64; 9],
 )
-    ensures { JudgesAt (defaults (was default_creds) (was default_aces)) (memory_before counts devowner rowners creds aces queue)
-        (received clock (was rec) (length (was reply)))
-        (became words) (memory_after counts devowner rowners creds aces queue) (was reply) (became reply) }
+    ensures { JudgesAt (defaults (was default_creds) (was default_aces)) (memory_in counts.old devowner.old rowners.old creds.old aces.old queue.old)
+        (received clock (was rec) (length reply.old))
+        words.new (memory_in counts.new devowner.new rowners.new creds.new aces.new queue.new) reply.old reply.new }
 {
     let h = head_at(counts, devowner, rowners);
     let j = judge::judge(
@@ -140,7 +141,7 @@ pub fn tillerclover_hand_in_at<'a>(
     rec: &[u8],
     words: &mut [u64; 9],
 )
-    ensures { HandsInAt (memory_before counts devowner rowners creds aces queue) (was rec) (became words) (became queue) }
+    ensures { HandsInAt (memory_in (was counts) (was devowner) (was rowners) (was creds) (was aces) queue.old) (was rec) words.new queue.new }
 {
     let h = head_at(counts, devowner, rowners);
     let kept = hand_in::hand_in(h, creds, aces, queue, rec);
@@ -164,9 +165,9 @@ pub fn tillerclover_take_at(
     size: &mut [u64; 1],
     bytes: &mut [u8; 256],
 )
-    ensures { TakesAt (defaults (was default_creds) (was default_aces)) (memory_before counts devowner rowners creds aces queue)
-        clock (length (was reply))
-        (became words) (became size) (became bytes) (memory_after counts devowner rowners creds aces queue) (was reply) (became reply) }
+    ensures { TakesAt (defaults (was default_creds) (was default_aces)) (memory_in counts.old devowner.old rowners.old creds.old aces.old queue.old)
+        clock (length reply.old)
+        words.new size.new bytes.new (memory_in counts.new devowner.new rowners.new creds.new aces.new queue.new) reply.old reply.new }
 {
     let h = head_at(counts, devowner, rowners);
     let u = take::take(

@@ -1,7 +1,7 @@
 // The C interface of lists: the access list as office text, the test of a list, and lists of the older terminals.
 // A result is two words: the answer, and a row or a length.
 ghost use Rattle.std.specs.Prelude.{◌≡◌};
-ghost use Rattle.rules.specs.Promises.Words.{was, became};
+ghost use Rattle.rules.specs.Promises.Words.{was};
 ghost use Rattle.rules_interface.specs.Memory.{memory_before};
 ghost use Rattle.rules_interface.specs.Interface.{ListsAt, TestsAt, ConvertsAt};
 
@@ -21,7 +21,7 @@ pub fn tillerclover_access_list_at<'a>(
     text: &mut [u8],
     words: &mut [u64; 2],
 )
-    ensures { ListsAt (memory_before counts devowner rowners creds aces queue) (became words) (was text) (became text) }
+    ensures { ListsAt (memory_before counts devowner rowners creds aces queue) words.new text.old text.new }
 {
     let h = head_at(counts, devowner, rowners);
     let l = office_list::access_list(h, creds, aces, queue, text);
@@ -31,7 +31,7 @@ pub fn tillerclover_access_list_at<'a>(
 // Tests a list of access rows that the provisioning program writes.
 // Rules out: a list of 33 rows accepted; another row named than the first bad one.
 pub fn tillerclover_test_list_at(rows: &[u8], words: &mut [u64; 2])
-    ensures { TestsAt (was rows) (became words) }
+    ensures { TestsAt (was rows) words.new }
 {
     let found = list_validation::test_list(rows);
     *words = [found.answer as u64, found.row as u64];
@@ -40,7 +40,7 @@ pub fn tillerclover_test_list_at(rows: &[u8], words: &mut [u64; 2])
 // An access list of an older terminal as access rows.
 // Rules out: a byte written on 23, 24 or 25; a byte changed after the rows; a length that is not that of the rows.
 pub fn tillerclover_convert_list_at(file: &[u8], rows: &mut [u8], words: &mut [u64; 2])
-    ensures { ConvertsAt (was file) (became words) (was rows) (became rows) }
+    ensures { ConvertsAt (was file) words.new rows.old rows.new }
 {
     let made = list_convert::convert(file, rows);
     *words = [made.answer as u64, made.length as u64];

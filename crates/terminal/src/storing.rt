@@ -1,6 +1,6 @@
 // The C interface of a store, declared in include/tillerclover_store.h.
 // A store and an image are a pointer and a length each; the address and the byte of a write go out through pointers.
-ghost use Rattle.rules.specs.Promises.Words.{was, became};
+ghost use Rattle.rules.specs.Promises.Words.{was};
 ghost use Rattle.rules_interface.specs.Storing.{StoresNext, StoresCurrent};
 
 use rules_store::Step;
@@ -15,7 +15,7 @@ pub fn tillerclover_store_next(
     address: &mut [u64; 1],
     byte: &mut [u8; 1],
 ) -> u64
-    ensures { StoresNext (was store) (was image) from result (was address) (was byte) (became address) (became byte) }
+    ensures { StoresNext (was store) (was image) from result address.old byte.old address.new byte.new }
 {
     let step = store::next(store, image, from);
     match step {
@@ -32,7 +32,7 @@ pub fn tillerclover_store_next(
 // Where the current image starts, in a store for images of n bytes: 0, and 0 or n through `address`; or 2, and nothing, since the store is none.
 // Rules out: the spare image; an address in a store of another length.
 pub fn tillerclover_store_current(store: &[u8], n: usize, address: &mut [u64; 1]) -> u64
-    ensures { StoresCurrent (was store) n result (was address) (became address) }
+    ensures { StoresCurrent (was store) n result address.old address.new }
 {
     if store::fits(store.len(), n) {
         *address = [store::current_at(store, n) as u64];

@@ -1,6 +1,6 @@
 // The exports of two questions: are the senders of a list isolated, and which library is this.
 ghost use Rattle.std.specs.Prelude.{◌≡◌};
-ghost use Rattle.rules.specs.Promises.Words.{was, became};
+ghost use Rattle.rules.specs.Promises.Words.{was};
 ghost use Rattle.rules_isolation.specs.Question.{report_of, isolation_of};
 ghost use Rattle.rules_interface.specs.Memory.{tables_at};
 ghost use Rattle.rules_interface.specs.Isolated.{report_words, identity};
@@ -18,7 +18,7 @@ pub extern "C" fn tillerclover_isolated_at<'a>(
     senders: &[u8],
     words: &mut [u64; 3],
 )
-    ensures { became words
+    ensures { words.new
         ≡ report_words (report_of (isolation_of (tables_at (was counts) (was devowner) (was rowners) (was creds) (was aces)) (was senders))) }
 {
     terminal::tillerclover_isolated_at(counts, devowner, rowners, creds, aces, senders, words);

@@ -7,11 +7,12 @@ mod lists;
 mod storing;
 
 ghost use Rattle.std.specs.Prelude.{length};
-ghost use Rattle.rules.specs.Promises.Words.{was, became};
+ghost use Rattle.rules.specs.Promises.Words.{was};
 ghost use Rattle.rules.specs.Record.{received};
 ghost use Rattle.rules.specs.Defaults.{defaults};
-ghost use Rattle.rules_interface.specs.Memory.{memory_before, memory_after};
+ghost use Rattle.rules_interface.specs.Memory.{memory_before};
 ghost use Rattle.rules_interface.specs.Interface.{FreshAt, ClearsAt, IsSoundAt, HandsInAt, TakesAt, JudgesAt};
+ghost use Rattle.terminal.specs.Memory.{memory_in};
 
 use rules::{ACE_ROWS, CRED_ROWS};
 use rules_terminal::QUEUE;
@@ -28,7 +29,7 @@ pub extern "C" fn tillerclover_fresh_at(
     default_creds: &[u8],
     default_aces: &[u8],
 )
-    ensures { FreshAt (defaults (was default_creds) (was default_aces)) (memory_after counts devowner rowners creds aces queue) }
+    ensures { FreshAt (defaults (was default_creds) (was default_aces)) (memory_in counts.new devowner.new rowners.new creds.new aces.new queue.new) }
 {
     terminal::tillerclover_fresh_at(
         counts,
@@ -55,7 +56,7 @@ pub extern "C" fn tillerclover_clear_at(
     default_aces: &[u8],
 )
     ensures { ClearsAt (defaults (was default_creds) (was default_aces))
-        (memory_before counts devowner rowners creds aces queue) (memory_after counts devowner rowners creds aces queue) }
+        (memory_in counts.old devowner.old rowners.old creds.old aces.old queue.old) (memory_in counts.new devowner.new rowners.new creds.new aces.new queue.new) }
 {
     terminal::tillerclover_clear_at(
         counts,
@@ -100,9 +101,9 @@ pub extern "C" fn tillerclover_judge_at(
     reply: &mut [u8],
     words: &mut [u64; 9],
 )
-    ensures { JudgesAt (defaults (was default_creds) (was default_aces)) (memory_before counts devowner rowners creds aces queue)
-        (received clock (was rec) (length (was reply)))
-        (became words) (memory_after counts devowner rowners creds aces queue) (was reply) (became reply) }
+    ensures { JudgesAt (defaults (was default_creds) (was default_aces)) (memory_in counts.old devowner.old rowners.old creds.old aces.old queue.old)
+        (received clock (was rec) (length reply.old))
+        words.new (memory_in counts.new devowner.new rowners.new creds.new aces.new queue.new) reply.old reply.new }
 {
     terminal::tillerclover_judge_at(
         counts,
@@ -132,7 +133,7 @@ pub extern "C" fn tillerclover_hand_in_at<'a>(
     rec: &[u8],
     words: &mut [u64; 9],
 )
-    ensures { HandsInAt (memory_before counts devowner rowners creds aces queue) (was rec) (became words) (became queue) }
+    ensures { HandsInAt (memory_in (was counts) (was devowner) (was rowners) (was creds) (was aces) queue.old) (was rec) words.new queue.new }
 {
     terminal::tillerclover_hand_in_at(counts, devowner, rowners, creds, aces, queue, rec, words);
 }
@@ -154,9 +155,9 @@ pub extern "C" fn tillerclover_take_at(
     size: &mut [u64; 1],
     bytes: &mut [u8; 256],
 )
-    ensures { TakesAt (defaults (was default_creds) (was default_aces)) (memory_before counts devowner rowners creds aces queue)
-        clock (length (was reply))
-        (became words) (became size) (became bytes) (memory_after counts devowner rowners creds aces queue) (was reply) (became reply) }
+    ensures { TakesAt (defaults (was default_creds) (was default_aces)) (memory_in counts.old devowner.old rowners.old creds.old aces.old queue.old)
+        clock (length reply.old)
+        words.new size.new bytes.new (memory_in counts.new devowner.new rowners.new creds.new aces.new queue.new) reply.old reply.new }
 {
     terminal::tillerclover_take_at(
         counts,

@@ -1,6 +1,6 @@
 // The exports of lists: the access list as office text, the test of a list, and lists of the older terminals.
 ghost use Rattle.std.specs.Prelude.{◌≡◌};
-ghost use Rattle.rules.specs.Promises.Words.{was, became};
+ghost use Rattle.rules.specs.Promises.Words.{was};
 ghost use Rattle.rules_interface.specs.Memory.{memory_before};
 ghost use Rattle.rules_interface.specs.Interface.{ListsAt, TestsAt, ConvertsAt};
 
@@ -19,7 +19,7 @@ pub extern "C" fn tillerclover_access_list_at<'a>(
     text: &mut [u8],
     words: &mut [u64; 2],
 )
-    ensures { ListsAt (memory_before counts devowner rowners creds aces queue) (became words) (was text) (became text) }
+    ensures { ListsAt (memory_before counts devowner rowners creds aces queue) words.new text.old text.new }
 {
     terminal::tillerclover_access_list_at(
         counts, devowner, rowners, creds, aces, queue, text, words,
@@ -29,7 +29,7 @@ pub extern "C" fn tillerclover_access_list_at<'a>(
 // Tests a list of access rows.
 #[unsafe(no_mangle)]
 pub extern "C" fn tillerclover_test_list_at(rows: &[u8], words: &mut [u64; 2])
-    ensures { TestsAt (was rows) (became words) }
+    ensures { TestsAt (was rows) words.new }
 {
     terminal::tillerclover_test_list_at(rows, words);
 }
@@ -37,7 +37,7 @@ pub extern "C" fn tillerclover_test_list_at(rows: &[u8], words: &mut [u64; 2])
 // An access list of an older terminal as access rows.
 #[unsafe(no_mangle)]
 pub extern "C" fn tillerclover_convert_list_at(file: &[u8], rows: &mut [u8], words: &mut [u64; 2])
-    ensures { ConvertsAt (was file) (became words) (was rows) (became rows) }
+    ensures { ConvertsAt (was file) words.new rows.old rows.new }
 {
     terminal::tillerclover_convert_list_at(file, rows, words);
 }

@@ -1,5 +1,5 @@
 // The exports of a store.
-ghost use Rattle.rules.specs.Promises.Words.{was, became};
+ghost use Rattle.rules.specs.Promises.Words.{was};
 ghost use Rattle.rules_interface.specs.Storing.{StoresNext, StoresCurrent};
 
 // What to do next to store an image.
@@ -11,7 +11,7 @@ pub extern "C" fn tillerclover_store_next(
     address: &mut [u64; 1],
     byte: &mut [u8; 1],
 ) -> u64
-    ensures { StoresNext (was store) (was image) from result (was address) (was byte) (became address) (became byte) }
+    ensures { StoresNext (was store) (was image) from result address.old byte.old address.new byte.new }
 {
     terminal::tillerclover_store_next(store, image, from, address, byte)
 }
@@ -19,7 +19,7 @@ pub extern "C" fn tillerclover_store_next(
 // Where the current image starts.
 #[unsafe(no_mangle)]
 pub extern "C" fn tillerclover_store_current(store: &[u8], n: usize, address: &mut [u64; 1]) -> u64
-    ensures { StoresCurrent (was store) n result (was address) (became address) }
+    ensures { StoresCurrent (was store) n result address.old address.new }
 {
     terminal::tillerclover_store_current(store, n, address)
 }

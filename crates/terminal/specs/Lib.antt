@@ -1,0 +1,2 @@
+-- What the contracts of `terminal` cite beside the rules.
+pub mod Memory
