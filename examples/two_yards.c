@@ -1,7 +1,7 @@
 /* Two yards on one plate, in one sitting: the terminal says that each yard's hauliers are isolated. Then yard A floods, asserts
  * a role and tries to write, and yard B's day is the same as without yard A. At last the owner stores a row that ends it.
  *
- *     rt staticlib terminal
+ *     packaging/library.sh
  *     cc -std=c11 -Iinclude examples/two_yards.c target/staticlib/libterminal.a -o target/two_yards
  *     target/two_yards
  *

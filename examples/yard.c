@@ -1,7 +1,7 @@
 /* A weighbridge yard in one sitting: the owner sets a new terminal up, a haulier writes a tare in and out of its
  * season, two senders wait for their turns while one of them floods, the office gets its list, and a row is deleted.
  *
- *     rt staticlib terminal
+ *     packaging/library.sh
  *     cc -std=c11 -Iinclude examples/yard.c target/staticlib/libterminal.a -o target/yard
  *     target/yard
  *

@@ -1,7 +1,7 @@
 /* Tillerclover: the access decision of a weighbridge terminal, for C11 and for C++11 and later.
  *
  * A program keeps a tillerclover_terminal: the tables and the records that wait. Each call changes it in place and gives a
- * small result. The functions are made of those of libterminal.a, which `rt staticlib terminal` writes to target/staticlib/
+ * small result. The functions are made of those of libterminal.a, which `packaging/library.sh` writes to target/staticlib/
  * for x86-64, and targets/build.sh to target/lib/ for six processors. They take only pointers, 64-bit lengths and
  * scalars, so they are called alike on every processor. The archive needs nothing but memcpy, memmove and memset.
  *

@@ -37,7 +37,7 @@ fn archive(here: &Path) -> PathBuf {
     }
     file.canonicalize().unwrap_or_else(|_| {
         stop(format!(
-            "{} is not there. Build it with `rt staticlib terminal` at the repository's root, \
+            "{} is not there. Build it with `packaging/library.sh` at the repository's root, \
              or name the folder that holds it, or an installed {second}, in TILLERCLOVER_LIB.",
             file.display()
         ))
