@@ -4,6 +4,11 @@
 
 test_binding() {
     need_cargo && need cc gcc && library || return 1
+    # The binding's package has headers of its own: the same as those that C includes.
+    local header
+    for header in bindings/rust/include/*.h; do
+        log cmp "include/$(basename "$header")" "$header" || return 1
+    done
     # What the headers read of rows and names, which the binding's test `words` reads too.
     c_program words -g -fsanitize=address,undefined -fno-sanitize-recover=all tests/words.c && "$work/words" >"$work/words.lines" || return 1
     export TILLERCLOVER_WORDS=$work/words.lines

@@ -1,5 +1,4 @@
 // The exports of lists: the access list as office text, the test of a list, and lists of the older terminals.
-ghost use Rattle.std.specs.Prelude.{◌≡◌};
 ghost use Rattle.rules.specs.Promises.Words.{was};
 ghost use Rattle.rules_interface.specs.Memory.{memory_before};
 ghost use Rattle.rules_interface.specs.Interface.{ListsAt, TestsAt, ConvertsAt};

@@ -14,16 +14,6 @@ found_is row {stride = stride} t e h =
     let n : 2 ≤ stride = t.numbered in
     sym (h ∙ rw (numbered_key row (rw e n)))
 
-pub put_row-requires : goal.put_row-requires
-put_row-requires c =
-    let at = found_is c.args.row.now c.requires.table c.requires.row_len.0 (sym c.in-At.is ∙ c.find-found.ensures) in
-    (c.requires.row_len.0, row_within _ _ _ _ c.requires.table.fits (index_inside _ _ _ _ c.requires.table _ at))
-
-pub put_row-requires-in-Nothing : goal.put_row-requires-in-Nothing
-put_row-requires-in-Nothing c =
-    let none = found_is c.args.row.now c.requires.table c.requires.row_len.0 (sym c.in-Nothing.is ∙ c.find-found.ensures) in
-    (c.requires.row_len.0, end_inside _ _ _ _ c.requires.table none c.requires.row_len.1)
-
 pub returns-in-At : goal.returns-in-At
 returns-in-At c =
     let at = found_is c.args.row.now c.requires.table c.requires.row_len.0 (sym c.in-At.is ∙ c.find-found.ensures) in
@@ -35,3 +25,13 @@ returns-in-Nothing c =
     let none = found_is c.args.row.now c.requires.table c.requires.row_len.0 (sym c.in-Nothing.is ∙ c.find-found.ensures) in
     let s = stored_end _ _ _ _ c.requires.table none _ c.put_row-in-Nothing.ensures c.put_row-in-Nothing.auto.rows in
     record { value = s.0; rows_value = s.1 }
+
+pub put_row-requires : goal.put_row-requires
+put_row-requires c =
+    let at = found_is c.args.row.now c.requires.table c.requires.row_len.0 (sym c.in-At.is ∙ c.find-found.ensures) in
+    (c.requires.row_len.0, row_within _ _ _ _ c.requires.table.fits (index_inside _ _ _ _ c.requires.table _ at))
+
+pub put_row-requires-in-Nothing : goal.put_row-requires-in-Nothing
+put_row-requires-in-Nothing c =
+    let none = found_is c.args.row.now c.requires.table c.requires.row_len.0 (sym c.in-Nothing.is ∙ c.find-found.ensures) in
+    (c.requires.row_len.0, end_inside _ _ _ _ c.requires.table none c.requires.row_len.1)
