@@ -26,17 +26,20 @@ use Rattle.rules_typed.proofs.ComparedRead.{compared_read}
 use Rattle.rules_terminal.specs.Terminal.{Terminal}
 use Rattle.rules_terminal.specs.Inputs.{Input}
 use Rattle.rules_terminal.specs.CallRun.{Call, Built, handed_back, all_shown}
-use Rattle.rules_runs.specs.Isolation.{requests_of, all_responses, BookPremise}
+use Rattle.rules_terminal.proofs.Shown.{built_shown}
+use Rattle.rules_queue.specs.QueueBytes.{read_terminal}
+use Rattle.rules_queue.proofs.Steps.{steps_written, steps_read}
+use Rattle.rules_runs.specs.Isolation.{requests_of, all_responses, BookPremise, Isolated}
 use Rattle.rules_runs.proofs.Calls.{handed_isolation, built_rules}
 use Rattle.rules_interface.specs.Memory.{Memory, terminal_at}
 use Rattle.rules_interface.specs.Calls.{CCall, CBuilt}
 use Rattle.rules_interface.specs.CallRun.{calls_of}
 use Rattle.rules_interface.proofs.CCalls.{c_built}
-use Rattle.rules_demands.specs.Demands.{fresh_of, AsTyped, TypedPremise, TypedIsolated, InputBytes}
-use Rattle.rules_demands.proofs.FedBytes.{fed_bytes}
+use Rattle.rules_demands.specs.Demands.{fresh_of, AsTyped, AsQueue, TypedPremise, TypedIsolated, InputBytes}
+use Rattle.rules_demands.proofs.FedBytes.{fed_bytes, queue_inputs}
 
 -- sound tables stay sound, and others stay
-final_sound : (d : Defaults) (t : ByteTables) (qs : List ByteRequest) → soundBytes (final (tables_after d) t qs) ≡ soundBytes t
+pub final_sound : (d : Defaults) (t : ByteTables) (qs : List ByteRequest) → soundBytes (final (tables_after d) t qs) ≡ soundBytes t
 final_sound d t [] = refl
 final_sound d t (q ∷ qs) = final_sound d (tables_after d t q) qs ∙ sound_same d t q
 
@@ -73,6 +76,13 @@ module _ (d : Defaults) (e : DefaultBytes d) (x : Terminal) (i : IsStruct x.tabl
         unread = stays;
       }
 
+  -- and the queue: each call shows what the typed rules give, the terminal that it leaves included
+  pub typed_queue : AsQueue d x is (all_shown is cs) (handed_back x cs)
+  typed_queue =
+      let shown = built_shown d x is cs b in
+      let bytes = queue_inputs is h in
+      record { shown_same = shown.0 ∙ steps_written d e x i w is bytes; end_same = ap read_terminal shown.1 ∙ steps_read d e x i w is bytes }
+
   -- the tables left are arrays of bytes again
   pub calls_keep : IsStruct (handed_back x cs).tables
   calls_keep = rw (built_rules d x is cs b).tables_same (run_struct d e (λ _. true) x.tables i qs all)
@@ -85,11 +95,11 @@ module _ (d : Defaults) (e : DefaultBytes d) (x : Terminal) (i : IsStruct x.tabl
     others_bytes : AllBytes others
     others_bytes = kept_bytes d e chosen qs all
 
-    pub typed_isolation : TypedPremise d chosen x is (all_shown is cs) → TypedIsolated d chosen x is (all_shown is cs) (handed_back x cs)
-    typed_isolation p =
+    -- what holds with the book over bytes holds with the typed one
+    pub isolated_as_typed : Isolated d chosen x is (all_shown is cs) (handed_back x cs) → TypedIsolated d chosen x is (all_shown is cs) (handed_back x cs)
+    isolated_as_typed o =
         let same = others_read d e chosen qs in
         let t = x.tables in
-        let o = handed_isolation d x is cs b chosen (λ s. premise_along d e chosen t i others others_bytes (rw same (p s))) in
         let end = (built_rules d x is cs b).tables_same in
         let sound-end : soundBytes (handed_back x cs).tables ≡ soundBytes (final (tables_after d) t others) =
         ap soundBytes end ∙ final_sound d t qs ∙ sym (final_sound d t others) in
@@ -105,6 +115,11 @@ module _ (d : Defaults) (e : DefaultBytes d) (x : Terminal) (i : IsStruct x.tabl
           unread = stays;
         }
 
+    pub typed_isolation : TypedPremise d chosen x is (all_shown is cs) → TypedIsolated d chosen x is (all_shown is cs) (handed_back x cs)
+    typed_isolation p =
+        isolated_as_typed (handed_isolation d x is cs b chosen
+        (λ s. premise_along d e chosen x.tables i others others_bytes (rw (others_read d e chosen qs) (p s))))
+
     -- the premise over bytes gives the typed one
     pub premise_typed : BookPremise d chosen x is (all_shown is cs) → TypedPremise d chosen x is (all_shown is cs)
     premise_typed p s = rw (← others_read d e chosen qs) (along_read d e chosen x.tables i others others_bytes (p s))
@@ -119,6 +134,9 @@ module _ (d : Defaults) (e : DefaultBytes d) (m : Memory) (i : IsStruct (termina
   pub c_typed_rules : AsTyped d y.tables (requests_of y is (all_shown is (calls_of is cs))) (all_responses is (all_shown is (calls_of is cs)))
       (handed_back y (calls_of is cs)).tables
   c_typed_rules = typed_rules d e y i w is (calls_of is cs) (c_built d m is cs b) h
+
+  pub c_typed_queue : AsQueue d y is (all_shown is (calls_of is cs)) (handed_back y (calls_of is cs))
+  c_typed_queue = typed_queue d e y i w is (calls_of is cs) (c_built d m is cs b) h
 
   pub c_typed_isolation : (chosen : Sender → Bool) → TypedPremise d chosen y is (all_shown is (calls_of is cs))
       → TypedIsolated d chosen y is (all_shown is (calls_of is cs)) (handed_back y (calls_of is cs))

@@ -9,6 +9,7 @@ use Rattle.rules_typed.proofs.ByteLaws.{bytes_take, bytes_drop}
 use Rattle.rules_terminal.specs.Slots.{record_of, waiting, slot_size, queue_capacity}
 use Rattle.rules_terminal.specs.Terminal.{Terminal, Transition}
 use Rattle.rules_terminal.specs.Inputs.{Input, hand_in, take_at, direct, records_in}
+use Rattle.rules_queue.specs.QueueBytes.{InputBytes as QueueInputBytes}
 use Rattle.rules_runs.specs.Events.{Event, enqueued, dequeued, immediate, sent_by, newest_of, requests, judges, event_of, gathered, list_if}
 use Rattle.rules_runs.specs.Isolation.{requests_of}
 use Rattle.rules_demands.specs.Demands.{InputBytes}
@@ -75,3 +76,10 @@ all_events (direct q ∷ is) (a ∷ answers) h =
 
 pub fed_bytes : (x : Terminal) → is_bytes x.queue ≡ true → (is : List Input) (answers : List Transition) → InputBytes is → AllBytes (requests_of x is answers)
 fed_bytes x q is answers h = requests_bytes (records_in x) (queue_bytes_lem x q) (gathered event_of is answers) (all_events is answers h)
+
+-- the same premise as rules_queue states it
+pub queue_inputs : (is : List Input) → InputBytes is → QueueInputBytes is
+queue_inputs [] h = tt
+queue_inputs (hand_in r ∷ is) h = (h.0, queue_inputs is h.1)
+queue_inputs (take_at clock capacity ∷ is) h = (tt, queue_inputs is h)
+queue_inputs (direct q ∷ is) h = (h.0, queue_inputs is h.1)

@@ -17,9 +17,12 @@ use Rattle.rules_typed.specs.Writing.{reply_bytes, written, written_outcome}
 use Rattle.rules_typed.specs.Reading.{tables_of, read_tables, read_record, read_fresh}
 use Rattle.rules_typed.specs.Outcome.{outcome, respond, next}
 use Rattle.rules_typed.specs.Isolation.{Premise, is_others, compared}
+use Rattle.rules_queue.specs.Queue.{step, stepped}
+use Rattle.rules_queue.specs.QueueBytes.{written_transition, read_terminal, read_input}
 use Rattle.rules_terminal.specs.Terminal.{Terminal, Transition, sound_terminal}
-use Rattle.rules_terminal.specs.Inputs.{Input, hand_in, take_at, direct}
+use Rattle.rules_terminal.specs.Inputs.{Input, Turn, hand_in, take_at, direct}
 use Rattle.rules_runs.specs.Isolation.{requests_of, all_responses}
+use Rattle.rules_isolation.specs.Yards.{turns_of, requests_without}
 
 -- ---- demands 1 and 2, of one call
 
@@ -49,6 +52,13 @@ pub record AsTyped (d : Defaults) (t : ByteTables) (qs : List ByteRequest) (told
   -- tables that are not sound stay, byte for byte
   pub unread : read_tables t ≡ none → t' ≡ t
 
+-- ---- of a run of hand-ins, takes and records judged at once: the queue too (U13)
+
+-- each gives what the typed rules give in the terminal that is read, written, and the terminal at the end is read as theirs
+pub record AsQueue (d : Defaults) (x : Terminal) (is : List Input) (answers : List Transition) (end : Terminal) : Type 0 where
+  pub shown_same : answers ≡ map (written_transition x) (replies (step (fresh_of d)) (stepped (fresh_of d)) (read_terminal x) (map read_input is))
+  pub end_same : read_terminal end ≡ final (stepped (fresh_of d)) (read_terminal x) (map read_input is)
+
 -- ---- demand 3
 
 module _ (d : Defaults) (chosen : Sender → Bool) (x : Terminal) (is : List Input) (answers : List Transition) where
@@ -67,6 +77,20 @@ module _ (d : Defaults) (chosen : Sender → Bool) (x : Terminal) (is : List Inp
     pub tables_same : compared chosen (read_tables end.tables) ≡ compared chosen (final (next (fresh_of d)) (read_tables x.tables) fed)
     -- tables that are not sound stay, byte for byte
     pub unread : read_tables x.tables ≡ none → end.tables ≡ x.tables
+
+-- ---- yards
+
+-- the book's run of these requests in typed tables: each with its response, written
+abbrev pub typed_turns : Defaults → Maybe Tables → List ByteRequest → List Turn
+typed_turns d t [] = []
+typed_turns d t (q ∷ qs) =
+    record { request = q; response = written (respond (fresh_of d) t (read_record q)) } ∷ typed_turns d (next (fresh_of d) t (read_record q)) qs
+
+-- what our senders sent and got is what the typed book has that never saw a record of theirs, and so are the tables except for the roles that
+-- their partners asserted
+pub record TypedAlone (d : Defaults) (ours theirs : Sender → Bool) (t : ByteTables) (us : List Turn) (end : ByteTables) : Type 0 where
+  pub response : turns_of ours us ≡ turns_of ours (typed_turns d (read_tables t) (requests_without theirs us))
+  pub tables : compared theirs (read_tables end) ≡ compared theirs (final (next (fresh_of d)) (read_tables t) (map read_record (requests_without theirs us)))
 
 -- ---- the records of the inputs are bytes
 
