@@ -39,6 +39,8 @@ GONE = re.compile(
 # an answer to what a callee asks for has a name of its own, or is in the list of answers; without a proof file a note says it
 NAMED = re.compile(r"error: `[\w·-]*-requires(?:-[\w-]+)?`")
 NOTE = re.compile(r"requires holds at this call")
+# what rt itself says of a refusal that shows nothing of a contract
+MARK = re.compile(r"\((only because a proof file names|only by a limit)")
 # a line of `rt ci` and `rt must-fail`
 TRIED = re.compile(r"^(?:rt: )?must-fail (\w+)/([\w.-]+)\.edit: refused, as it must be(.*)$", re.M)
 
@@ -86,7 +88,7 @@ def loose(edit):
     """The functions that an edit adds without an equation for their result, in which it stands on the left side alone."""
     for line in re.findall(r"^new:.*\bfn .*$", edit, re.M):
         for function in re.split(r"\bfn (?=\w+\W)", line)[1:]:
-            equation = re.search(r"ensures (?:\w+ )?\{ \(*result\b[^≡]*≡ (.*?) \}", function)
+            equation = re.search(r"ensures (?:\w+ )?\{ \(*(?:tables_of )?result\b[^≡]*≡ (.*?) \}", function)
             if not equation or re.search(r"\bresult\b", equation.group(1)):
                 yield re.match(r"\w+", function).group()
 
@@ -147,12 +149,14 @@ def fault(edit, said, whole):
 def by_first(path):
     """The faults of all edits, by the first error of each."""
     with open(path, encoding="utf-8", errors="replace") as file:
-        said = {
-            f"{crate}/{name}": re.sub(r"^.*?: (?=note: |\S+:\d+:\d+: )", "", first)
-            for crate, name, first in TRIED.findall(file.read())
-        }
+        told = {f"{crate}/{name}": first for crate, name, first in TRIED.findall(file.read())}
     for edit in edits.every():
-        yield edit, fault(edit, said[edit], False) if edit in said else ("is not refused, or was not tried", "")
+        if edit not in told:
+            yield edit, ("is not refused, or was not tried", "")
+        elif MARK.search(told[edit]) or not re.search(r"\S+:\d+:\d+: ", told[edit]):
+            yield edit, ("is refused with no error that shows a fact", told[edit])
+        else:
+            yield edit, fault(edit, re.sub(r"^.*?: (?=note: |\S+:\d+:\d+: )", "", told[edit]), False)
 
 
 def by_all(wanted, after_ci):
