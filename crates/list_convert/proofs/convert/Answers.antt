@@ -1,5 +1,5 @@
 -- `convert`: a bad file, too many rows, a buffer that is too short, or the rows.
-use Rattle.rows.proofs.Prelude.{sym, ◌∙◌, arith}
+use Rattle.rows.proofs.Prelude.{◌≡◌, sym, ◌∙◌, false, arith, rules}
 use Rattle.rules_legacy.proofs.Stored.{rows_size}
 use Rattle.list_convert.proofs.Ends.{bad_file_lem, too_many, too_short, all_put}
 use Rattle.list_convert.proofs.convert.Goals as goal
@@ -11,7 +11,8 @@ returns-then-bad c =
 
 pub returns-then-made-gt-MOST_ROWS : goal.returns-then-made-gt-MOST_ROWS
 returns-then-made-gt-MOST_ROWS c =
-    let e = too_many c.args.file.now c.args.rows.now (sym c.is_bad_file-bad.ensures ∙ c.if-bad.false) _ c.count_made-made.ensures c.if-made-gt-MOST_ROWS.true in
+    let good : c.is_bad_file-bad.result ≡ false = search rules in
+    let e = too_many c.args.file.now c.args.rows.now (sym c.is_bad_file-bad.ensures ∙ good) _ c.count_made-made.ensures c.if-made-gt-MOST_ROWS.true in
     record { answer = e.0; length = e.1.0; buffer = e.1.1 }
 
 pub returns-then-rows-made : goal.returns-then-rows-made
