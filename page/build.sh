@@ -52,12 +52,12 @@ strip = true
 END
 }
 
-# registry LIBRARY: the crates of Debian and those of the standard library, by links
+# registry LIBRARY: the crates of Debian and those of the standard library, as copies: `rt ci` takes no link below the root
 registry() {
     local crate
     rm -rf "$out/registry" && mkdir -p "$out/registry"
     for crate in /usr/share/cargo/registry/* "$1"/vendor/*; do
-        ln -sfn "$crate" "$out/registry/$(basename "$crate")"
+        cp -rL "$crate" "$out/registry/$(basename "$crate")"
     done
     printf '[source.crates-io]\nreplace-with = "both"\n[source.both]\ndirectory = "%s"\n' "$out/registry" >"$out/cargo.toml"
 }
@@ -74,11 +74,10 @@ END
 # linker KIT: the toolchain's, which is told by its name what it links, and links the calls at random too. They are no flag of cargo's:
 # with other flags it would build everything again.
 linker() {
-    mkdir -p "$out/lld" && ln -sfn "$1/toolchain/bin/clang" "$out/lld/wasm-ld"
     cat >"$out/wasm-ld" <<END
-#!/bin/sh
-case "\$*" in *tillerclover_page*) exec '$out/lld/wasm-ld' "\$@" '$out/digest.o' ;; esac
-exec '$out/lld/wasm-ld' "\$@"
+#!/usr/bin/env bash
+case "\$*" in *tillerclover_page*) exec -a wasm-ld '$1/toolchain/bin/clang' "\$@" '$out/digest.o' ;; esac
+exec -a wasm-ld '$1/toolchain/bin/clang' "\$@"
 END
     chmod +x "$out/wasm-ld"
 }

@@ -130,8 +130,10 @@ done
 module
 "$clang" --target="$OWN" --no-default-config -Xclang -disable-llvm-passes -S -emit-llvm -x ir "$lib/module.bc" -o "$lib/module.ll"
 called_alike "$lib/module.ll"
-# the compiler links WebAssembly where it is called by this name
-ln -sfn "$clang" "$lib/wasm-ld"
+# the compiler links WebAssembly where it is called by this name; no link, since `rt ci` takes none below the root
+rm -f "$lib/wasm-ld"
+printf '#!/usr/bin/env bash\nexec -a wasm-ld %q "$@"\n' "$clang" >"$lib/wasm-ld"
+chmod +x "$lib/wasm-ld"
 # The toolchain's own is always built, and first: where it is not the same, the others are worth nothing. Then as many at a
 # time as there are processors.
 for row in "${TARGETS[@]}"; do

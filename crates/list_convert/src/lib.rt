@@ -19,7 +19,7 @@ const MOST_ROWS: usize = ACES as usize;
 
 // The result: 0, 23, 24 or 25, and how many bytes were written.
 #[repr(C)]
-#[derive(Drop)]
+#[derive(Clone, Copy)]
 pub struct Converted {
     pub answer: u8,
     pub length: usize,

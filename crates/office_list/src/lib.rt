@@ -29,7 +29,7 @@ const TEXT_MAX: usize = 13069;
 
 // The result: 0, 17 or 18, and how many bytes were written.
 #[repr(C)]
-#[derive(Drop)]
+#[derive(Clone, Copy)]
 pub struct Listed {
     pub answer: u8,
     pub length: usize,

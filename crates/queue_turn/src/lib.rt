@@ -99,7 +99,7 @@ fn record_bytes(slot: &[u8]) -> [u8; 256]
 }
 
 // The record whose turn it is, by value with zeros after, its length and its seat.
-#[derive(Drop)]
+#[derive(Clone, Copy)]
 pub struct Due {
     pub bytes: [u8; 256],
     pub size: usize,

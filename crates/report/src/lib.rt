@@ -56,7 +56,7 @@ fn start_tables() -> Tables
 }
 
 // What a line tells of a record, and the tables for the next one.
-#[derive(Drop)]
+#[derive(Clone, Copy)]
 struct Judged {
     answer: u8,
     permission: u8,
