@@ -1,7 +1,7 @@
 // What comes in from outside, read into a buffer of the caller's.
 #![tactic(auto)]
 
-ghost use Rattle.std.specs.Prelude.{◌≡◌, ◌≤◌, length, IfOk};
+ghost use Rattle.std.specs.Prelude.{◌≡◌, ◌≤◌, length, IfSome};
 
 use std::io::Read;
 use std::rt::Files;
@@ -24,18 +24,27 @@ pub fn read_full<R: Read>(input: &mut R, buf: &mut [u8]) -> usize
     done
 }
 
-// The same of a file. An error says that it could not be opened.
+// The same of a file. None says that it could not be opened; standard error then has why.
 // Rules out: a count that goes past the buffer.
-pub fn read_file(rt: &impl Files, path: &str, buf: &mut [u8]) -> io::Result<usize>
-    ensures part { IfOk result (λ n. n ≤ length buf.new) }
+pub fn read_file(
+    rt: &(impl Files + Eprint + AllocGlobal),
+    path: &str,
+    buf: &mut [u8],
+) -> Option<usize>
+    ensures part { IfSome result (λ n. n ≤ length buf.new) }
     ensures room { length buf.new ≡ length buf.old }
 {
-    let mut file = fs::open(rt, path)?;
-    Ok(read_full(&mut file, buf))
+    match fs::open(rt, path) {
+        Ok(mut file) => Some(read_full(&mut file, buf)),
+        Err(error) => {
+            report(rt, path, &error);
+            None
+        }
+    }
 }
 
 // Says on standard error what could not be read, and why, in the system's words.
-pub fn fail(rt: &(impl Eprint + AllocGlobal), path: &str, error: &io::Error) {
+fn report(rt: &(impl Eprint + AllocGlobal), path: &str, error: &io::Error) {
     if let Ok(text) = format!(in rt.alloc(); "{error}") {
         let said = text.as_str();
         let said = match said.split_once(" (os error ") {

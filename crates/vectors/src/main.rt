@@ -76,9 +76,8 @@ struct Progress {
 fn main(rt: HostRuntime) {
     let path = "vectors.bin";
     let mut bytes = buffer();
-    match input::read_file(&rt, path, &mut bytes) {
-        Ok(n) => print_result(&rt, walk(&rt, &bytes[..n])),
-        Err(error) => input::fail(&rt, path, &error),
+    if let Some(n) = input::read_file(&rt, path, &mut bytes) {
+        print_result(&rt, walk(&rt, &bytes[..n]));
     }
 }
 
