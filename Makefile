@@ -57,7 +57,7 @@ DEBS := target/deb
 
 sample: ## proves the decision, builds the run program and tries it on a sample of five records (the default)
 	@echo "Proving: every record, on any tables, gets exactly the outcome of the rules (crates/rules/specs)."
-	@echo "Some six minutes on two idle cores; what was proved before and has not changed is not proved again."
+	@echo "It takes minutes; what was proved before and has not changed is not proved again."
 	@packaging/prove.sh program
 	@echo "The sample, by the program that was proved:"
 	@target/bin/run <crates/run/stdin
