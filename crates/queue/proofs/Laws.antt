@@ -4,10 +4,10 @@ use Rattle.rows.proofs.Prelude.{◌*◌, ◌/◌, ◌%◌, ◌≤◌, ◌<◌, m
 use Rattle.rows.proofs.Prelude.{get_or-drop, drop_of_length-le, length-append, length-drop, drop_at, length-take-le, take-take, cond_cases, bool_cases}
 use Rattle.rows.proofs.Prelude.{contradiction}
 use lib.ListN.{replicate-append-replicate}
-use Rattle.rows.specs.declared.Found.{Found}
+use Rattle.std.specs.Prelude.{Option}
 use Rattle.rows.specs.Rows.{Row, rows_of, packed, joined, all_zero, same, has_key, some, numbered_as, stored, without, with_row}
 use Rattle.rows.specs.Promises.{index_of, IsTable}
-use Rattle.rows.proofs.Laws.{length_rows_of, drop_replicate, take_rest, lent_rest, some_index, is_at, zeros_replicate, packed_is, joined_rows_of}
+use Rattle.rows.proofs.Laws.{length_rows_of, drop_replicate, take_rest, lent_rest, some_index, is_some, zeros_replicate, packed_is, joined_rows_of}
 use Rattle.rows.proofs.Kept.{long_rows_of, rows_of_joined, same_true, same_refl, same_sym, length_without, length_stored}
 use Rattle.rules.specs.Bits.{be16}
 use Rattle.rules.specs.declared.Table.TheVariants.{Creds}
@@ -166,11 +166,11 @@ module _ (count : ℕ) (creds : List ℕ) (p : Seat) (two : length p ≡ 2) (b :
   unfolding is_seat some
   seat_zero e = sym (rw (sym (zero_seat p two b z) ∙ e))
 
-  pub seat_found : b ≡ false → (n : ℕ) → n ≡ min count (capacity Creds) → (at : Found) → at ≡ index_of (has_key 0 p) (rows_of (stride Creds) n creds)
-      → is_at at ≡ is_seat (seats_in count creds) p
+  pub seat_found : b ≡ false → (n : ℕ) → n ≡ min count (capacity Creds) → (at : Option ℕ) → at ≡ index_of (has_key 0 p) (rows_of (stride Creds) n creds)
+      → is_some at ≡ is_seat (seats_in count creds) p
   unfolding is_seat some rows_in
   seat_found e n counted at f =
-      ap is_at f ∙ sym (some_index 0 (has_key 0 p) (rows_of (stride Creds) n creds)) ∙ some_key p (rows_of (stride Creds) n creds) two
+      ap is_some f ∙ sym (some_index 0 (has_key 0 p) (rows_of (stride Creds) n creds)) ∙ some_key p (rows_of (stride Creds) n creds) two
       ∙ rw (sym (zero_seat p two b z) ∙ e, counted)
 
 -- the seat of slot i

@@ -11,9 +11,9 @@ ghost use Rattle.rules_terminal.specs.Round.{seats_in, is_seat, orphaned, valid_
 ghost use Rattle.rules_terminal.specs.Terminal.{with_record};
 ghost use Rattle.queue.specs.Queue.{IsQueue};
 
-use fields::{be16, capped, skip};
-use rows::{Found, part};
-use rules::{CRED_ROW, CRED_ROWS, CREDS};
+use fields::{be16, cred_rows, skip};
+use rows::part;
+use rules::CRED_ROWS;
 use rules_terminal::{QUEUE, SLOT};
 
 // The record that a slot keeps.
@@ -94,11 +94,7 @@ fn is_seat(count: u8, creds: &[u8; CRED_ROWS], seat: &[u8]) -> bool
     if rows::all_zero(seat, 0) {
         return true;
     }
-    let n = capped(count, CREDS);
-    let Found::At(_) = rows::find(creds, CRED_ROW, n, 0, seat) else {
-        return false;
-    };
-    true
+    cred_rows(count, creds).find(0, seat).is_some()
 }
 
 // Takes out each slot whose seat is none of these rows'. Returns how many are left.

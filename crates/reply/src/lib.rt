@@ -19,7 +19,7 @@ ghost use Rattle.rules.specs.Sizes.{cred_row_size};
 use asserted_roles::put_roles;
 use caller::row_of;
 use fields::capped;
-use rows::{Found, part};
+use rows::part;
 use rules::{
     ACE_ROW, ACE_ROWS, ACES, CRED_BODY, CRED_ROW, CRED_ROWS, CREDS, Caller, Check, Head, Header,
     Resource, Verb,
@@ -89,7 +89,7 @@ fn put_rows<'a>(
     h: Head,
     creds: &'a [u8; CRED_ROWS],
     aces: &'a [u8; ACE_ROWS],
-    found: Found,
+    found: Option<usize>,
     resource: u16,
 ) -> usize
     ensures { Puts out.old at (row_bytes clock (before h creds aces) (row_at found (rows Creds (before h creds aces))) resource) out.new result }
@@ -114,7 +114,7 @@ fn put_contents<'a>(
     h: Head,
     creds: &'a [u8; CRED_ROWS],
     aces: &'a [u8; ACE_ROWS],
-    found: Found,
+    found: Option<usize>,
     resource: u16,
 ) -> usize
     ensures { Puts out.old 0 (contents clock (before h creds aces) (row_at found (rows Creds (before h creds aces))) resource) out.new result }

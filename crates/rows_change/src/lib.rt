@@ -7,7 +7,7 @@ ghost use Rattle.rows.specs.Words.{was};
 ghost use Rattle.rows.specs.Rows.{rows_of, packed, stored, without, with_row, has_key};
 ghost use Rattle.rows.specs.Promises.{without_row, IsTable};
 
-use rows::{Found, find, row_has};
+use rows::{Rows, row_has};
 
 // Puts `row` over the first bytes of `bytes`.
 fn copy_over(bytes: &mut [u8], row: &[u8])
@@ -75,13 +75,13 @@ pub fn store(rows: &mut [u8], stride: usize, count: usize, row: &[u8]) -> usize
     ensures value { result ≡ length (stored (was row) (rows_of stride count rows.old)) }
     ensures rows_value { rows.new ≡ packed (length rows.old) (stored (was row) (rows_of stride count rows.old)) }
 {
-    let found = find(rows, stride, count, 0, &row[..2]);
+    let found = Rows::new(rows, stride, count).find(0, &row[..2]);
     match found {
-        Found::At(i) => {
+        Some(i) => {
             put_row(rows, stride, i, row);
             count
         }
-        Found::Nothing => {
+        None => {
             put_row(rows, stride, count, row);
             count + 1
         }

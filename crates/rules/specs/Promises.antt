@@ -1,5 +1,5 @@
 -- Words that no rule needs. For contracts: the caller's bytes before and after a call (Words), what code gives back (Results),
--- the groups of checks that code works in (Groups), who calls (Callers), what is decided (Decision), keys (Keys).
+-- the groups of checks that code works in (Groups), who calls (Callers), what is decided (Decision), keys (Keys), what a subject names (Kinds).
 -- For theorems: Theorems, Storing.
 pub mod Words
 pub mod Results
@@ -7,5 +7,6 @@ pub mod Groups
 pub mod Callers
 pub mod Decision
 pub mod Keys
+pub mod Kinds
 pub mod Theorems
 pub mod Storing

@@ -1,7 +1,6 @@
 -- `check_credential`: by the connection, and then by the place.
 use Rattle.rows.proofs.Prelude.{◌≡◌, refl, sym, ◌∙◌, ℕ, arith}
-use Rattle.rows.specs.declared.Found.{Found}
-use Rattle.rows.specs.declared.Found.TheVariants.{At, Nothing}
+use Rattle.std.specs.Prelude.{Option, Some, None}
 use Rattle.rules.specs.declared.Sender.{Sender}
 use Rattle.rules.specs.declared.Sender.TheVariants.{Unauthenticated, Partner}
 use Rattle.rules.specs.declared.Check.TheVariants.{Pass, Refuse}
@@ -11,17 +10,17 @@ use Rattle.rules.specs.Promises.Callers.{lacks_row}
 use Rattle.caller.proofs.check_credential.Goals as goal
 
 -- over connection 0 nobody needs a row
-clear : (who : Sender) (found : Found) → connection_of who ≡ 0 → Pass ≡ refuse_if 7 (lacks_row who found)
+clear : (who : Sender) (found : Option ℕ) → connection_of who ≡ 0 → Pass ≡ refuse_if 7 (lacks_row who found)
 unfolding refuse_if
 clear Unauthenticated found e = refl
 clear (Partner n) found e = absurd (omega (arith, e))
 
-has_none : (who : Sender) → (connection_of who ≡ 0 → ⊥) → Refuse 7 ≡ refuse_if 7 (lacks_row who Nothing)
+has_none : (who : Sender) → (connection_of who ≡ 0 → ⊥) → Refuse 7 ≡ refuse_if 7 (lacks_row who None)
 unfolding refuse_if
 has_none Unauthenticated f = absurd (f refl)
 has_none (Partner n) f = refl
 
-has_one : (who : Sender) (i : ℕ) → Pass ≡ refuse_if 7 (lacks_row who (At i))
+has_one : (who : Sender) (i : ℕ) → Pass ≡ refuse_if 7 (lacks_row who (Some i))
 unfolding refuse_if
 has_one Unauthenticated i = refl
 has_one (Partner n) i = refl
@@ -33,4 +32,4 @@ pub returns-in_default : goal.returns-in_default
 returns-in_default c = λ who e. rw c.in_default.is (has_none who (λ z. c.if-connection-eq0.false (sym e ∙ z)))
 
 pub returns : goal.returns
-returns c = λ who e. rw c.in-At.is (has_one who _)
+returns c = λ who e. rw c.in-Some.is (has_one who _)
