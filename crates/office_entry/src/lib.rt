@@ -99,10 +99,10 @@ fn put_subject(out: &mut [u8], at: usize, row: &[u8]) -> usize
     ensures { Puts out.old at (subject_text (was row)) out.new result }
 {
     match ace::kind(row) {
-        Subject::UUID => put_uuid_subject(out, at, row),
-        Subject::ROLE => put_role_subject(out, at, row),
-        Subject::CONNECTION => put_connection_subject(out, at, row),
-        _ => at,
+        Subject::Uuid => put_uuid_subject(out, at, row),
+        Subject::Role => put_role_subject(out, at, row),
+        Subject::Connection => put_connection_subject(out, at, row),
+        Subject::Other => at,
     }
 }
 
