@@ -148,27 +148,19 @@ pub fn cred_sound(row: &[u8]) -> bool
     all_creds_sound(row, 1)
 }
 
+// The subject is one of its kind.
+#[tactic(auto, unfolding(rules::specs::Bodies::subject_storable))]
 fn subject_storable(row: &[u8]) -> bool
     requires { length row.now ≡ ace_row_size }
     ensures { result ≡ subject_storable (was row) }
 {
     let subject = ace::subject(row);
-    let kind = ace::kind(row);
-    if !short_zero(part(subject, 0, 8)) {
-        return kind == Subject::UUID;
+    match ace::kind(row) {
+        Subject::Uuid => !is_nil(subject),
+        Subject::Role => short_zero(part(subject, 0, 12)) && ace::role(row) != 0,
+        Subject::Connection => short_zero(part(subject, 0, 15)) && ace::connection_zeros(row) == 0,
+        Subject::Other => false,
     }
-    if kind == Subject::UUID {
-        return !short_zero(part(subject, 8, 8));
-    }
-    if !short_zero(part(subject, 8, 4)) {
-        return false;
-    }
-    if kind == Subject::ROLE {
-        return ace::role(row) != 0;
-    }
-    (kind == Subject::CONNECTION)
-        & short_zero(part(subject, 12, 3))
-        & (ace::connection_zeros(row) == 0)
 }
 
 fn ace_row_storable(row: &[u8]) -> bool
