@@ -82,9 +82,8 @@ fn answered<'a>(rt: &impl Print, p: &mut Progress<'a>, entry: Entry<'a>) {
 
 // Asks whether the senders after reason, entry and row are isolated.
 fn asked(rt: &impl Print, p: &mut Progress, s: &[u8]) {
-    let creds = p.tables.creds;
-    let aces = p.tables.aces;
-    let found = isolation_of(p.tables.head(), &creds, &aces, skip(s, 4)).report();
+    let t = &p.tables;
+    let found = isolation_of(t.head(), &t.creds, &t.aces, skip(s, 4)).report();
     let is_same = (found.reason == byte_at(s, 0))
         & (found.entry == be16(skip(s, 1)) as usize)
         & (found.row == byte_at(s, 3) as usize);
