@@ -13,6 +13,8 @@ ghost use Rattle.std.specs.Prelude.{◌≡◌, min, drop};
 ghost use Rattle.rows.specs.Words.{was};
 ghost use Rattle.rules.specs.Bits.{bits};
 
+pub use bits::byte_at;
+
 use bits::{double_field, field};
 
 // The row count, capped at the table's capacity.
