@@ -4,6 +4,7 @@
 #![tactic(auto)]
 
 ghost use Rattle.std.specs.Prelude.{◌≡◌, cond, [], ◌++◌, ◌*◌, ◌≤◌, ltb, length};
+ghost use Rattle.std.specs.Result.{result_unwrap_or};
 ghost use Rattle.text.specs.Buffer.{Puts};
 ghost use Rattle.rows.specs.Rows.{rows_of};
 ghost use Rattle.rules.specs.declared.Table.TheVariants.{Aces};
@@ -14,6 +15,7 @@ ghost use Rattle.rules.specs.Checks.{number_of};
 ghost use Rattle.rules_terminal.specs.Terminal.{terminal};
 ghost use Rattle.rules_office.specs.Office.{comma, row_text, rows_text, seasonal, rows_written, list_text, office_verdict, office_reply};
 ghost use Rattle.rules.specs.Sizes.{ace_row_size};
+ghost use Rattle.office_list.specs.Answers.{refusal, answer_of};
 
 use check_waiting::terminal_sound;
 use fields::{ace, capped};
@@ -27,19 +29,32 @@ use text::{direct, put};
 // Bytes that fit every text (`text_short`, rules_office/proofs/Bounds.antt).
 const TEXT_MAX: usize = 13069;
 
-// The result: 0, 17 or 18, and how many bytes were written.
-#[repr(C)]
-#[derive(Clone, Copy)]
-pub struct Listed {
-    pub answer: u8,
-    pub length: usize,
+// Why no text is written.
+#[derive(Clone, Copy, Debug, PartialEq, Eq)]
+pub enum TextError {
+    // the tables or the queue are not sound
+    NotSound,
+    // the buffer holds fewer bytes than the text
+    TooShort,
+}
+
+// The answer's number.
+impl From<TextError> for u8 {
+    ghost from_gives = { λ error number. number ≡ refusal error };
+
+    fn from(error: TextError) -> u8 {
+        match error {
+            TextError::NotSound => 17,
+            TextError::TooShort => 18,
+        }
+    }
 }
 
 // Whether a row holds for a shorter period than every second.
 fn is_seasonal(row: &[u8]) -> bool
     ensures { result ≡ seasonal (was row) }
 {
-    !((ace::first(row) == 0) & (ace::last(row) == 4294967295))
+    !((ace::first(row) == 0) & (ace::last(row) == u32::MAX))
 }
 
 // A row after its comma, or nothing where the row is left out.
@@ -88,12 +103,10 @@ fn is_too_short(capacity: usize, naces: u8, aces: &[u8; ACE_ROWS]) -> bool
     if TEXT_MAX <= capacity {
         return false;
     }
-    let mut none = [0u8; 0];
-    let n = put_list(&mut none, naces, aces);
-    capacity < n
+    capacity < put_list(&mut [], naces, aces)
 }
 
-// The tables' access list as office text: the answer, the length of the text, and the caller's buffer afterwards.
+// The tables' access list as office text: the length of the text, and the caller's buffer afterwards.
 // Rules out: a byte written on 18; 18 where the text fits exactly; the text of tables that are
 // not sound, be it only in the queue; a row of a shorter period in the text.
 pub fn access_list<'a>(
@@ -102,26 +115,16 @@ pub fn access_list<'a>(
     aces: &'a [u8; ACE_ROWS],
     queue: &[u8; QUEUE],
     out: &mut [u8],
-) -> Listed
-    ensures answer { result.answer ≡ number_of (office_verdict (terminal (before h creds aces) (was queue)) (length out.old)) }
-    ensures length { result.length ≡ length (office_reply (terminal (before h creds aces) (was queue)) (length out.old)) }
+) -> Result<usize, TextError>
+    ensures answer { answer_of result ≡ number_of (office_verdict (terminal (before h creds aces) (was queue)) (length out.old)) }
+    ensures length { result_unwrap_or result 0 ≡ length (office_reply (terminal (before h creds aces) (was queue)) (length out.old)) }
     ensures buffer { out.new ≡ filled out.old (office_reply (terminal (before h creds aces) (was queue)) (length out.old)) }
 {
     if !terminal_sound(h, creds, aces, queue) {
-        return Listed {
-            answer: 17,
-            length: 0,
-        };
+        return Err(TextError::NotSound);
     }
     if is_too_short(out.len(), h.naces, aces) {
-        return Listed {
-            answer: 18,
-            length: 0,
-        };
+        return Err(TextError::TooShort);
     }
-    let n = put_list(out, h.naces, aces);
-    Listed {
-        answer: 0,
-        length: n,
-    }
+    Ok(put_list(out, h.naces, aces))
 }

@@ -8,8 +8,9 @@ mod terminal_at;
 
 use entries::{Entries, Entry, Tag};
 use fields::{be16, be32, byte_at, skip};
-use list_convert::Converted;
+use list_convert::ConvertError;
 use rows::part;
+use rules_lists::Tested;
 use rules_terminal::QUEUE;
 use terminal_at::{Arrays, Terminal};
 use vectors_reader::{Tally, after_counted, be64, counted, more, tables_of};
@@ -106,7 +107,7 @@ fn reached(rt: &impl Print, p: &mut Progress, s: &[u8]) {
 fn tested(rt: &impl Print, p: &mut Progress, s: &[u8]) {
     let length = be16(s) as usize;
     let expected = skip(skip(s, 2), length);
-    let found = list_validation::test_list(part(s, 2, length));
+    let found = Tested::from(list_validation::test_list(part(s, 2, length)));
     p.tested = more(p.tested);
     let is_same = (found.answer == byte_at(expected, 0))
         & (found.row == byte_at(expected, 1) as usize);
@@ -121,14 +122,17 @@ fn converted(rt: &impl Print, p: &mut Progress, s: &[u8]) {
     let made = part(expected, 3, be16(skip(expected, 1)) as usize);
     let mut buffer = [165u8; 1300];
     let found = convert_within(part(s, 2, length), &mut buffer, be16(behind) as usize);
+    let (answer, size) = match found {
+        Ok(size) => (0, size),
+        Err(error) => (u8::from(error), 0),
+    };
     p.converted = more(p.converted);
-    let is_same = (found.answer == byte_at(expected, 0))
-        & same_filled(found.length as u64, &buffer, made);
+    let is_same = (answer == byte_at(expected, 0)) & same_filled(size as u64, &buffer, made);
     compared(rt, p, is_same);
 }
 
 // Converts an older list with the first `capacity` bytes of the buffer, or all where it has fewer.
-fn convert_within(file: &[u8], buffer: &mut [u8], capacity: usize) -> Converted {
+fn convert_within(file: &[u8], buffer: &mut [u8], capacity: usize) -> Result<usize, ConvertError> {
     list_convert::convert(file, first_of(buffer, capacity))
 }
 
