@@ -16,15 +16,18 @@ use permission_row::row_alters;
 use row_format::ace_storable;
 use rows::part;
 use rows_distinct::before_repeat;
-use rules::{ACE_ROW, ACES, Check};
+use rules::{ACE_ROW, ACES, Check, Subject};
 use rules_lists::ListError;
 
 // Whether the row gives a role or a connection create, update or delete on a security resource.
+#[tactic(auto, unfolding(rules_lists::specs::Lists::excessive))]
 fn excessive(row: &[u8]) -> bool
     ensures { result ≡ excessive (was row) }
 {
-    let kind = ace::kind(row);
-    ((kind == 1) | (kind == 2)) & row_alters(row)
+    match ace::kind(row) {
+        Subject::Role | Subject::Connection => row_alters(row),
+        Subject::Uuid | Subject::Other => false,
+    }
 }
 
 // Checks 20 and 21 of a row; `again` says whether an earlier row has its number.
@@ -45,13 +48,11 @@ fn test_rows(rows: &[u8], count: usize) -> Result<(), ListError>
     ensures { tested_of result ≡ rows_tested [] (rows_of ace_row_size count (was rows)) }
 {
     let repeat = before_repeat(rows, ACE_ROW, count);
-    let mut i = 0;
-    while i < count {
+    for i in 0..count {
         let row = part(rows, i * ACE_ROW, ACE_ROW);
         if let Check::Refuse(fault) = check_row(row, i == repeat) {
             return Err(ListError::BadRow { fault, row: i + 1 });
         }
-        i += 1;
     }
     Ok(())
 }

@@ -6,7 +6,7 @@
 ghost use Rattle.std.specs.Prelude.{◌≡◌, cond, [], ◌++◌, ◌*◌, ◌≤◌, ltb, length};
 ghost use Rattle.std.specs.Result.{result_unwrap_or};
 ghost use Rattle.text.specs.Buffer.{Puts};
-ghost use Rattle.rows.specs.Rows.{rows_of};
+ghost use Rattle.rows.specs.Listed.{listed};
 ghost use Rattle.rules.specs.declared.Table.TheVariants.{Aces};
 ghost use Rattle.rules.specs.Tables.{rows_in};
 ghost use Rattle.rules.specs.Promises.Words.{was, before};
@@ -18,10 +18,10 @@ ghost use Rattle.rules.specs.Sizes.{ace_row_size};
 ghost use Rattle.office_list.specs.Answers.{refusal, answer_of};
 
 use check_waiting::terminal_sound;
-use fields::{ace, capped};
+use fields::{ace, ace_rows};
 use office_entry::put_row;
 use office_resources::put_comma;
-use rows::part;
+use rows::Rows;
 use rules::{ACE_ROW, ACE_ROWS, ACES, CRED_ROWS, Head};
 use rules_terminal::QUEUE;
 use text::{direct, put};
@@ -68,20 +68,14 @@ fn put_entry(out: &mut [u8], at: usize, first: bool, row: &[u8]) -> usize
     put_row(out, p, row)
 }
 
-fn put_rows(out: &mut [u8], at: usize, rows: &[u8], count: usize) -> usize
-    requires { count * ace_row_size ≤ length rows.now }
-    ensures { Puts out.old at (rows_text (rows_written (rows_of ace_row_size count (was rows)))) out.new result }
+fn put_rows(out: &mut [u8], at: usize, rows: Rows<'_>) -> usize
+    ensures { Puts out.old at (rows_text (rows_written (listed rows.entry))) out.new result }
 {
     let mut p = at;
     let mut first = true;
-    let mut rest = rows;
-    let mut left = count;
-    while 0 < left {
-        let row = part(rest, 0, ACE_ROW);
+    for row in rows.iter() {
         p = put_entry(out, p, first, row);
         first = is_seasonal(row) & first;
-        rest = &rest[ACE_ROW..];
-        left -= 1;
     }
     p
 }
@@ -90,8 +84,7 @@ fn put_list(out: &mut [u8], naces: u8, aces: &[u8; ACE_ROWS]) -> usize
     ensures { Puts out.old 0 (list_text (rows_written (rows_in Aces naces (was aces)))) out.new result }
 {
     let p = put(out, 0, b"{\"aclist2\":[");
-    let count = capped(naces, ACES);
-    let p = put_rows(out, p, aces, count);
+    let p = put_rows(out, p, ace_rows(naces, aces));
     put(out, p, b"]}")
 }
 
