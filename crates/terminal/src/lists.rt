@@ -11,7 +11,7 @@ use rules_lists::Tested;
 use rules_terminal::QUEUE;
 
 // The words of what was written: 0 and its length, or a refusal's number and 0.
-fn words_of<E: Into<u8>>(written: Result<usize, E>) -> [u64; 2]
+fn two_words<E: Into<u8>>(written: Result<usize, E>) -> [u64; 2]
     ensures { MatchResult written (λ length. result ≡ 0 ∷ length ∷ []) (λ error. (number : ℕ) × E.converts error number × (result ≡ number ∷ 0 ∷ [])) }
 {
     match written {
@@ -35,7 +35,7 @@ pub fn tillerclover_access_list_at<'a>(
     ensures { ListsAt (memory_before counts devowner rowners creds aces queue) words.new text.old text.new }
 {
     let h = head_at(counts, devowner, rowners);
-    *words = words_of(office_list::access_list(h, creds, aces, queue, text));
+    *words = two_words(office_list::access_list(h, creds, aces, queue, text));
 }
 
 // Tests a list of access rows that the provisioning program writes.
@@ -52,5 +52,5 @@ pub fn tillerclover_test_list_at(rows: &[u8], words: &mut [u64; 2])
 pub fn tillerclover_convert_list_at(file: &[u8], rows: &mut [u8], words: &mut [u64; 2])
     ensures { ConvertsAt (was file) words.new rows.old rows.new }
 {
-    *words = words_of(list_convert::convert(file, rows));
+    *words = two_words(list_convert::convert(file, rows));
 }

@@ -16,4 +16,4 @@ words_are (Err error) words e = e.2 ∙ ap (λ (number : ℕ). number ∷ 0 ∷ 
 pub returns : goal.returns
 returns c =
     let list = c.convert.ensures in
-    record { says = words_are _ _ c.words_of.ensures ∙ ap₂ (λ (answer n : ℕ). answer ∷ n ∷ []) list.answer list.length; fills = list.buffer }
+    record { says = words_are _ _ c.two_words.ensures ∙ ap₂ (λ (answer n : ℕ). answer ∷ n ∷ []) list.answer list.length; fills = list.buffer }
