@@ -14,6 +14,7 @@ use rows_distinct::distinct;
 use rules::{ACE_ROWS, CRED_ROWS, Head, State, Table};
 
 // Whether each of `count` rows could be stored by a body, where all of them are there.
+#[inline(always)]
 fn each_storable(table: Table, rows: &[u8], count: usize) -> bool
     requires { count * stride table ≤ length rows.now }
     ensures { result ≡ every (storable table) (rows_of (stride table) count (was rows)) }
@@ -34,7 +35,9 @@ pub fn rows_storable(table: Table, rows: &[u8], count: usize) -> bool
 }
 
 // Whether the table is sound: room for its rows, each storable, zeros after them, distinct numbers.
+// Inlined, as the walk over its rows is: what is done for each row then knows the row's length.
 #[tactic(auto, using(rules::proofs::Answers::rows_counted), unfolding(rules::specs::Tables::rows_sound))]
+#[inline(always)]
 fn rows_sound(table: Table, count: usize, bytes: &[u8]) -> bool
     requires { length bytes.now ≡ table_size table }
     ensures { result ≡ rows_sound table count (was bytes) }

@@ -1,14 +1,16 @@
--- A nil UUID, a row alone, and the role slots of a credential row whose first slot holds no role.
-use Rattle.rows.proofs.Prelude.{◌≡◌, refl, sym, ap, ◌∙◌, Bool, true, ◌&&◌, and-true, List, [], ◌∷◌, ℕ, zero, suc, ◌+◌, ◌*◌, ◌<◌, length, take, drop, replicate}
-use Rattle.rows.proofs.Prelude.{get_or, get_or-drop, get_or-take, take_all, arith, and_left, and_right, bool_cases, eqb, eqb-false, eqb-true, ne_eqb}
+-- A nil UUID, a subject by its parts, a row alone, and the role slots of a credential row whose first slot holds no role.
+use Rattle.rows.proofs.Prelude.{◌≡◌, refl, sym, ap, ◌∙◌, Bool, false, true, not, ◌&&◌, and-true, List, [], ◌∷◌, ◌++◌, ℕ, zero, suc, ◌+◌, ◌*◌, ◌<◌, length, take, drop, replicate}
+use Rattle.rows.proofs.Prelude.{get_or, get_or-drop, get_or-take, take_all, length-drop, length-take-le, arith, and_left, and_right, bool_cases, eqb, eq-eqb, eqb-false, eqb-true, ne_eqb}
 use mathlib.Core.Bool.{and_assoc, and_comm}
+use lib.Seq.{take-add}
 use Rattle.rows.specs.Rows.{Row, rows_of, all_zero, same, every}
 use Rattle.rows.proofs.Kept.{same_true}
 use Rattle.rows.proofs.Zeros.{zeros_from}
 use Rattle.rules.specs.Bits.{bits}
-use Rattle.rules.specs.Bodies.{nil, is_nil}
+use Rattle.rules.specs.Bodies.{nil, is_nil, ace_kind, ace_role, ace_subject, subject_storable}
+use Rattle.rules.specs.Lookup.{lookup}
 use Rattle.rules.specs.Roles.{no_role, asserted_authority, roles_sound}
-use Rattle.rules.specs.Sizes.{cred_row_size, cred_body_size, role_slot_size}
+use Rattle.rules.specs.Sizes.{ace_row_size, cred_row_size, cred_body_size, role_slot_size}
 use Rattle.rules.specs.Asserted.{role_slot}
 use Rattle.rules.proofs.BitLaws.{bits_word}
 use Rattle.rules.proofs.RoleSlots.{slots_sound}
@@ -26,6 +28,32 @@ nil_is u =
     bool_cases (eqb (length u) 16)
     (λ e. rw (e, zeros_same u, eqb-true (length u) 16 e))
     (λ e. rw e (bool_cases (same u nil) (λ t. absurd (eqb-false (length u) 16 e (ap length (same_true u nil t)))) (λ f. f)))
+
+-- ---- a subject by its parts: eight bytes, and eight, four or seven more
+
+zeros_append : (a b : List ℕ) → all_zero (a ++ b) ≡ (all_zero a && all_zero b)
+unfolding all_zero
+zeros_append [] b = refl
+zeros_append (x ∷ a) b = ap (λ (t : Bool). eqb x 0 && t) (zeros_append a b) ∙ sym (and_assoc (eqb x 0) (all_zero a) (all_zero b))
+
+parts : (n m : ℕ) (s : List ℕ) → all_zero (take (n + m) s) ≡ (all_zero (take n s) && all_zero (take m (drop n s)))
+parts n m s = ap all_zero (take-add n m s) ∙ zeros_append (take n s) (take m (drop n s))
+
+pub by_parts : (row : Row) → length row ≡ ace_row_size → let s = ace_subject row in
+    let first = all_zero (take 8 s) in
+    subject_storable row ≡ lookup (ace_kind row)
+    ((0, not (first && all_zero (take 8 (drop 8 s))))
+    ∷ (1, (first && all_zero (take 4 (drop 8 s))) && not (eqb (ace_role row) 0))
+    ∷ (2, (first && all_zero (take 7 (drop 8 s))) && eqb (bits row 216 7) 0)
+    ∷ [])
+    false
+unfolding subject_storable
+by_parts row l =
+    let s = ace_subject row in
+    let m : length s ≡ 16 = length-take-le 16 (drop 12 row) (omega (arith, length-drop 12 row)) in
+    let whole : is_nil s ≡ (all_zero (take 8 s) && all_zero (take 8 (drop 8 s))) =
+    rw (nil_is s, eq-eqb (length s) 16 m) (ap all_zero (sym (take_all 16 s (omega arith))) ∙ parts 8 8 s) in
+    rw (whole, parts 8 4 s, parts 8 7 s)
 
 -- ---- a row alone is a table of one row
 

@@ -74,9 +74,9 @@ fn cred_storable(row: &[u8]) -> bool
     row.len() == CRED_BODY
         && be16(row) != 0
         && !is_nil(cred::subject(row))
-        && (cred::role(row) != 0 || cred::authority(row) == 0)
-        && cred::type_bits(row).count_ones() <= 1
         && cred::zeros(row) == 0
+        && cred::type_bits(row).count_ones() <= 1
+        && (cred::role(row) != 0 || cred::authority(row) == 0)
 }
 
 // The slots have the roles that are there, different ones, and after them zeros.
@@ -123,17 +123,21 @@ pub fn cred_sound(row: &[u8]) -> bool
     row.len() == CRED_ROW && all_creds_sound(row, 1)
 }
 
-// The subject is one of its kind.
-#[tactic(auto, unfolding(rules::specs::Bodies::subject_storable))]
+// The subject is one of its kind. Its first eight bytes settle it in most rows.
+#[tactic(auto, using(crate::proofs::Laws::by_parts))]
 fn subject_storable(row: &[u8]) -> bool
     requires { length row.now ≡ ace_row_size }
     ensures { result ≡ subject_storable (was row) }
 {
     let subject = ace::subject(row);
-    match ace::kind(row) {
-        Subject::Uuid => !is_nil(subject),
-        Subject::Role => short_zero(part(subject, 0, 12)) && ace::role(row) != 0,
-        Subject::Connection => short_zero(part(subject, 0, 15)) && ace::connection_zeros(row) == 0,
+    let kind = ace::kind(row);
+    if !short_zero(part(subject, 0, 8)) {
+        return kind == Subject::Uuid;
+    }
+    match kind {
+        Subject::Uuid => !short_zero(part(subject, 8, 8)),
+        Subject::Role => short_zero(part(subject, 8, 4)) && ace::role(row) != 0,
+        Subject::Connection => short_zero(part(subject, 8, 7)) && ace::connection_zeros(row) == 0,
         Subject::Other => false,
     }
 }
@@ -146,8 +150,8 @@ fn ace_row_storable(row: &[u8]) -> bool
         && be16(row) != 0
         && ace::zeros(row) == 0
         && ace::set_known(row)
-        && subject_storable(row)
         && ace::first(row) <= ace::last(row)
+        && subject_storable(row)
 }
 
 // Whether each of `count` access rows is a row that a body could store. The test is in the code once, in this walk.
