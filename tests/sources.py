@@ -174,6 +174,8 @@ def contracts():
         head = read(root) if os.path.exists(root) else ""
         seen = module in ("lib", "main") or re.search(rf"^pub mod {module};", head, re.M)
         passed_on = {parts[-1] for parts in imports(head, "pub use") if parts[:-1] in (["crate", module], [module])}
+        # a type that is passed on brings its functions with it
+        seen = seen or any(name[0].isupper() for name in passed_on)
         for c, name, contract in re.findall(r"^ *pub (extern \"C\" )?fn (\w+)(.*?)^ *\{$", read(path), re.M | re.S):
             if seen or c or name in passed_on:
                 yield crate, name, c + contract

@@ -15,7 +15,7 @@ use asserted_roles::both_taken;
 use row_body::{ace_row, cred_row};
 use row_format::capacity_of;
 use row_lookup::{count_of, index_by_key, may_be_none, picked};
-use rows::{Found, part};
+use rows::part;
 use rules::{ACE_ROWS, Action, CRED_ROWS, Check, Head, Table};
 
 // Where the table holds the number of the row that the body stores.
@@ -25,7 +25,7 @@ fn numbered_index<'a>(
     aces: &'a [u8; ACE_ROWS],
     table: Table,
     b: &[u8],
-) -> Found
+) -> Option<usize>
     ensures { result ≡ index_of (numbered_as (row_of table (was b))) (rows table (before h creds aces)) }
 {
     match table {
@@ -56,7 +56,7 @@ fn check_missing<'a>(
     if may_be_none(key) {
         return Check::Pass;
     }
-    let Found::At(_) = picked(h, creds, aces, table, key, b) else {
+    let Some(_) = picked(h, creds, aces, table, key, b) else {
         return Check::Refuse(13);
     };
     Check::Pass
@@ -77,7 +77,7 @@ fn check_full<'a>(
     if count_of(h, table) < capacity_of(table) {
         return Check::Pass;
     }
-    let Found::At(_) = numbered_index(h, creds, aces, table, b) else {
+    let Some(_) = numbered_index(h, creds, aces, table, b) else {
         return Check::Refuse(14);
     };
     Check::Pass

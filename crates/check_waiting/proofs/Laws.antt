@@ -7,9 +7,8 @@ use mathlib.Core.Bool.{and_assoc}
 use native.Mathlib.Numerals.{add-four}
 use Rattle.rows.specs.Rows.{Row, same, has_key, all_zero, every, some, distinct_numbers, rows_of}
 use Rattle.rows.proofs.Zeros.{zeros_part}
-use Rattle.rows.proofs.Laws.{take_rest, some_append, from_row, is_at, some_index}
-use Rattle.rows.specs.declared.Found.{Found}
-use Rattle.rows.specs.declared.Found.TheVariants.{At, Nothing}
+use Rattle.rows.proofs.Laws.{take_rest, some_append, from_row, is_some, some_index}
+use Rattle.std.specs.Prelude.{Option, Some, None}
 use Rattle.rows.specs.Promises.{index_from}
 use Rattle.rules.specs.declared.Table.TheVariants.{Creds}
 use Rattle.rules.specs.Tables.{rows_in}
@@ -144,7 +143,7 @@ module _ (r : List ℕ) where
         (λ e. rw e (omega (arith, eqb-false (v / 4096 % 2) 1 e))))
 
     -- by a place that shows it of a partner
-    pub row_shown : (ws : List Row) (p : Found)
+    pub row_shown : (ws : List Row) (p : Option ℕ)
         → (v / 4096 % 2 ≡ 1 → (n : ℕ) → take 2 (drop 2 r) ≡ be16 n → lacks_row (Partner n) p ≡ no_row ws (Partner n))
         → lacks_row (sender r) p ≡ no_credential ws (header_of r)
     unfolding no_credential
@@ -168,15 +167,15 @@ module _ (n count : ℕ) (b key : List ℕ) (few : count ≡ min n 24) where
   unfolding rows_in
   near i h l e t = sym (ap (λ (k : ℕ). some (has_key 0 key) (rows_of cred_row_size k b)) (sym few) ∙ some_at (has_key 0 key) cred_row_size count i b l (sym e ∙ t))
 
-  pub searched : (p : Found) → p ≡ index_from 0 (has_key 0 key) (rows_of cred_row_size count b) → is_at p ≡ some (has_key 0 key) (rows_in Creds n b)
+  pub searched : (p : Option ℕ) → p ≡ index_from 0 (has_key 0 key) (rows_of cred_row_size count b) → is_some p ≡ some (has_key 0 key) (rows_in Creds n b)
   unfolding rows_in
   searched p e =
-      ap is_at e ∙ sym (some_index 0 (has_key 0 key) (rows_of cred_row_size count b)) ∙ ap (λ (k : ℕ). some (has_key 0 key) (rows_of cred_row_size k b)) few
+      ap is_some e ∙ sym (some_index 0 (has_key 0 key) (rows_of cred_row_size count b)) ∙ ap (λ (k : ℕ). some (has_key 0 key) (rows_of cred_row_size k b)) few
 
 -- what a place says of a partner's row
-pub lacks : (n : ℕ) (p : Found) → lacks_row (Partner n) p ≡ not (is_at p)
-lacks n (At i) = refl
-lacks n Nothing = refl
+pub lacks : (n : ℕ) (p : Option ℕ) → lacks_row (Partner n) p ≡ not (is_some p)
+lacks n (Some i) = refl
+lacks n None = refl
 
 -- what the checks of a slot's record say of it
 module _ (ws : List Row) (w r : List ℕ) (is : r ≡ record_of w) (c : Check) (told : c ≡ verdict (sender_checks ws r)) where

@@ -4,17 +4,25 @@ ghost use Rattle.std.specs.Prelude.{◌≡◌};
 ghost use Rattle.rows.specs.Words.{was};
 ghost use Rattle.rules.specs.Bits.{bits};
 ghost use Rattle.rules.specs.Directory.{some_security};
+ghost use Rattle.rules.specs.Promises.Kinds.{kind_number};
 ghost use Rattle.rules.specs.Bodies.{ace_kind, ace_permission, ace_plus, ace_minus, ace_star, in_set, set_known};
 ghost use Rattle.rules.specs.Bodies.{ace_subject, ace_authority, ace_role, ace_connection, ace_first, ace_last};
 
 use crate::bits::{bit_at, byte_at, double_field, field};
 use rows::part;
+use rules::Subject;
 
-// 0 UUID, 1 role, 2 connection
-pub fn kind(row: &[u8]) -> u16
-    ensures { result ≡ ace_kind (was row) }
+// What the subject names: 0 a UUID, 1 a role, 2 a connection.
+pub fn kind(row: &[u8]) -> Subject
+    ensures { kind_number result ≡ ace_kind (was row) }
 {
-    field(row, 16, 2)
+    let number = field(row, 16, 2);
+    match number {
+        0 => Subject::Uuid,
+        1 => Subject::Role,
+        2 => Subject::Connection,
+        _ => Subject::Other,
+    }
 }
 
 pub fn permission(row: &[u8]) -> u16

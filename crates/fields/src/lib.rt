@@ -10,10 +10,16 @@ pub mod cred;
 pub mod record;
 
 ghost use Rattle.std.specs.Prelude.{◌≡◌, min, drop};
-ghost use Rattle.rows.specs.Words.{was};
+ghost use Rattle.rows.specs.Listed.{listed};
+ghost use Rattle.rules.specs.declared.Table.TheVariants.{Creds, Aces};
+ghost use Rattle.rules.specs.Tables.{rows_in};
+ghost use Rattle.rules.specs.Promises.Words.{was};
 ghost use Rattle.rules.specs.Bits.{bits};
 
+pub use bits::byte_at;
 use bits::{double_field, field};
+use rows::Rows;
+use rules::{ACE_ROW, ACE_ROWS, ACES, CRED_ROW, CRED_ROWS, CREDS};
 
 // The row count, capped at the table's capacity.
 // Rules out: all that are counted; one fewer.
@@ -25,6 +31,22 @@ pub fn capped(count: u8, most: u8) -> usize
     } else {
         most as usize
     }
+}
+
+// The credential rows that count, of as many as there is room for.
+// Rules out: a row past those that count; as many rows as the table holds.
+pub fn cred_rows(count: u8, creds: &[u8; CRED_ROWS]) -> Rows<'_>
+    ensures { listed result ≡ rows_in Creds count (was creds) }
+{
+    Rows::new(creds, CRED_ROW, capped(count, CREDS))
+}
+
+// The access rows that count, of as many as there is room for.
+// Rules out: a row past those that count; rows of the other table's length.
+pub fn ace_rows(count: u8, aces: &[u8; ACE_ROWS]) -> Rows<'_>
+    ensures { listed result ≡ rows_in Aces count (was aces) }
+{
+    Rows::new(aces, ACE_ROW, capped(count, ACES))
 }
 
 // All bytes after the first `n`.

@@ -13,7 +13,7 @@ ghost use Rattle.rules.specs.Promises.Words.{was, before};
 
 use caller::check_record;
 use check_waiting::check_terminal;
-use rows::Found;
+use rows::Rows;
 use rules::{ACE_ROWS, CRED_ROWS, Check, Head, Judgement, Links, StoreRange};
 use rules_terminal::{QUEUE, SLOT};
 
@@ -23,7 +23,7 @@ fn check_free(queue: &[u8], rec: &[u8]) -> Check
     ensures { result ≡ refuse_if 26 (occupied (waiting (was queue)) (seat_of (was rec))) }
 {
     let count = queue[0] as usize;
-    let Found::At(_) = rows::find(&queue[4..], SLOT, count, 0, &rec[2..4]) else {
+    let Some(_) = Rows::new(&queue[4..], SLOT, count).find(0, &rec[2..4]) else {
         return Check::Pass;
     };
     Check::Refuse(26)

@@ -2,9 +2,9 @@
 use Rattle.rows.proofs.Prelude.{◌≡◌, refl, sym, ap, ◌∙◌, true, false, List, ◌∷◌, ℕ, suc, ◌+◌, ◌-◌, ◌*◌, ◌/◌, ◌≤◌, ◌<◌, add-one, arith}
 use Rattle.rows.proofs.Prelude.{length, take, drop, length-drop, bool_cases}
 use Rattle.rows.specs.Rows.{rows_of}
-use Rattle.rows.specs.declared.Found.TheVariants.{At, Nothing}
+use Rattle.std.specs.Prelude.{Some, None}
 use Rattle.rows.specs.Promises.{index_of}
-use Rattle.rows.proofs.Laws.{take_rest, rows_of_suc, is_at, some_index, index_before}
+use Rattle.rows.proofs.Laws.{take_rest, rows_of_suc, is_some, some_index, index_before}
 use Rattle.rules.specs.declared.Tables.{Tables}
 use Rattle.rules.specs.declared.Table.TheVariants.{Aces}
 use Rattle.rules.specs.declared.Sender.{Sender}
@@ -27,15 +27,15 @@ module _ (t : Tables) (i : ℕ) (s : Sender) where
   names_answer e = rw e
 
   module _ (e : names_owner t s ≡ false) where
-    pub none_answer : index_of (lets_alter (sender_row t s) (connection_of s)) (rows Aces t) ≡ Nothing → Isolated ≡ entry_answer t i s Isolated
+    pub none_answer : index_of (lets_alter (sender_row t s) (connection_of s)) (rows Aces t) ≡ None → Isolated ≡ entry_answer t i s Isolated
     unfolding entry_answer may_alter
     none_answer p =
-        let none : may_alter t s ≡ false = some_index 0 (lets_alter (sender_row t s) (connection_of s)) (rows Aces t) ∙ ap is_at p in rw (e, none)
+        let none : may_alter t s ≡ false = some_index 0 (lets_alter (sender_row t s) (connection_of s)) (rows Aces t) ∙ ap is_some p in rw (e, none)
 
-    pub alters_answer : (j : ℕ) → index_of (lets_alter (sender_row t s) (connection_of s)) (rows Aces t) ≡ At j → MayAlter i (j + 1) ≡ entry_answer t i s Isolated
+    pub alters_answer : (j : ℕ) → index_of (lets_alter (sender_row t s) (connection_of s)) (rows Aces t) ≡ Some j → MayAlter i (j + 1) ≡ entry_answer t i s Isolated
     unfolding entry_answer may_alter altering_number
     alters_answer j p =
-        let one : may_alter t s ≡ true = some_index 0 (lets_alter (sender_row t s) (connection_of s)) (rows Aces t) ∙ ap is_at p in
+        let one : may_alter t s ≡ true = some_index 0 (lets_alter (sender_row t s) (connection_of s)) (rows Aces t) ∙ ap is_some p in
         let at : j + 1 ≡ altering_number t s = omega (arith, index_before (lets_alter (sender_row t s) (connection_of s)) 0 j (rows Aces t) p) in
         rw (e, one, at)
 

@@ -18,7 +18,7 @@ use check_tables::tables_sound;
 use fields::{ace, be16, capped, cred};
 use permission::is_owner;
 use permission_row::row_alters;
-use rows::{Found, part};
+use rows::part;
 use rules::{ACE_ROW, ACE_ROWS, ACES, CRED_ROWS, Head, Sender, Subject};
 use rules_isolation::Isolation;
 
@@ -45,18 +45,18 @@ fn lets_alter(cred: &[u8], connection: u16, ace: &[u8]) -> bool
 }
 
 // The index of the first row that may let the sender alter a security resource.
-fn altering_row(aces: &[u8], count: usize, cred: &[u8], connection: u16) -> Found
+fn altering_row(aces: &[u8], count: usize, cred: &[u8], connection: u16) -> Option<usize>
     requires { count * ace_row_size ≤ length aces.now }
     ensures { result ≡ index_of (lets_alter (was cred) connection) (rows_of ace_row_size count (was aces)) }
 {
     let mut i = 0;
     while i < count {
         if lets_alter(cred, connection, part(aces, i * ACE_ROW, ACE_ROW)) {
-            return Found::At(i);
+            return Some(i);
         }
         i += 1;
     }
-    Found::Nothing
+    None
 }
 
 // ---- an entry
@@ -100,7 +100,7 @@ fn entry_answer<'a>(
     }
     let count = capped(h.naces, ACES);
     let connection = connection_of(who);
-    let Found::At(j) = altering_row(aces, count, cred, connection) else {
+    let Some(j) = altering_row(aces, count, cred, connection) else {
         return Isolation::Isolated;
     };
     Isolation::MayAlter(i, j + 1)

@@ -1,11 +1,10 @@
 -- Laws of the record whose turn it is, as the code finds it.
 use Rattle.rows.proofs.Prelude.{◌≡◌, refl, sym, ap, ◌∙◌, true, false, true≢false, List, [], ◌∷◌, map, ℕ, ◌-◌, ◌*◌, ◌<◌, min, min-eq_left, arith, length, take}
 use Rattle.rows.proofs.Prelude.{drop, get_or, eqb}
-use Rattle.rows.specs.declared.Found.{Found}
-use Rattle.rows.specs.declared.Found.TheVariants.{At, Nothing}
+use Rattle.std.specs.Prelude.{Option, Some, None}
 use Rattle.rows.specs.Rows.{Row, rows_of, has_key, some, first_row}
 use Rattle.rows.specs.Promises.{index_of}
-use Rattle.rows.proofs.Laws.{some_index, is_at, index_row, found_cases}
+use Rattle.rows.proofs.Laws.{some_index, is_some, index_row, found_cases}
 use Rattle.rows.proofs.Kept.{same_true}
 use Rattle.rules.specs.declared.Tables.{Tables}
 use Rattle.rules.specs.declared.Table.TheVariants.{Creds}
@@ -24,21 +23,21 @@ use Rattle.queue_turn.specs.Turns.{slot_in, due_of}
 
 -- ---- the slot of the first seat that is occupied
 
-slot_found : (ws : List Row) (ps : List Seat) (i : ℕ) → slot_in ws ps ≡ At i → index_of (has_key 0 (first_row (occupied ws) ps)) ws ≡ At i
+slot_found : (ws : List Row) (ps : List Seat) (i : ℕ) → slot_in ws ps ≡ Some i → index_of (has_key 0 (first_row (occupied ws) ps)) ws ≡ Some i
 unfolding slot_in first_row occupied
-slot_found ws [] i e = absurd (true≢false (sym (ap is_at e)))
+slot_found ws [] i e = absurd (true≢false (sym (ap is_some e)))
 slot_found ws (p ∷ ps) i e =
     found_cases (index_of (has_key 0 p) ws)
-    (λ j f. rw (some_index 0 (has_key 0 p) ws ∙ ap is_at f) (f ∙ rw f at e))
-    (λ f. rw (some_index 0 (has_key 0 p) ws ∙ ap is_at f) (slot_found ws ps i (rw f at e)))
+    (λ j f. rw (some_index 0 (has_key 0 p) ws ∙ ap is_some f) (f ∙ rw f at e))
+    (λ f. rw (some_index 0 (has_key 0 p) ws ∙ ap is_some f) (slot_found ws ps i (rw f at e)))
 
-slot_none : (ws : List Row) (ps : List Seat) → slot_in ws ps ≡ Nothing → some (occupied ws) ps ≡ false
+slot_none : (ws : List Row) (ps : List Seat) → slot_in ws ps ≡ None → some (occupied ws) ps ≡ false
 unfolding slot_in some occupied
 slot_none ws [] e = refl
 slot_none ws (p ∷ ps) e =
     found_cases (index_of (has_key 0 p) ws)
-    (λ j f. absurd (true≢false (ap is_at (rw f at e))))
-    (λ f. rw (some_index 0 (has_key 0 p) ws ∙ ap is_at f) (slot_none ws ps (rw f at e)))
+    (λ j f. absurd (true≢false (ap is_some (rw f at e))))
+    (λ f. rw (some_index 0 (has_key 0 p) ws ∙ ap is_some f) (slot_none ws ps (rw f at e)))
 
 turn_some : (x : Terminal) → sound_terminal x ≡ true → eqb (length (waiting x.queue)) 0 ≡ false
     → some (occupied (waiting x.queue)) (in_turn (round_of x.queue) (seats x.tables)) ≡ true
@@ -51,7 +50,7 @@ turn_some x h w =
 -- ---- in a sound terminal
 
 module _ (t : Tables) (m : List ℕ) (h : sound_terminal (terminal t m) ≡ true) where
-  module _ (n : ℕ) (counted : n ≡ min t.ncreds 24) (at : Found)
+  module _ (n : ℕ) (counted : n ≡ min t.ncreds 24) (at : Option ℕ)
       (is : at ≡ slot_in (rows_of slot_size (get_or m 0 0) (take (length m - 4) (drop 4 m)))
       (in_turn (round_of m) (nobody ∷ map (take 2) (rows_of (stride Creds) n t.creds))))
     where
@@ -59,17 +58,17 @@ module _ (t : Tables) (m : List ℕ) (h : sound_terminal (terminal t m) ≡ true
       unfolding seats rows_in
       at_is = is ∙ rw (slots_rows m (sound_queue_lem t m h), counted)
 
-      pub due_found : (i : ℕ) → at ≡ At i → index_of (has_key 0 (turn (terminal t m))) (waiting m) ≡ At i
+      pub due_found : (i : ℕ) → at ≡ Some i → index_of (has_key 0 (turn (terminal t m))) (waiting m) ≡ Some i
       unfolding turn first_in_turn
       due_found i e = slot_found (waiting m) (in_turn (round_of m) (seats t)) i (sym at_is ∙ e)
 
-      pub due_none : eqb (length (waiting m)) 0 ≡ false → at ≡ Nothing → ⊥
+      pub due_none : eqb (length (waiting m)) 0 ≡ false → at ≡ None → ⊥
       due_none w e = true≢false (sym (turn_some (terminal t m) h w) ∙ slot_none (waiting m) (in_turn (round_of m) (seats t)) (sym at_is ∙ e))
 
 -- ---- the record that is due
 
 module _ (t : Tables) (m : List ℕ) (h : sound_terminal (terminal t m) ≡ true) (w : eqb (length (waiting m)) 0 ≡ false)
-    (i : ℕ) (at : index_of (has_key 0 (turn (terminal t m))) (waiting m) ≡ At i) where
+    (i : ℕ) (at : index_of (has_key 0 (turn (terminal t m))) (waiting m) ≡ Some i) where
   abbrev slot : Row
   slot = take slot_size (drop (i * slot_size) (drop 4 m))
 

@@ -2,8 +2,7 @@
 use Rattle.rows.proofs.Prelude.{◌≡◌, refl, sym, ap, ◌∙◌, Bool, true, false, cond, List, [], ◌∷◌, ◌++◌, map, append-nil, ℕ, zero, suc, ◌+◌, ◌-◌, ◌*◌, ◌≤◌, ◌<◌}
 use Rattle.rows.proofs.Prelude.{arith, length, take, drop, get_or, drop_of_length-le, length-drop, length-map, length-take-le, take_all, take-take, eq-eqb}
 use Rattle.rows.proofs.Prelude.{ne_eqb, cond_cases, bool_cases}
-use Rattle.rows.specs.declared.Found.{Found}
-use Rattle.rows.specs.declared.Found.TheVariants.{At, Nothing}
+use Rattle.std.specs.Prelude.{Option, Some, None}
 use Rattle.rows.specs.Rows.{Row, rows_of, all_zero, same, has_key, some, rows_before}
 use Rattle.rows.specs.Promises.{index_from, index_of}
 use Rattle.rows.proofs.Laws.{found_cases, take_rest, a_row, next_fits, rows_of_suc, length_rows_of, rows_of_take, rows_of_drop}
@@ -35,35 +34,35 @@ module _ (creds slots : List ℕ) (count kept : ℕ) where
     pub row_here : (stride Creds) ≤ length rest
     row_here = a_row (stride Creds) left rest more inv.fits
 
-    module _ (at : Found) (is : at ≡ index_of (has_key 0 (take 2 rest)) (rows_of slot_size kept slots)) where
-      pub found : (i : ℕ) → at ≡ At i → At i ≡ slot_in (rows_of slot_size kept slots) (map (take 2) (rows_of (stride Creds) count creds))
+    module _ (at : Option ℕ) (is : at ≡ index_of (has_key 0 (take 2 rest)) (rows_of slot_size kept slots)) where
+      pub found : (i : ℕ) → at ≡ Some i → Some i ≡ slot_in (rows_of slot_size kept slots) (map (take 2) (rows_of (stride Creds) count creds))
       found i e = sym (inv.slot ∙ slot_more (rows_of slot_size kept slots) left rest more ∙ rw (sym is ∙ e))
 
-      pub again : at ≡ Nothing → Inv (take (length rest - (stride Creds)) (drop (stride Creds) rest)) (left - 1)
+      pub again : at ≡ None → Inv (take (length rest - (stride Creds)) (drop (stride Creds) rest)) (left - 1)
       again e = record {
         fits = next_fits (stride Creds) left rest more inv.fits;
         slot = inv.slot ∙ slot_more (rows_of slot_size kept slots) left rest more ∙ rw (sym is ∙ e, take_rest (stride Creds) rest);
       }
 
-  pub none : (rest : List ℕ) (left : ℕ) → Inv rest left → left ≤ 0 → Nothing ≡ slot_in (rows_of slot_size kept slots) (map (take 2) (rows_of (stride Creds) count creds))
+  pub none : (rest : List ℕ) (left : ℕ) → Inv rest left → left ≤ 0 → None ≡ slot_in (rows_of slot_size kept slots) (map (take 2) (rows_of (stride Creds) count creds))
   unfolding slot_in rows_of
   none rest left inv h = let e : left ≡ 0 = omega arith in sym (inv.slot ∙ rw e)
 
 -- ---- where the last seat is
 
 index_place : (k : ℕ) (p : Seat) (ws : List Row) → length p ≡ 2
-    → index_from k (has_key 0 p) ws ≡ cond (some (same p) (map (take 2) ws)) (At (k + rows_before (same p) (map (take 2) ws))) Nothing
+    → index_from k (has_key 0 p) ws ≡ cond (some (same p) (map (take 2) ws)) (Some (k + rows_before (same p) (map (take 2) ws))) None
 unfolding index_from some rows_before
 index_place k p [] l = refl
 index_place k p (w ∷ ws) l =
     rw (key_same p w l)
-    (bool_cases (same p (take 2 w)) (λ e. rw e (ap At (omega arith)))
-    (λ e. rw e (index_place (k + 1) p ws l ∙ ap (λ (j : ℕ). cond (some (same p) (map (take 2) ws)) (At j) Nothing) (omega arith))))
+    (bool_cases (same p (take 2 w)) (λ e. rw e (ap Some (omega arith)))
+    (λ e. rw e (index_place (k + 1) p ws l ∙ ap (λ (j : ℕ). cond (some (same p) (map (take 2) ws)) (Some j) None) (omega arith))))
 
 -- the rows up to a place that was found, or all n
-abbrev pub behind : ℕ → Found → ℕ
-behind n (At i) = i + 1
-behind n Nothing = n
+abbrev pub behind : ℕ → Option ℕ → ℕ
+behind n (Some i) = i + 1
+behind n None = n
 
 module _ (count : ℕ) (creds m : List ℕ) where
   abbrev numbers : List Seat
@@ -139,7 +138,7 @@ map_take (suc k) (w ∷ ws) = ap (λ (l : List Seat). take 2 w ∷ l) (map_take 
 -- the three steps of the code
 module _ (ws : List Row) (last : Round) (count : ℕ) (creds : List ℕ) (k : ℕ)
     (here : k ≡ rows_ahead last (map (take 2) (rows_of (stride Creds) count creds))) (fits : k ≤ count) where
-  abbrev whole : Found
+  abbrev whole : Option ℕ
   whole = slot_in ws (in_turn last (nobody ∷ map (take 2) (rows_of (stride Creds) count creds)))
 
   parts : in_turn last (nobody ∷ map (take 2) (rows_of (stride Creds) count creds))
@@ -163,16 +162,16 @@ module _ (ws : List Row) (last : Round) (count : ℕ) (creds : List ℕ) (k : �
       ∙ slot_append ws (map (take 2) (rows_of (stride Creds) (count - k) (drop (k * stride Creds) creds)))
       (nobody ∷ map (take 2) (rows_of (stride Creds) k creds))
 
-  module _ (x : Found)
+  module _ (x : Option ℕ)
       (is : x ≡ slot_in ws (map (take 2) (rows_of (stride Creds) (count - k) (take (length creds - k * stride Creds) (drop (k * stride Creds) creds))))) where
-    pub next_first : (i : ℕ) → x ≡ At i → At i ≡ whole
+    pub next_first : (i : ℕ) → x ≡ Some i → Some i ≡ whole
     next_first i e = sym (steps ∙ rw (sym (rw (take_rest (k * stride Creds) creds) at is), e))
 
-    module _ (e : x ≡ Nothing) (y : Found) (at : y ≡ index_of (has_key 0 (0 ∷ 0 ∷ [])) ws) where
-      pub next_nobody : (i : ℕ) → y ≡ At i → At i ≡ whole
+    module _ (e : x ≡ None) (y : Option ℕ) (at : y ≡ index_of (has_key 0 (0 ∷ 0 ∷ [])) ws) where
+      pub next_nobody : (i : ℕ) → y ≡ Some i → Some i ≡ whole
       unfolding be16
       next_nobody i f = sym (steps ∙ rw (sym (rw (take_rest (k * stride Creds) creds) at is), e, ← at, f))
 
-      pub next_rest : (z : Found) → y ≡ Nothing → z ≡ slot_in ws (map (take 2) (rows_of (stride Creds) k creds)) → z ≡ whole
+      pub next_rest : (z : Option ℕ) → y ≡ None → z ≡ slot_in ws (map (take 2) (rows_of (stride Creds) k creds)) → z ≡ whole
       unfolding be16
       next_rest z f g = g ∙ sym (steps ∙ rw (sym (rw (take_rest (k * stride Creds) creds) at is), e, ← at, f))

@@ -1,7 +1,6 @@
 -- The coming take, as code finds it: the slot of the first seat in turn, and the record there by value.
 use Rattle.std.specs.Prelude.{suc, cond, List, [], ◌∷◌, length}
-use Rattle.rows.specs.declared.Found.{Found}
-use Rattle.rows.specs.declared.Found.TheVariants.{At, Nothing}
+use Rattle.std.specs.Prelude.{Option, Some, None}
 use Rattle.rows.specs.Rows.{Row, same, has_key, rows_before}
 use Rattle.rows.specs.Promises.{index_of}
 use Rattle.rules_terminal.specs.Slots.{Seat, Round, anew, after_seat, padded}
@@ -10,13 +9,13 @@ use Rattle.rules_terminal.specs.Terminal.{Terminal, turn, due}
 use Rattle.queue_turn.specs.declared.Due.{Due}
 use Rattle.rules.specs.Types.{Index}
 
-abbrev pub or_else : Found → Found → Found
-or_else (At i) other = At i
-or_else Nothing other = other
+abbrev pub or_else : Option ℕ → Option ℕ → Option ℕ
+or_else (Some i) other = Some i
+or_else None other = other
 
 -- the slot of the first of these seats in which a record waits
-unfoldable pub slot_in : List Row → List Seat → Found
-slot_in slots [] = Nothing
+unfoldable pub slot_in : List Row → List Seat → Option ℕ
+slot_in slots [] = None
 slot_in slots (seat ∷ seats) = or_else (index_of (has_key 0 seat) slots) (slot_in slots seats)
 
 -- how many credential rows come before the row whose seat is first in turn, if the unauthenticated seat comes after all of them

@@ -6,7 +6,6 @@ ghost use Rattle.std.specs.Prelude.{◌≡◌, true, false, map, ◌∷◌, ◌+
 ghost use Rattle.rows.specs.Words.{was};
 ghost use Rattle.rows.specs.Rows.{rows_of, has_key};
 ghost use Rattle.rows.specs.Promises.{index_of};
-ghost use Rattle.rows.specs.declared.Found.TheVariants.{At};
 ghost use Rattle.rules.specs.declared.Table.TheVariants.{Creds};
 ghost use Rattle.rules.specs.Tables.{stride, tables_of};
 ghost use Rattle.rules_terminal.specs.Slots.{round_of, waiting, slot_size};
@@ -15,25 +14,25 @@ ghost use Rattle.rules_terminal.specs.Terminal.{terminal, sound_terminal, turn};
 ghost use Rattle.queue_turn.specs.Turns.{slot_in, rows_ahead, due_of};
 
 use fields::capped;
-use rows::{Found, part};
+use rows::{Rows, part};
 use rules::{ACE_ROWS, CRED_ROW, CRED_ROWS, CREDS, Head};
 use rules_terminal::SLOT;
 
 // The slot of the first of these credential rows in whose seat a record waits.
-fn first_waiting(creds: &[u8], count: usize, slots: &[u8], kept: usize) -> Found
+fn first_waiting(creds: &[u8], count: usize, slots: &[u8], kept: usize) -> Option<usize>
     requires { (count * stride Creds ≤ length creds.now) × (kept * slot_size ≤ length slots.now) }
     ensures { result ≡ slot_in (rows_of slot_size kept (was slots)) (map (take 2) (rows_of (stride Creds) count (was creds))) }
 {
     let mut rest = creds;
     let mut left = count;
     while 0 < left {
-        if let Found::At(i) = rows::find(slots, SLOT, kept, 0, &rest[..2]) {
-            return Found::At(i);
+        if let Some(i) = Rows::new(slots, SLOT, kept).find(0, &rest[..2]) {
+            return Some(i);
         }
         rest = &rest[CRED_ROW..];
         left -= 1;
     }
-    Found::Nothing
+    None
 }
 
 // How many credential rows are before the seat that is first in turn.
@@ -48,14 +47,14 @@ fn rows_before(creds: &[u8], count: usize, m: &[u8]) -> usize
     if rows::all_zero(seat, 0) {
         return 0;
     }
-    let Found::At(i) = rows::find(creds, CRED_ROW, count, 0, seat) else {
+    let Some(i) = Rows::new(creds, CRED_ROW, count).find(0, seat) else {
         return count;
     };
     i + 1
 }
 
 // The slot of the coming take: that of the occupied seat that comes first in turn.
-fn next_slot(creds: &[u8], count: usize, m: &[u8], slots: &[u8], kept: usize) -> Found
+fn next_slot(creds: &[u8], count: usize, m: &[u8], slots: &[u8], kept: usize) -> Option<usize>
     requires { (count * stride Creds ≤ length creds.now) × (4 ≤ length m.now) × (kept * slot_size ≤ length slots.now) }
     ensures { result ≡ slot_in (rows_of slot_size kept (was slots))
         (in_turn (round_of (was m)) (nobody ∷ map (take 2) (rows_of (stride Creds) count (was creds)))) }
@@ -63,13 +62,13 @@ fn next_slot(creds: &[u8], count: usize, m: &[u8], slots: &[u8], kept: usize) ->
     let k = rows_before(creds, count, m);
     let start = k * CRED_ROW;
     let later = first_waiting(&creds[start..], count - k, slots, kept);
-    if let Found::At(i) = later {
-        return Found::At(i);
+    if let Some(i) = later {
+        return Some(i);
     }
     let none = [0; 2];
-    let shared = rows::find(slots, SLOT, kept, 0, &none);
-    if let Found::At(i) = shared {
-        return Found::At(i);
+    let shared = Rows::new(slots, SLOT, kept).find(0, &none);
+    if let Some(i) = shared {
+        return Some(i);
     }
     first_waiting(creds, k, slots, kept)
 }
@@ -82,7 +81,7 @@ fn due_slot<'a>(h: Head, creds: &'a [u8; CRED_ROWS], aces: &'a [u8; ACE_ROWS], m
 {
     let count = m[0] as usize;
     let n = capped(h.ncreds, CREDS);
-    let Found::At(i) = next_slot(creds, n, m, &m[4..], count) else {
+    let Some(i) = next_slot(creds, n, m, &m[4..], count) else {
         return 0;
     };
     i

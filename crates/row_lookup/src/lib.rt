@@ -11,11 +11,9 @@ ghost use Rattle.rules.specs.Promises.Keys.{key_offset, key_bytes};
 ghost use Rattle.rules.specs.StoreRange.{gap_of, store_range_of};
 ghost use Rattle.rules.specs.Promises.Words.{was, before};
 
-use fields::capped;
-use rows::{Found, part};
-use rules::{
-    ACE_ROW, ACE_ROWS, ACES, Action, CRED_ROW, CRED_ROWS, CREDS, Head, Key, StoreRange, Table,
-};
+use fields::{ace_rows, capped, cred_rows};
+use rows::part;
+use rules::{ACE_ROWS, ACES, Action, CRED_ROWS, CREDS, Head, Key, StoreRange, Table};
 
 // Rows counted.
 // Rules out: the other table's count; the rows that there is room for.
@@ -47,19 +45,14 @@ pub fn index_by_key<'a>(
     table: Table,
     at: usize,
     key: &[u8],
-) -> Found
+) -> Option<usize>
     ensures { result ≡ index_of (has_key at (was key)) (rows table (before h creds aces)) }
 {
-    match table {
-        Table::Creds => {
-            let count = capped(h.ncreds, CREDS);
-            rows::find(creds, CRED_ROW, count, at, key)
-        }
-        Table::Aces => {
-            let count = capped(h.naces, ACES);
-            rows::find(aces, ACE_ROW, count, at, key)
-        }
-    }
+    let rows = match table {
+        Table::Creds => cred_rows(h.ncreds, creds),
+        Table::Aces => ace_rows(h.naces, aces),
+    };
+    rows.find(at, key)
 }
 
 // Whether all rows are meant, which may be none.
@@ -107,7 +100,7 @@ pub fn picked<'a>(
     table: Table,
     key: Key,
     b: &[u8],
-) -> Found
+) -> Option<usize>
     ensures { result ≡ index_of (goes key (was b)) (rows table (before h creds aces)) }
 {
     index_by_key(h, creds, aces, table, key_offset(key), key_bytes(key, b))
@@ -124,7 +117,7 @@ fn gap<'a>(
 ) -> StoreRange
     ensures { result ≡ gap_of (goes key (was b)) (rows table (before h creds aces)) }
 {
-    let Found::At(first) = picked(h, creds, aces, table, key, b) else {
+    let Some(first) = picked(h, creds, aces, table, key, b) else {
         return StoreRange::none();
     };
     StoreRange {

@@ -6,7 +6,7 @@ ghost use Rattle.std.specs.Prelude.{◌≡◌, false, [], ◌+◌, ◌*◌, ◌�
 ghost use Rattle.rows.specs.Words.{was};
 ghost use Rattle.rows.specs.Rows.{rows_of, some, numbered_as, distinct_numbers, before_repeat};
 
-use rows::{Found, find, part};
+use rows::{Rows, part};
 
 // Whether a row before row i has its number, where `seen` is false only if none of them has its low byte.
 fn again(seen: bool, rows: &[u8], stride: usize, i: usize) -> bool
@@ -19,10 +19,7 @@ fn again(seen: bool, rows: &[u8], stride: usize, i: usize) -> bool
     }
     let at = i * stride;
     let number = part(rows, at, 2);
-    if let Found::At(_) = find(rows, stride, i, 0, number) {
-        return true;
-    }
-    false
+    Rows::new(rows, stride, i).find(0, number).is_some()
 }
 
 // How many of the `count` rows are before the first that has the number of an earlier one; all, where there is none.

@@ -1,5 +1,5 @@
 -- What code finds once for a record is the record's own: the sender's row, and the checks 2 to 7.
-use Rattle.rows.proofs.Prelude.{◌≡◌, refl, sym, ap, ◌∙◌, Bool, not, List, [], ◌∷◌, ◌++◌, ℕ, length}
+use Rattle.rows.proofs.Prelude.{◌≡◌, refl, sym, ap, Bool, List, [], ◌∷◌, ◌++◌, ℕ, length}
 use Rattle.rows.specs.Rows.{Row}
 use Rattle.rows.specs.Promises.{index_of, row_at}
 use Rattle.rows.proofs.Laws.{some_index, found_cases, first_at}

@@ -1,8 +1,8 @@
 -- What a DELETE of rows asks for, and what a permitted one leaves and reports. No other record reports places.
 -- For a record at any clock, with any buffer and any default lists.
-use Rattle.rows.proofs.Prelude.{◌≡◌, refl, sym, ap, ◌∙◌, true, false, List, [], ◌∷◌, ℕ, arith, length, eqb, eqb-true, not-false, bool_cases, contradiction}
+use Rattle.rows.proofs.Prelude.{◌≡◌, refl, sym, ap, ◌∙◌, true, false, List, [], ◌∷◌, ℕ, eqb, eqb-true, not-false, contradiction}
 use Rattle.rows.proofs.Prelude.{and_left, and_right}
-use Rattle.rows.specs.Rows.{Row, same, some, without, has_key}
+use Rattle.rows.specs.Rows.{Row, some, without}
 use Rattle.rules.specs.declared.Tables.{Tables}
 use Rattle.rules.specs.declared.Table.{Table}
 use Rattle.rules.specs.declared.Table.TheVariants.{Creds, Aces}

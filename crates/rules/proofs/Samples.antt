@@ -1,6 +1,6 @@
 -- The rows and tables that the examples of all requests are made of, and names that open the definitions for them.
 -- The examples that take longer to compute are in `rules_examples`.
-use Rattle.rows.proofs.Prelude.{◌≡◌, refl, false, List, [], ◌∷◌, ◌++◌, map, ℕ, zero, suc, ◌+◌, ◌*◌, ◌/◌, ◌%◌, replicate, ones, ones_in}
+use Rattle.rows.proofs.Prelude.{List, [], ◌∷◌, ◌++◌, map, ℕ, ◌+◌, ◌*◌, ◌/◌, ◌%◌, replicate, ones, ones_in}
 use Rattle.rows.specs.Rows.{Row, rows_before, rows_of, joined, packed, all_zero, same, has_key, numbered_as}
 use Rattle.rows.specs.Rows.{first_row, some, every, without, distinct_numbers, stored, union_of, with_row}
 use Rattle.rows.specs.Promises.{index_from}
@@ -15,17 +15,15 @@ use Rattle.rules.specs.Tables.{rows_in, with_rows, rows_sound, head_sound, sound
 use Rattle.rules.specs.Defaults.{no_defaults, good_list, default_rows, fresh}
 use Rattle.rules.specs.Permission.{has, for_role, role_fits, subject_is, subject_fits, resource_fits, in_force, row_fits, grants}
 use Rattle.rules.specs.Permission.{names, is_owner, by_owner, by_no_owner, by_roles, effective_of, permission, permission_of}
-use Rattle.rules.specs.Promises.Theorems.{effective}
 use Rattle.rules.specs.Action.{if_allowed, update_doxm, update_pstat, store_row, update_rows, update_roles, update_action}
 use Rattle.rules.specs.Action.{delete_number, delete_aces, delete_creds, delete_action, read_action, security_action, action_of}
 use Rattle.rules.specs.States.{write_allowed, move_listed, move_allowed}
-use Rattle.rules.specs.StoreRange.{no_range, gap_of}
-use Rattle.rules.specs.Links.{asks_links, link_set, no_links}
+use Rattle.rules.specs.StoreRange.{gap_of}
+use Rattle.rules.specs.Links.{asks_links, link_set}
 use Rattle.rules.specs.Reading.{own_body, row_bytes, contents, reads, reply_to, too_short, longest_reply}
 use Rattle.rules.specs.Checks.{bad_length, no_verb, zero_bit_set, mismatch, unknown_resource}
 use Rattle.rules.specs.Checks.{no_credential, no_endpoint, not_permitted, offered, not_offered, verdict}
-use Rattle.rules.specs.Outcome.{outcome_at, outcome, entered, response_to, tables_after}
-use Rattle.rules.specs.Run.{replies}
+use Rattle.rules.specs.Outcome.{outcome_at, outcome, entered, response_to}
 
 -- `unfolding definitions` opens all that its own line names
 unfoldable pub definitions : Unit {0}

@@ -17,7 +17,7 @@ use Rattle.rules.specs.Record.{header_of, Request, body, connection, sender}
 use Rattle.rules.specs.Bodies.{nil, is_nil, new_owner}
 use Rattle.rules.specs.Roles.{roles_in_force, asserted}
 use Rattle.rules.specs.Tables.{head_of, stride, longest, capacity, storable, row_of, rows, rows_in, with_rows, rows_sound, head_sound, sound, empty, table_size, SoundRows}
-use Rattle.rules.specs.Defaults.{Defaults, listed, good_list, default_rows, fresh}
+use Rattle.rules.specs.Defaults.{Defaults, good_list, default_rows, fresh}
 use Rattle.rules.specs.Keys.{goes}
 use Rattle.rules.specs.Action.{action}
 use Rattle.rules.specs.Checks.{checks, verdict, bad_length, no_credential, bad_target, full, roles_full}

@@ -7,7 +7,7 @@ use Rattle.rules.specs.declared.Tables.{Tables}
 use Rattle.rules.specs.declared.StoreRange.{StoreRange}
 use Rattle.rules.specs.declared.Table.{Table}
 use Rattle.rules.specs.Record.{Request, body}
-use Rattle.rules.specs.Tables.{head_of, count, bytes, rows, with_rows, sound, table_size}
+use Rattle.rules.specs.Tables.{head_of, count, bytes, rows, with_rows, table_size}
 use Rattle.rules.specs.Defaults.{Defaults}
 use Rattle.rules.specs.Keys.{goes}
 use Rattle.rules.specs.StoreRange.{no_range, gap_of}

@@ -35,7 +35,7 @@ returns-in_default c =
 
 pub overflow_add-result : goal.overflow_add-result
 overflow_add-result c =
-    omega (arith, c.capped-count.ensures, (index_row _ _ _ _ _ (sym c.altering_row.ensures ∙ c.in-At.is)).0)
+    omega (arith, c.capped-count.ensures, (index_row _ _ _ _ _ (sym c.altering_row.ensures ∙ c.in-Some.is)).0)
 
 pub returns : goal.returns
 unfolding names_owner rows_in
@@ -46,4 +46,4 @@ returns c =
     c.names_owner.ensures ∙ ap (λ (w : Row). some_security (is_owner (head_of (tables_of c.args.h c.args.creds.now c.args.aces.now)) w)) own in
     let row_number : c.altering_row.result ≡ index_of (lets_alter (sender_row (tables_of c.args.h c.args.creds.now c.args.aces.now) c.args.who) (connection_of c.args.who)) (rows Aces (tables_of c.args.h c.args.creds.now c.args.aces.now)) =
     c.altering_row.ensures ∙ rw (c.connection_of-connection.ensures, c.capped-count.ensures, own) in
-    alters_answer _ _ _ (sym names ∙ c.if-names_owner.false) _ (sym row_number ∙ c.in-At.is)
+    alters_answer _ _ _ (sym names ∙ c.if-names_owner.false) _ (sym row_number ∙ c.in-Some.is)

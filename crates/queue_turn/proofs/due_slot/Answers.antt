@@ -29,7 +29,7 @@ returns-in_default c =
 pub returns : goal.returns
 returns c =
     let tables : Tables = tables_of c.args.h c.args.creds.now c.args.aces.now in
-    due_found tables c.args.m.now c.requires.0 _ c.capped-n.ensures _ c.next_slot.ensures _ c.in-At.is
+    due_found tables c.args.m.now c.requires.0 _ c.capped-n.ensures _ c.next_slot.ensures _ c.in-Some.is
 
 pub bounds-m-0 : goal.bounds-m-0
 bounds-m-0 c =

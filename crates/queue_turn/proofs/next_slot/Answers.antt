@@ -4,19 +4,19 @@ use Rattle.rules_terminal.specs.Slots.{round_of}
 use Rattle.queue_turn.proofs.TurnLaws.{before_bound, next_first, next_nobody, next_rest}
 use Rattle.queue_turn.proofs.next_slot.Goals as goal
 
-pub returns-in-At : goal.returns-in-At
-returns-in-At c =
+pub returns-in-Some : goal.returns-in-Some
+returns-in-Some c =
     let bound : c.rows_before-k.result ≤ c.args.count =
     omega (arith, c.rows_before-k.ensures, before_bound c.args.count c.args.creds.now c.args.m.now (round_of c.args.m.now)) in
     next_first _ _ c.args.count c.args.creds.now _ c.rows_before-k.ensures
-    bound _ c.first_waiting-later.ensures _ c.in-At.is
+    bound _ c.first_waiting-later.ensures _ c.in-Some.is
 
-pub returns-in-At-shared : goal.returns-in-At-shared
-returns-in-At-shared c =
+pub returns-in-Some-shared : goal.returns-in-Some-shared
+returns-in-Some-shared c =
     let bound : c.rows_before-k.result ≤ c.args.count =
     omega (arith, c.rows_before-k.ensures, before_bound c.args.count c.args.creds.now c.args.m.now (round_of c.args.m.now)) in
     next_nobody _ _ c.args.count c.args.creds.now _ c.rows_before-k.ensures bound _
-    c.first_waiting-later.ensures c.in_default.is _ c.find-shared.ensures _ c.in-At-shared.is
+    c.first_waiting-later.ensures c.in_default.is _ c.find-shared.ensures _ c.in-Some-shared.is
 
 pub returns : goal.returns
 returns c =

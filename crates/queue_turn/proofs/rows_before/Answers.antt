@@ -18,12 +18,12 @@ returns c =
     ap (behind c.args.count) c.find.ensures
     ∙ before_else c.args.count c.args.creds.now c.args.m.now c.if-m-eq0.false c.requires.1 _
     c.all_zero.ensures c.if-all_zero.false in
-    ap (behind _) (sym c.in-At.is) ∙ found
+    ap (behind _) (sym c.in-Some.is) ∙ found
 
 pub overflow_add-result : goal.overflow_add-result
 overflow_add-result c =
-    let place : c.in-At.i + 1 ≡ rows_ahead (round_of c.args.m.now) (map (take 2) (rows_of (stride Creds) c.args.count c.args.creds.now)) =
-    ap (behind c.args.count) (sym c.in-At.is ∙ c.find.ensures)
+    let place : c.in-Some.i + 1 ≡ rows_ahead (round_of c.args.m.now) (map (take 2) (rows_of (stride Creds) c.args.count c.args.creds.now)) =
+    ap (behind c.args.count) (sym c.in-Some.is ∙ c.find.ensures)
     ∙ before_else c.args.count c.args.creds.now c.args.m.now c.if-m-eq0.false c.requires.1 _ c.all_zero.ensures c.if-all_zero.false in
     omega (arith, place, before_bound c.args.count c.args.creds.now c.args.m.now (round_of c.args.m.now), c.well_formed)
 
