@@ -1,7 +1,7 @@
 -- Bytes that are all 0: their union is 0, and so is each part of them.
 -- Assumes nothing.
 use Rattle.rows.proofs.Prelude.{◌≡◌, refl, sym, ap, ◌∙◌, Bool, true, false, ◌&&◌, and-true, List, [], ◌∷◌, ◌++◌, ℕ, zero, suc, ◌+◌, ◌*◌, ◌/◌, ◌-◌, ◌≤◌, ◌<◌, zero-mul, arith, length, take, drop}
-use Rattle.rows.proofs.Prelude.{take-append-drop, eqb, bit_or, ne_eqb}
+use Rattle.rows.proofs.Prelude.{take-append-drop, eqb, bit_or, ne_eqb, get_or, drop-cons, drop-drop, add-one}
 use Rattle.std.specs.List.{fold, list_all}
 use Rattle.std.specs.Simd.{first_chunks}
 use mathlib.Core.Bool.{and_assoc}
@@ -37,8 +37,17 @@ zeros_blocks n zero b = rw zero-mul
 zeros_blocks n (suc k) b = rw (mul_front k n, take-add n (k * n) b, zeros_append, zeros_blocks n k (drop n b))
 
 -- the first n bytes, and the others
-zeros_part : (n : ℕ) (b : List ℕ) → all_zero b ≡ (all_zero (take n b) && all_zero (drop n b))
-zeros_part n b = ap all_zero (sym (take-append-drop n b)) ∙ zeros_append (take n b) (drop n b)
+-- from a byte on
+pub zeros_from : (b : List ℕ) (i : ℕ) → i < length b → all_zero (drop i b) ≡ (eqb (get_or b i 0) 0 && all_zero (drop (i + 1) b))
+unfolding all_zero
+zeros_from b i h = rw (drop-cons b i 0 h, add-one)
+
+zeros_split : (n : ℕ) (b : List ℕ) → all_zero b ≡ (all_zero (take n b) && all_zero (drop n b))
+zeros_split n b = ap all_zero (sym (take-append-drop n b)) ∙ zeros_append (take n b) (drop n b)
+
+-- n bytes, and those after them
+pub zeros_part : (n i : ℕ) (b : List ℕ) → all_zero (drop i b) ≡ (all_zero (take n (drop i b)) && all_zero (drop (i + n) b))
+zeros_part n i b = rw (← drop-drop n i b) (zeros_split n (drop i b))
 
 twice : (a b c : Bool) → ((a && b) && (b && c)) ≡ (a && (b && c))
 twice true true c = refl
@@ -48,7 +57,7 @@ twice false b c = refl
 -- the first bytes, and those from k on, where m bytes are in both
 zeros_overlap : (k m : ℕ) (b : List ℕ) → (all_zero (take (k + m) b) && all_zero (drop k b)) ≡ all_zero b
 zeros_overlap k m b =
-    rw (take-add k m b, zeros_append, zeros_part k b, zeros_part m (drop k b))
+    rw (take-add k m b, zeros_append, zeros_split k b, zeros_split m (drop k b))
     (twice (all_zero (take k b)) (all_zero (take m (drop k b))) (all_zero (drop m (drop k b))))
 
 -- whole blocks of n bytes, and the last n bytes
