@@ -11,7 +11,7 @@ ghost use Rattle.rules_office.specs.Office.{comma, separated, names, href, choic
 
 use fields::ace;
 use rules::Resource;
-use text::{direct, put};
+use text::put;
 
 // A comma, but not before the first.
 // Rules out: a comma before the first; none before the second.
@@ -21,7 +21,7 @@ pub fn put_comma(out: &mut [u8], at: usize, first: bool) -> usize
     if first {
         at
     } else {
-        direct::put(out, at, b",")
+        put(out, at, b",")
     }
 }
 
@@ -52,9 +52,9 @@ fn put_choice(out: &mut [u8], at: usize, first: bool, key: &[u8], value: &[u8]) 
     ensures { Puts out.old at (comma first ++ (was key ++ (was value ++ ascii "\"}"))) out.new result }
 {
     let p = put_comma(out, at, first);
-    let p = direct::put(out, p, key);
+    let p = put(out, p, key);
     let p = put(out, p, value);
-    direct::put(out, p, b"\"}")
+    put(out, p, b"\"}")
 }
 
 // The wildcards: what may be named after the known resources.
