@@ -18,11 +18,7 @@ use text::put;
 pub fn put_comma(out: &mut [u8], at: usize, first: bool) -> usize
     ensures { Puts out.old at (comma first) out.new result }
 {
-    if first {
-        at
-    } else {
-        put(out, at, b",")
-    }
+    if first { at } else { put(out, at, b",") }
 }
 
 // The name of resource n; a number that is not known has none.
@@ -79,7 +75,7 @@ fn put_wildcards(out: &mut [u8], at: usize, first: bool, row: &[u8]) -> usize
     p
 }
 
-// The numbers of the known resources.
+// The numbers of the known resources. In one table with their names the loop's proof did not close.
 const NUMBERS: [u16; 13] = [0, 1, 2, 3, 4, 8, 9, 10, 11, 12, 13, 14, 16];
 
 // The resources of a row: those that it names, with a comma between them, and then its wildcards.
