@@ -24,7 +24,7 @@ use office_resources::put_comma;
 use rows::Rows;
 use rules::{ACE_ROW, ACE_ROWS, ACES, CRED_ROWS, Head};
 use rules_terminal::QUEUE;
-use text::{direct, put};
+use text::put;
 
 // Bytes that fit every text (`text_short`, rules_office/proofs/Bounds.antt).
 const TEXT_MAX: usize = 13069;
@@ -62,7 +62,7 @@ fn put_entry(out: &mut [u8], at: usize, first: bool, row: &[u8]) -> usize
     ensures { Puts out.old at (cond (seasonal (was row)) [] (comma first ++ row_text (was row))) out.new result }
 {
     if is_seasonal(row) {
-        return direct::put(out, at, b"");
+        return put(out, at, b"");
     }
     let p = put_comma(out, at, first);
     put_row(out, p, row)
