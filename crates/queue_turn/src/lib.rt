@@ -18,11 +18,18 @@ use rows::{Rows, part};
 use rules::{ACE_ROWS, CRED_ROWS, Head};
 use std::iter::once;
 
+// How many rows there are.
+fn row_count(rows: Rows<'_>) -> usize
+    ensures { result ≡ length (listed rows.entry) }
+{
+    rows.iter().count()
+}
+
 // How many credential rows are before the seat that is first in turn.
 fn rows_before(rows: Rows<'_>, last_seat: Option<[u8; 2]>) -> usize
     ensures { result ≡ rows_ahead (round_from last_seat) (map (take 2) (listed rows.entry)) }
 {
-    let all = rows.iter().count();
+    let all = row_count(rows);
     let Some(seat) = last_seat else {
         return all;
     };
