@@ -1,66 +1,100 @@
 -- The bytes of the roles in force, and of those after one is asserted, from each place on.
 -- The row afterwards is its body and these, and zeros after them.
-use Rattle.rows.proofs.Prelude.{◌≡◌, ap, ◌∙◌, true, false, not, ◌&&◌, List, [], ◌∷◌, ◌++◌, append_assoc, append-nil, ℕ, ◌+◌, ◌-◌, ◌≤◌, arith, length, replicate}
-use Rattle.rows.proofs.Prelude.{length-append, not-false, not-true, and_left, and_right, and_false_right, bool_cases}
+use Rattle.rows.proofs.Prelude.{◌≡◌, ap, ◌∙◌, Bool, true, false, cond, List, ◌∷◌, ◌++◌, map, append_assoc, ℕ, ◌+◌, ◌-◌, ◌<◌, ◌≤◌, arith, length, drop, get_or, replicate, sym, length-map, drop_of_length-le, []}
+use Rattle.std.specs.Borrow.{Bor}
+use Rattle.std.proofs.lemmas.List.{at_drop_more}
+use Rattle.rows.proofs.Prelude.{length-append, refl, and-true, not, ◌&&◌, not-true, and_left, and_right, and_false_right, bool_cases}
 use Rattle.text.specs.Buffer.{Puts}
 use Rattle.text.proofs.Buffers.{written_start, puts_then}
 use Rattle.rows.specs.Rows.{Row, rows_of, joined, packed, without}
 use Rattle.rows.proofs.Laws.{drop_replicate}
-use Rattle.rules.specs.Roles.{no_role, free, same_role, body_of, roles_in_force, cred_sound, with_role, both_taken, asserted}
+use Rattle.rules.specs.Roles.{no_role, free, same_role, body_of, roles_of, roles_in_force, cred_sound, with_role, both_taken, asserted}
 use Rattle.rules.specs.Asserted.{role_slot}
+use Rattle.std.specs.List.{list_all}
+use Rattle.rules.proofs.RoleSlots.{both_taken_lem}
 use Rattle.rules.proofs.RoleLaws.{held_parts, body_long, asserted_short}
 use Rattle.rules.specs.Sizes.{cred_body_size, cred_row_size}
 
-module _ (clock : ℕ) (p : Row) where
-  pub one_in_force : free clock p ≡ false → joined (without (free clock) (p ∷ [])) ≡ p
-  unfolding without joined
-  one_in_force e = rw e (append-nil p)
+-- ---- slots, as a walk over them leaves them
 
-  pub one_free : free clock p ≡ true → joined (without (free clock) (p ∷ [])) ≡ []
-  unfolding without joined
-  one_free e = rw e
+abbrev pub Slots : Type 0
+Slots = List (Bor (List ℕ))
 
-  -- the last place, and a new role
-  module _ (new : Row) where
-    pub last_other : (not (free clock p) && not (same_role new p)) ≡ true → joined (with_role new (without (free clock) (p ∷ []))) ≡ p ++ new
-    unfolding without with_role joined
-    last_other h =
-        let e = not-true (free clock p) (and_left (not (free clock p)) (not (same_role new p)) h) in
-        let f = not-true (same_role new p) (and_right (not (free clock p)) (not (same_role new p)) h) in
-        rw (e, f, append-nil new)
+two : (w : Row) (slots : Slots) → map (λ (slot : Bor (List ℕ)). slot.now) slots ≡ roles_of w → length slots ≡ 2
+unfolding rows_of
+two w slots is = sym (length-map slots (λ (slot : Bor (List ℕ)). slot.now)) ∙ ap length is
 
-    pub last_new : (not (free clock p) && not (same_role new p)) ≡ false → joined (with_role new (without (free clock) (p ∷ []))) ≡ new
-    unfolding without with_role joined
-    last_new h =
-        bool_cases (free clock p)
-        (λ e. rw (e, append-nil new))
-        (λ e. let f : same_role new p ≡ true = not-false (same_role new p)
-        (and_false_right (not (free clock p)) (not (same_role new p)) h (ap not e)) in rw (e, f, append-nil new))
+-- the roles in force, and these with a new one
+abbrev pub in_force : ℕ → Slots → List Row
+in_force clock slots = without (free clock) (map (λ (slot : Bor (List ℕ)). slot.now) slots)
 
--- ---- both places of a row, p and q
+-- what is still to be written of the roles with a new one: once it has replaced its equal, the roles alone
+abbrev pub with_new : ℕ → Row → Bool → Slots → List ℕ
+with_new clock new replaced slots = cond replaced (joined (in_force clock slots)) (joined (with_role new (in_force clock slots)))
 
-module _ (clock : ℕ) (w p q : Row) (first : p ≡ role_slot w 0) (second : q ≡ role_slot w 1) where
-  both : roles_in_force clock w ≡ without (free clock) (p ∷ q ∷ [])
-  unfolding roles_in_force rows_of
-  both = rw (first, second)
+pub none_left : (w : Row) (clock : ℕ) (slots : Slots) (i : ℕ) → map (λ (slot : Bor (List ℕ)). slot.now) slots ≡ roles_of w → 2 ≤ i → in_force clock (drop i slots) ≡ []
+unfolding without
+none_left w clock slots i is h = let past : length slots ≤ i = omega (arith, two w slots is) in rw (drop_of_length-le slots past)
 
-  pub joined_both : joined (roles_in_force clock w) ≡ joined (without (free clock) (p ∷ [])) ++ joined (without (free clock) (q ∷ []))
-  unfolding joined without
-  joined_both = rw both (bool_cases (free clock p) (λ e. rw e) (λ e. rw (e, append-nil p)))
+pub new_last : (w : Row) (clock : ℕ) (new : Row) (replaced : Bool) (slots : Slots) (i : ℕ) → map (λ (slot : Bor (List ℕ)). slot.now) slots ≡ roles_of w → 2 ≤ i
+    → replaced ≡ false → with_new clock new replaced (drop i slots) ≡ new ++ []
+unfolding joined with_role
+new_last w clock new replaced slots i is h e = rw e (ap (λ (roles : List Row). joined (with_role new roles)) (none_left w clock slots i is h))
 
-  pub with_free : (new : Row) → free clock p ≡ true → joined (with_role new (roles_in_force clock w)) ≡ joined (with_role new (without (free clock) (q ∷ [])))
+-- a slot has another role in force, and each of them has
+abbrev pub has_other : ℕ → Row → Row → Bool
+has_other clock new slot = not (free clock slot) && not (same_role new slot)
+
+each_read : (test : Row → Bool) (slots : Slots) → list_all (λ (slot : Bor (List ℕ)). test slot.now) slots ≡ list_all test (map (λ (slot : Bor (List ℕ)). slot.now) slots)
+each_read test [] = refl
+each_read test (slot ∷ slots) = ap (λ (rest : Bool). test slot.now && rest) (each_read test slots)
+
+pub both_other : (w : Row) (clock : ℕ) (new : Row) (slots : Slots) → map (λ (slot : Bor (List ℕ)). slot.now) slots ≡ roles_of w
+    → list_all (λ (slot : Bor (List ℕ)). has_other clock new slot.now) slots ≡ both_taken new (roles_in_force clock w)
+unfolding rows_of
+both_other w clock new slots is =
+    each_read (has_other clock new) slots ∙ ap (list_all (has_other clock new)) is
+    ∙ ap (λ (last : Bool). has_other clock new (role_slot w 0) && last) (and-true (has_other clock new (role_slot w 1))) ∙ sym (both_taken_lem clock w new)
+
+module _ (clock : ℕ) (slots : Slots) (i : ℕ) (h : i < 2) (w : Row) (is : map (λ (slot : Bor (List ℕ)). slot.now) slots ≡ roles_of w) (slot : Bor (List ℕ)) where
+  there : i < length slots
+  there = omega (arith, two w slots is)
+
+  abbrev here : Slots → Bor (List ℕ)
+  here all = get_or all i slot
+
+  pub free_passed : free clock (here slots).now ≡ true → in_force clock (drop i slots) ≡ in_force clock (drop (i + 1) slots)
   unfolding without
-  with_free new e = rw (both, e)
+  free_passed e = at_drop_more (in_force clock) slots i slot there ∙ rw e
 
-  pub with_same : (new : Row) → free clock p ≡ false → same_role new p ≡ true
-      → joined (with_role new (roles_in_force clock w)) ≡ new ++ joined (without (free clock) (q ∷ []))
-  unfolding joined without with_role
-  with_same new e f = rw (both, e, f)
+  role_next : free clock (here slots).now ≡ false → in_force clock (drop i slots) ≡ (here slots).now ∷ in_force clock (drop (i + 1) slots)
+  unfolding without
+  role_next e = at_drop_more (in_force clock) slots i slot there ∙ rw e
 
-  pub with_other : (new : Row) → free clock p ≡ false → same_role new p ≡ false
-      → joined (with_role new (roles_in_force clock w)) ≡ p ++ joined (with_role new (without (free clock) (q ∷ [])))
-  unfolding joined without with_role
-  with_other new e f = rw (both, e, f)
+  pub bytes_next : free clock (here slots).now ≡ false
+      → joined (in_force clock (drop i slots)) ≡ (here slots).now ++ joined (in_force clock (drop (i + 1) slots))
+  unfolding joined
+  bytes_next e = ap joined (role_next e)
+
+  module _ (new : Row) (replaced : Bool) where
+    pub with_passed : free clock (here slots).now ≡ true → with_new clock new replaced (drop i slots) ≡ with_new clock new replaced (drop (i + 1) slots)
+    with_passed e = ap (λ (roles : List Row). cond replaced (joined roles) (joined (with_role new roles))) (free_passed e)
+
+    pub with_replaced : free clock (here slots).now ≡ false → (not replaced && same_role new (here slots).now) ≡ true
+        → with_new clock new replaced (drop i slots) ≡ new ++ with_new clock new true (drop (i + 1) slots)
+    unfolding joined with_role
+    with_replaced e f =
+        let first = not-true replaced (and_left (not replaced) (same_role new (here slots).now) f) in
+        let equal = and_right (not replaced) (same_role new (here slots).now) f in
+        rw first (ap (λ (roles : List Row). joined (with_role new roles)) (role_next e) ∙ rw equal)
+
+    pub with_kept : free clock (here slots).now ≡ false → (not replaced && same_role new (here slots).now) ≡ false
+        → with_new clock new replaced (drop i slots) ≡ (here slots).now ++ with_new clock new replaced (drop (i + 1) slots)
+    unfolding joined with_role
+    with_kept e f =
+        bool_cases replaced
+        (λ yes. rw yes (bytes_next e))
+        (λ no. rw no (ap (λ (roles : List Row). joined (with_role new roles)) (role_next e) ∙ rw (and_false_right (not replaced) _ f (ap not no))))
 
 -- ---- the row
 

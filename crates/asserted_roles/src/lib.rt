@@ -2,11 +2,11 @@
 // A row of no bytes has none; every function but the last is total.
 #![tactic(auto)]
 
-ghost use Rattle.std.specs.Prelude.{◌≡◌, true, false, not, ◌&&◌, [], ◌∷◌, length};
+ghost use Rattle.std.specs.Prelude.{◌≡◌, true, false, not, ◌&&◌, map, length};
 ghost use Rattle.rows.specs.Words.{was};
 ghost use Rattle.text.specs.Buffer.{Puts};
-ghost use Rattle.rows.specs.Rows.{joined, without};
-ghost use Rattle.rules.specs.Roles.{no_role, free, same_role, roles_in_force, cred_sound, with_role, both_taken, asserted};
+ghost use Rattle.rows.specs.Rows.{joined};
+ghost use Rattle.rules.specs.Roles.{no_role, free, same_role, roles_of, roles_in_force, cred_sound, with_role, both_taken, asserted};
 
 use fields::asserted::{last, no_role, same_role};
 use fields::cred;
@@ -28,23 +28,19 @@ fn holds_other(clock: u32, new: &[u8], slot: &[u8]) -> bool
     in_force(clock, slot) & !same_role(new, slot)
 }
 
+// The row's slots, in order of arrival.
+fn slots(row: &[u8]) -> [&[u8]; 2]
+    ensures { map (λ slot. slot.now) result ≡ roles_of (was row) }
+{
+    [cred::role_slot(row, 0), cred::role_slot(row, 1)]
+}
+
 // True if both slots of the row have other roles in force.
 // Rules out: an expired role that counts; an equal role that counts.
 pub fn both_taken(clock: u32, new: &[u8], row: &[u8]) -> bool
     ensures { result ≡ both_taken (was new) (roles_in_force clock (was row)) }
 {
-    holds_other(clock, new, cred::role_slot(row, 0))
-        & holds_other(clock, new, cred::role_slot(row, 1))
-}
-
-// Writes the slot's role if it is in force.
-fn put_role(out: &mut [u8], at: usize, clock: u32, slot: &[u8]) -> usize
-    ensures { Puts out.old at (joined (without (free clock) (was slot ∷ []))) out.new result }
-{
-    if in_force(clock, slot) {
-        return put(out, at, slot);
-    }
-    put(out, at, b"")
+    slots(row).iter().all(|slot| holds_other(clock, new, slot))
 }
 
 // Writes the row's roles in force, in order of arrival.
@@ -52,36 +48,33 @@ fn put_role(out: &mut [u8], at: usize, clock: u32, slot: &[u8]) -> usize
 pub fn put_roles(out: &mut [u8], at: usize, clock: u32, row: &[u8]) -> usize
     ensures { Puts out.old at (joined (roles_in_force clock (was row))) out.new result }
 {
-    let p = put_role(out, at, clock, cred::role_slot(row, 0));
-    put_role(out, p, clock, cred::role_slot(row, 1))
-}
-
-// Writes the role of the last slot, if it is in force and another one, and the new role.
-fn put_last(out: &mut [u8], at: usize, clock: u32, new: &[u8], slot: &[u8]) -> usize
-    ensures { Puts out.old at (joined (with_role (was new) (without (free clock) (was slot ∷ [])))) out.new result }
-{
-    if holds_other(clock, new, slot) {
-        let p = put(out, at, slot);
-        return put(out, p, new);
+    let mut p = at;
+    for slot in slots(row) {
+        if in_force(clock, slot) {
+            p = put(out, p, slot);
+        }
     }
-    put(out, at, new)
+    p
 }
 
 // Writes the row's roles in force with the new one: it replaces its equal, or comes last.
 fn put_with(out: &mut [u8], at: usize, clock: u32, new: &[u8], row: &[u8]) -> usize
     ensures { Puts out.old at (joined (with_role (was new) (roles_in_force clock (was row)))) out.new result }
 {
-    let first = cred::role_slot(row, 0);
-    let second = cred::role_slot(row, 1);
-    if !in_force(clock, first) {
-        return put_last(out, at, clock, new, second);
+    let mut p = at;
+    let mut replaced = false;
+    for slot in slots(row) {
+        if !in_force(clock, slot) {
+            continue;
+        }
+        if !replaced & same_role(new, slot) {
+            p = put(out, p, new);
+            replaced = true;
+        } else {
+            p = put(out, p, slot);
+        }
     }
-    if same_role(new, first) {
-        let p = put(out, at, new);
-        return put_role(out, p, clock, second);
-    }
-    let p = put(out, at, first);
-    put_last(out, p, clock, new, second)
+    if replaced { p } else { put(out, p, new) }
 }
 
 // The credential row after the role is asserted.

@@ -1,14 +1,15 @@
 -- The bytes of the rows that a table holds: of access rows the first bytes of the table, of credential rows their bodies.
-use Rattle.rows.proofs.Prelude.{◌≡◌, refl, sym, ap, ◌∙◌, List, [], ◌++◌, map, ℕ, zero, suc, ◌+◌, ◌-◌, ◌*◌, ◌≤◌, ◌<◌, min, arith, length, take, drop, take-take}
-use Rattle.rows.proofs.Prelude.{length-append, length-drop, length-take-le}
+use Rattle.rows.proofs.Prelude.{◌≡◌, refl, sym, ap, ◌∙◌, List, ◌∷◌, ◌++◌, map, ℕ, ◌+◌, ◌*◌, ◌≤◌, min, arith, length, length-map, take}
 use Rattle.text.specs.Buffer.{largest, Puts}
 use Rattle.text.proofs.Buffers.{puts_beyond}
-use Rattle.rows.specs.Rows.{rows_of, joined}
-use Rattle.rows.proofs.Laws.{joined_rows_of, take_rest}
+use Rattle.rows.specs.Rows.{Row, joined}
+use Rattle.rows.proofs.Laws.{joined_rows_of, length_rows_of}
+use Rattle.rows.proofs.Kept.{AllLong, long_rows_of, length_joined}
 use Rattle.rules.specs.declared.Table.TheVariants.{Creds, Aces}
-use Rattle.rules.specs.Tables.{rows_in}
+use Rattle.rules.specs.Tables.{rows_in, table_size}
 use Rattle.rules.specs.Roles.{body_of}
 use Rattle.rules.specs.Sizes.{ace_row_size, cred_body_size, cred_row_size}
+use Rattle.rules.proofs.ReadBack.{bodies_long}
 
 -- ---- access rows
 
@@ -17,35 +18,26 @@ pub row_part : (n m : ℕ) (b p : List ℕ) → m ≡ min n 32 → p ≡ take (m
 unfolding rows_in
 row_part n m b p e f = rw (f, e) (sym (joined_rows_of ace_row_size (min n 32) b))
 
--- ---- the bodies of that many credential rows
+-- ---- credential rows, each of its length
 
-abbrev pub bodies : ℕ → List ℕ → List ℕ
-bodies n b = joined (map body_of (rows_of cred_row_size n b))
-
-pub bodies_held : (n m : ℕ) (b : List ℕ) → m ≡ min n 24 → bodies m b ≡ joined (map body_of (rows_in Creds n b))
+pub rows_long : (n : ℕ) (b : List ℕ) → length b ≡ table_size Creds → AllLong cred_row_size (rows_in Creds n b)
 unfolding rows_in
-bodies_held n m b e = ap (λ (i : ℕ). bodies i b) e
+rows_long n b l = long_rows_of cred_row_size (min n 24) b (omega (arith, l))
 
-one_more : (n : ℕ) (b : List ℕ) → bodies (suc n) b ≡ take cred_body_size b ++ bodies n (drop cred_row_size b)
-unfolding rows_of joined
-one_more n b = ap (λ (l : List ℕ). l ++ bodies n (drop cred_row_size b)) (take-take cred_body_size cred_row_size b (omega arith))
+-- of a walk over them: the next one, and the others
+pub row_next : {w : Row} {rows all : List Row} → AllLong cred_row_size all → all ≡ w ∷ rows → (length w ≡ cred_row_size) × AllLong cred_row_size rows
+row_next a e = rw e at a
 
--- the first, and those after it
-pub bodies_take : (n : ℕ) (b : List ℕ) → 0 < n → bodies n b ≡ take cred_body_size b ++ bodies (n - 1) (take (length b - cred_row_size) (drop cred_row_size b))
-bodies_take n b h =
-    let e : n ≡ suc (n - 1) = omega arith in
-    ap (λ (k : ℕ). bodies k b) e ∙ one_more (n - 1) b ∙ ap (λ (l : List ℕ). take cred_body_size b ++ bodies (n - 1) l) (sym (take_rest cred_row_size b))
+pub body_next : {w body : Row} {rows all : List Row} → all ≡ w ∷ rows → body ≡ body_of w → joined (map body_of all) ≡ body ++ joined (map body_of rows)
+unfolding joined
+body_next e f = rw (e, f)
 
-pub bodies_end : (n : ℕ) (b : List ℕ) → n ≤ 0 → bodies n b ≡ []
-unfolding rows_of joined
-bodies_end n b h = let e : n ≡ 0 = omega arith in ap (λ (k : ℕ). bodies k b) e
-
--- that many bytes, where the rows are there
-pub bodies_long : (n : ℕ) (b : List ℕ) → n * cred_row_size ≤ length b → length (bodies n b) ≡ n * cred_body_size
-unfolding rows_of joined
-bodies_long zero b h = omega arith
-bodies_long (suc n) b h =
-    rw (one_more n b, length-append, length-take-le cred_body_size b (omega arith), bodies_long n (drop cred_row_size b) (rw length-drop (omega arith))) (omega arith)
+-- as many bytes as the bodies are
+pub bodies_counted : (n : ℕ) (b : List ℕ) → length b ≡ table_size Creds → length (joined (map body_of (rows_in Creds n b))) ≡ min n 24 * cred_body_size
+unfolding rows_in
+bodies_counted n b l =
+    length_joined cred_body_size (map body_of (rows_in Creds n b)) (bodies_long (rows_in Creds n b) (rows_long n b l))
+    ∙ ap (λ (k : ℕ). k * cred_body_size) (length-map (rows_in Creds n b) body_of ∙ length_rows_of cred_row_size (min n 24) b)
 
 -- past a buffer's end texts of one length are put alike: none is written
 pub counted : {o s t o' : List ℕ} {at r : ℕ} → length o ≤ at → length s ≡ length t → Puts o at s o' r → Puts o at t o' r

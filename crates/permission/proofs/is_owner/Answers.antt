@@ -5,4 +5,4 @@ use Rattle.permission.proofs.is_owner.Goals as goal
 
 pub returns : goal.returns
 unfolding is_owner row_owner
-returns c = rw (c.row_names-row.ensures, c.part.ensures, c.row_names-device.ensures)
+returns c = rw (c.row_names-row.ensures, c.part.ensures, c.row_names-device.ensures, c.is_empty.ensures)

@@ -6,6 +6,6 @@ pub returns-then-e-connection : goal.returns-then-e-connection
 unfolding by_roles
 returns-then-e-connection c = rw c.if-e-connection.true
 
-pub returns : goal.returns
+pub returns-else-e-connection : goal.returns-else-e-connection
 unfolding by_roles
-returns c = rw c.if-e-connection.false
+returns-else-e-connection c = rw c.if-e-connection.false

@@ -1,25 +1,16 @@
--- `rows_grant`: by the law of a loop that unites what each row gives.
-use Rattle.rows.proofs.Prelude.{refl, sym, length-take-le}
-use Rattle.rows.proofs.Laws.{a_row}
-use Rattle.rows.proofs.Union.{union_turn, union_end}
-use Rattle.rules.specs.Sizes.{ace_row_size}
+-- `rows_grant`: the fold over the rows is their union.
+use Rattle.rows.proofs.Prelude.{◌∙◌, ℕ, bit_or, rules}
+use Rattle.std.proofs.lemmas.Iterator.Consumers.{YieldsList-from_first, fold_from_yields_List}
+use Rattle.rows.specs.Rows.{Row}
+use Rattle.rows.specs.Listed.{listed, left}
+use Rattle.rules.specs.Permission.{grants}
+use Rattle.permission.proofs.LinksUnion.{union_folded}
 use Rattle.permission.proofs.rows_grant.Goals as goal
 
-pub loop-left-init : goal.loop-left-init
-loop-left-init c = record { fits = c.requires; union = refl }
-
-pub slice_bounds-row_grants-end : goal.slice_bounds-row_grants-end
-slice_bounds-row_grants-end c = sym (length-take-le ace_row_size c.loop-left.rest.now (a_row ace_row_size _ c.loop-left.rest.now c.loop-left-test.true c.loop-left.invariant.fits))
-
-pub slice_bounds-rest-count : goal.slice_bounds-rest-count
-slice_bounds-rest-count c = (a_row ace_row_size _ c.loop-left.rest.now c.loop-left-test.true c.loop-left.invariant.fits)
-
-pub slice_bounds-rest-start : goal.slice_bounds-rest-start
-slice_bounds-rest-start c = (a_row ace_row_size _ c.loop-left.rest.now c.loop-left-test.true c.loop-left.invariant.fits)
-
-pub loop-left-preserved : goal.loop-left-preserved
-loop-left-preserved c =
-    union_turn _ _ _ _ _ _ _ c.loop-left.invariant c.loop-left-test.true _ c.row_grants-total.ensures
-
 pub returns : goal.returns
-returns c = union_end _ _ _ _ _ _ _ c.loop-left.invariant c.loop-left-test.false
+returns c =
+    let gives = grants c.args.asker.clock c.args.asker.cred.now c.args.asker.connection c.args.e in
+    let rows = listed c.args.rows in
+    fold_from_yields_List _ (λ (total : ℕ) (row : Row). bit_or total (gives row)) 0 c.fold.result c.fold.ensures.ran
+    (YieldsList-from_first (λ r. r.now) left rows c.iter.ensures) (λ a x b q k. search rules)
+    ∙ union_folded gives 0 rows

@@ -16,4 +16,5 @@ returns c =
       c.authority.ensures,
       c.role-2.ensures,
       c.role.ensures,
+      c.is_empty.ensures,
     )

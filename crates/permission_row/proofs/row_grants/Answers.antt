@@ -12,6 +12,6 @@ pub returns-then-row_fits : goal.returns-then-row_fits
 unfolding grants
 returns-then-row_fits c = rw (sym c.row_fits.ensures ∙ c.if-row_fits.true) c.permission.ensures
 
-pub returns : goal.returns
+pub returns-else-row_fits : goal.returns-else-row_fits
 unfolding grants
-returns c = rw (sym c.row_fits.ensures ∙ c.if-row_fits.false)
+returns-else-row_fits c = rw (sym c.row_fits.ensures ∙ c.if-row_fits.false)

@@ -1,21 +1,20 @@
 -- `subject_fits`: the match on the kind is the definition's lookup, an arm for each entry and the last for none.
-use Rattle.rows.proofs.Prelude.{sym, ◌∙◌, rules}
 use Rattle.rules.specs.Permission.{subject_is, subject_fits}
 use Rattle.permission_row.proofs.subject_fits.Goals as goal
 
-pub returns-in-0 : goal.returns-in-0
+pub returns-in-Uuid : goal.returns-in-Uuid
 unfolding subject_fits subject_is
-returns-in-0 c =
-    rw (sym c.kind-kind.ensures ∙ c.in-0.is, c.same_uuid.ensures, c.subject-in-0.ensures, c.subject.ensures)
+returns-in-Uuid c =
+    rw (← c.in-Uuid.ensures, c.same_uuid.ensures, c.subject-in-Uuid.ensures, c.subject.ensures, c.is_empty.ensures)
 
-pub returns-in-1 : goal.returns-in-1
+pub returns-in-Role : goal.returns-in-Role
 unfolding subject_fits subject_is
-returns-in-1 c = rw (sym c.kind-kind.ensures ∙ c.in-1.is, c.role_fits.ensures)
+returns-in-Role c = rw (← c.in-Role.ensures, c.role_fits.ensures)
 
-pub returns-in-2 : goal.returns-in-2
+pub returns-in-Connection : goal.returns-in-Connection
 unfolding subject_fits subject_is
-returns-in-2 c = rw (sym c.kind-kind.ensures ∙ c.in-2.is, c.connection.ensures)
+returns-in-Connection c = rw (← c.in-Connection.ensures, c.connection.ensures)
 
-pub returns-in_default : goal.returns-in_default
+pub returns-in-Other : goal.returns-in-Other
 unfolding subject_fits subject_is
-returns-in_default c = rw (← c.kind-kind.ensures) (search rules)
+returns-in-Other c = rw (← c.in-Other.ensures)

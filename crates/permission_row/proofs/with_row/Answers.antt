@@ -8,5 +8,5 @@ use Rattle.permission_row.proofs.with_row.Goals as goal
 pub returns-then-resource_fits : goal.returns-then-resource_fits
 returns-then-resource_fits c = rw ((sym (c.resource_fits.ensures ∙ ap (λ (e : Resource). resource_fits e c.args.ace.now) c.resource_row.ensures)) ∙ c.if-resource_fits.true)
 
-pub returns : goal.returns
-returns c = kept _ _ _ ((sym (c.resource_fits.ensures ∙ ap (λ (e : Resource). resource_fits e c.args.ace.now) c.resource_row.ensures)) ∙ c.if-resource_fits.false)
+pub returns-else-resource_fits : goal.returns-else-resource_fits
+returns-else-resource_fits c = kept _ _ _ ((sym (c.resource_fits.ensures ∙ ap (λ (e : Resource). resource_fits e c.args.ace.now) c.resource_row.ensures)) ∙ c.if-resource_fits.false)

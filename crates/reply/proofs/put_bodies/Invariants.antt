@@ -1,12 +1,16 @@
 -- `put_bodies`: the bodies of the rows that are left are still to be put.
-use Rattle.rows.proofs.Prelude.{◌*◌, ◌≤◌, length}
+use Rattle.rows.proofs.Prelude.{map}
+use Rattle.rows.specs.Rows.{joined}
+use Rattle.rows.specs.Listed.{left}
+use Rattle.rows.proofs.Kept.{AllLong}
 use Rattle.text.proofs.Buffers.{Writing}
-use Rattle.reply.proofs.RowBytes.{bodies}
-use Rattle.reply.proofs.put_bodies.Given as goal
+use Rattle.rules.specs.declared.Table.TheVariants.{Creds}
+use Rattle.rules.specs.Tables.{rows_in}
+use Rattle.rules.specs.Roles.{body_of}
 use Rattle.rules.specs.Sizes.{cred_row_size}
+use Rattle.reply.proofs.put_bodies.Given as goal
 
-abbrev pub invariant-loop-left : goal.invariant-loop-left
-invariant-loop-left l = (l.left * cred_row_size ≤ length l.rest) × Writing l.initial.out l.at (bodies l.count l.creds) (bodies l.left l.rest) l.out l.p
-
-abbrev pub decreases-loop-left : goal.decreases-loop-left
-decreases-loop-left l = l.left
+abbrev pub invariant-loop-row : goal.invariant-loop-row
+invariant-loop-row l =
+    AllLong cred_row_size (left l.row-iterator)
+    × Writing l.initial.out l.at (joined (map body_of (rows_in Creds l.count l.creds))) (joined (map body_of (left l.row-iterator))) l.out l.p

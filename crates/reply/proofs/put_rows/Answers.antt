@@ -1,25 +1,17 @@
 -- `put_rows`: the bodies of credential rows, the first bytes of the access rows, or the roles in force.
-use Rattle.rows.proofs.Prelude.{◌≡◌, arith, length, rules, ne_eqb}
-use Rattle.reply.proofs.RowBytes.{row_part, bodies_held}
+use Rattle.rows.proofs.Prelude.{arith, ne_eqb}
+use Rattle.reply.proofs.RowBytes.{row_part}
 use Rattle.rules.specs.Reading.{row_bytes}
-use Rattle.rules.specs.declared.Table.TheVariants.{Creds}
-use Rattle.rules.specs.Tables.{table_size}
 use Rattle.reply.proofs.put_rows.Goals as goal
-
-pub put_creds-requires : goal.put_creds-requires
-put_creds-requires c =
-    let l : length c.args.creds.now ≡ table_size Creds = search rules in
-    omega (arith, c.capped-n.ensures)
 
 pub returns-in-2 : goal.returns-in-2
 unfolding row_bytes
-returns-in-2 c =
-    rw (c.in-2.is, ← bodies_held _ _ _ c.capped-n.ensures) c.put_creds.ensures
+returns-in-2 c = rw c.in-2.is c.put_creds.ensures
 
 pub returns-in-3 : goal.returns-in-3
 unfolding row_bytes
 returns-in-3 c =
-    rw (c.in-3.is, ← row_part _ _ _ _ c.capped-n-in-3.ensures c.part.ensures) c.put.ensures
+    rw (c.in-3.is, ← row_part _ _ _ _ c.capped-n.ensures c.part.ensures) c.put.ensures
 
 pub returns-in-4 : goal.returns-in-4
 unfolding row_bytes

@@ -5,4 +5,4 @@ use Rattle.rules.proofs.Tables.empty.Goals as goal
 
 pub returns : goal.returns
 unfolding empty nil
-returns c = rw c.empty-h.ensures
+returns c = rw (c.from_parts.ensures, c.empty.ensures)

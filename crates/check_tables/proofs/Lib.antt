@@ -1,0 +1,2 @@
+-- Laws for the proofs of `check_tables`.
+pub mod CutShort
