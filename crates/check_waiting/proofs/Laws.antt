@@ -6,7 +6,7 @@ use Rattle.rows.proofs.Prelude.{take-append-drop, cond, eqb-false}
 use mathlib.Core.Bool.{and_assoc}
 use native.Mathlib.Numerals.{add-four}
 use Rattle.rows.specs.Rows.{Row, same, has_key, all_zero, every, some, distinct_numbers, rows_of}
-use Rattle.rows.proofs.Zeros.{zeros_part}
+use Rattle.rows.proofs.AllZero.{zeros_part}
 use Rattle.rows.proofs.Laws.{take_rest, some_append, from_row, is_some, some_index}
 use Rattle.std.specs.Prelude.{Option, Some, None}
 use Rattle.rows.specs.Promises.{index_from}
