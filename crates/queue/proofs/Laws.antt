@@ -1,46 +1,43 @@
 -- Laws of the memory as it is changed: a slot made, the slots between, the head and the round.
-use Rattle.rows.proofs.Prelude.{◌≡◌, refl, sym, ap, ap₂, ◌∙◌, Bool, true, false, not, ◌||◌, List, [], ◌∷◌, ◌++◌, map, append_assoc, append-nil, ℕ, ◌+◌, ◌-◌}
-use Rattle.rows.proofs.Prelude.{◌*◌, ◌/◌, ◌%◌, ◌≤◌, ◌<◌, min, min-eq_left, zero-mul, arith, length, take, drop, get_or, set, replicate, drop-cons, take_all}
-use Rattle.rows.proofs.Prelude.{get_or-drop, drop_of_length-le, length-append, length-drop, drop_at, length-take-le, take-take, cond_cases, bool_cases}
+use Rattle.rows.proofs.Prelude.{◌≡◌, refl, sym, ap, ap₂, ◌∙◌, Bool, true, false, not, ◌&&◌, ◌||◌, cond, List, [], ◌∷◌, ◌++◌, map, ℕ, ◌+◌, ◌-◌}
+use Rattle.rows.proofs.Prelude.{◌*◌, ◌/◌, ◌%◌, ◌≤◌, ◌<◌, min-eq_left, arith, length, take, drop, get_or, set, replicate, drop-cons, take_all}
+use Rattle.rows.proofs.Prelude.{get_or-drop, length-append, length-drop, drop_at, length-take-le, cond_cases, bool_cases}
 use Rattle.rows.proofs.Prelude.{contradiction}
-use lib.ListN.{replicate-append-replicate}
-use Rattle.std.specs.Prelude.{Option}
-use Rattle.rows.specs.Rows.{Row, rows_of, packed, joined, all_zero, same, has_key, some, numbered_as, stored, without, with_row}
+use borrow.Rule.Slice.PartMut.{put_mid}
+use Rattle.std.specs.Int.{w16, to_be_bytes}
+use Rattle.std.specs.Prelude.{Option, Some, None, MatchOption}
+use Rattle.std.specs.Bool.{then_some}
+use Rattle.rows.specs.Rows.{Row, rows_of, packed, all_zero, same, has_key, some, numbered_as, stored, without}
 use Rattle.rows.specs.Promises.{index_of, IsTable}
-use Rattle.rows.proofs.Laws.{length_rows_of, drop_replicate, take_rest, lent_rest, some_index, is_some, zeros_replicate, packed_is, joined_rows_of}
-use Rattle.rows.proofs.Kept.{long_rows_of, rows_of_joined, same_true, same_refl, same_sym, length_without, length_stored}
+use Rattle.rows.proofs.Laws.{length_rows_of, drop_replicate, take_rest, lent_rest, some_index, is_some, zeros_replicate}
+use Rattle.rows.proofs.Kept.{same_true, same_refl, same_sym, length_without, length_stored}
 use Rattle.rules.specs.Bits.{be16}
 use Rattle.rules.specs.declared.Table.TheVariants.{Creds}
-use Rattle.rules.specs.Tables.{stride, capacity, rows_in}
+use Rattle.rules.specs.Tables.{rows_in}
 use Rattle.rules.proofs.BitLaws.{word_is}
-use Rattle.rules_terminal.specs.Slots.{Seat, Round, after_seat, seat_of, padded, slot_of, round_bytes, round_of, waiting, queue_of, queue_size, slot_size}
-use Rattle.rules_terminal.specs.Round.{nobody, seats_in, is_seat, orphaned}
+use Rattle.rules_terminal.specs.Slots.{Seat, Round, after_seat, seat_of, padded, slot_of, anew, round_bytes, round_of, waiting, queue_of, queue_size, slot_size}
+use Rattle.rules_terminal.specs.Round.{nobody, seats_in, is_seat, orphaned, valid_round}
 use Rattle.rules_terminal.specs.Terminal.{with_record}
 use Rattle.queue.specs.Queue.{IsQueue}
+use Rattle.queue.specs.Viewed.{round_from}
 
 -- ---- a slot
 
--- as the code fills it
-pub slot_is : (r last : List ℕ) → get_or r 2 0 < 256 → get_or r 3 0 < 256 → last ≡ with_row (length r) 0 r (replicate 256 0)
-    → get_or r 2 0 ∷ get_or r 3 0 ∷ length r / 256 ∷ length r % 256 ∷ (last ++ []) ≡ slot_of r
-unfolding slot_of seat_of padded be16 with_row
-slot_is r last a b e =
-    ap (λ (l : List ℕ). get_or r 2 0 ∷ get_or r 3 0 ∷ length r / 256 ∷ length r % 256 ∷ l) (append-nil last ∙ e ∙ rw (zero-mul, drop_replicate (length r) 256 0))
-    ∙ ap (λ (l : List ℕ). l ++ (be16 (length r) ++ (r ++ replicate (256 - length r) 0))) (sym (word_is r 2 a b))
+-- as the code fills it: four bytes, and then the record, over zeros
+pub slot_is : (r size head last : List ℕ) → get_or r 2 0 < 256 → get_or r 3 0 < 256 → length r ≤ 256 → size ≡ to_be_bytes w16 (length r)
+    → head ≡ get_or r 2 0 ∷ get_or r 3 0 ∷ get_or size 0 0 ∷ get_or size 1 0 ∷ [] → last ≡ r
+    → put_mid 4 (4 + length r - 4) (head ++ replicate 256 0) last ≡ slot_of r
+unfolding slot_of seat_of padded be16
+slot_is r size head last a b few s h e =
+    let high : length r / 256 % 256 ≡ length r / 256 = omega arith in
+    let long : 4 + length r - 4 ≡ length r = omega arith in
+    rw (h, s, e, high, long, drop_replicate (length r) 256 0)
+    (ap (λ (l : List ℕ). l ++ (be16 (length r) ++ (r ++ replicate (256 - length r) 0))) (sym (word_is r 2 a b)))
 
 -- ---- the head
 
 pub two_of : (b : List ℕ) → 2 ≤ length b → get_or b 0 0 ∷ get_or b 1 0 ∷ [] ≡ take 2 b
 two_of b h = rw (drop-cons b 0 0 (omega arith), drop-cons b 1 0 (omega arith))
-
-three_of : (b : List ℕ) → 3 ≤ length b → get_or b 0 0 ∷ get_or b 1 0 ∷ get_or b 2 0 ∷ [] ≡ take 3 b
-three_of b h = rw (drop-cons b 0 0 (omega arith), drop-cons b 1 0 (omega arith), drop-cons b 2 0 (omega arith))
-
-pub head_set : (m : List ℕ) (n : ℕ) (r : List ℕ) → 4 ≤ length m → length r ≡ 3
-    → set (set (set (set m 0 n) 1 (get_or r 0 0)) 2 (get_or r 1 0)) 3 (get_or r 2 0) ≡ n ∷ (r ++ drop 4 m)
-head_set m n r h t =
-    rw (drop-cons m 0 0 (omega arith), drop-cons m 1 0 (omega arith), drop-cons m 2 0 (omega arith), drop-cons m 3 0 (omega arith))
-    (ap (λ (l : List ℕ). n ∷ (l ++ drop 4 m)) (three_of r (omega arith) ∙ take_all 3 r (omega arith)))
 
 -- ---- the slots
 
@@ -111,37 +108,6 @@ module _ (m r s : List ℕ) (q : IsQueue m) (free : get_or m 0 0 < 25) (made : s
   unfolding with_record
   kept_is left last n b = counted_anew m q rows left last n b ∙ ap₂ (λ (w : Row) (ws : List Row). queue_of (round_of m) (stored w ws)) made (slots_rows m q)
 
--- ---- rows taken out of the part that is used
-
-module _ (s n : ℕ) (b : List ℕ) (t : IsTable s n b) where
-  pub used_long : length (take (n * s) b) ≡ n * s
-  used_long = length-take-le (n * s) b t.fits
-
-  pub used_rows : rows_of s n (take (n * s) b) ≡ rows_of s n b
-  used_rows =
-      let ws = rows_of s n b in
-      ap (rows_of s n) (sym (joined_rows_of s n b) ∙ sym (append-nil (joined ws)))
-      ∙ ap (λ (k : ℕ). rows_of s k (joined ws ++ [])) (sym (length_rows_of s n b))
-      ∙ rows_of_joined s ws [] (long_rows_of s n b t.fits)
-
-  pub used_table : IsTable s n (take (n * s) b)
-  unfolding all_zero
-  used_table =
-      let few : length (take (n * s) b) ≤ n * s = omega (arith, used_long) in
-      record { numbered = t.numbered; fits = rw used_long (omega arith); zeros = ap all_zero (drop_of_length-le (take (n * s) b) few) }
-
-  -- what is left of them, with the zeros after
-  pub used_packed : (ws : List Row) (last : List ℕ) → last ≡ packed (length (take (n * s) b)) ws → length last ≡ length (take (n * s) b)
-      → last ++ drop (n * s) b ≡ packed (length b) ws
-  unfolding packed
-  used_packed ws last e l =
-      let free = length (take (n * s) b) - length (joined ws) in
-      packed_is (length b) (free + length (drop (n * s) b)) (last ++ drop (n * s) b) ws
-      (ap₂ (λ (x y : List ℕ). x ++ y) e (zeros_replicate (drop (n * s) b) t.zeros)
-      ∙ append_assoc (joined ws) (replicate free 0) (replicate (length (drop (n * s) b)) 0)
-      ∙ ap (λ (x : List ℕ). joined ws ++ x) (replicate-append-replicate free (length (drop (n * s) b)) 0))
-      (length-append last (drop (n * s) b) ∙ omega (arith, l, used_long, length-drop (n * s) b, t.fits))
-
 -- ---- seats
 
 pub zero_seat : (p : Seat) → length p ≡ 2 → (b : Bool) → b ≡ all_zero (drop 0 p) → b ≡ same p nobody
@@ -166,31 +132,35 @@ module _ (count : ℕ) (creds : List ℕ) (p : Seat) (two : length p ≡ 2) (b :
   unfolding is_seat some
   seat_zero e = sym (rw (sym (zero_seat p two b z) ∙ e))
 
-  pub seat_found : b ≡ false → (n : ℕ) → n ≡ min count (capacity Creds) → (at : Option ℕ) → at ≡ index_of (has_key 0 p) (rows_of (stride Creds) n creds)
-      → is_some at ≡ is_seat (seats_in count creds) p
-  unfolding is_seat some rows_in
-  seat_found e n counted at f =
-      ap is_some f ∙ sym (some_index 0 (has_key 0 p) (rows_of (stride Creds) n creds)) ∙ some_key p (rows_of (stride Creds) n creds) two
-      ∙ rw (sym (zero_seat p two b z) ∙ e, counted)
-
--- the seat of slot i
-pub seat_gone : (ps : List Seat) (i : ℕ) (b : List ℕ) (p : Seat) → p ≡ take 2 (drop (i * slot_size) b) → (h : Bool) → h ≡ is_seat ps p
-    → orphaned ps (take slot_size (drop (i * slot_size) b)) ≡ not h
-unfolding orphaned
-seat_gone ps i b p is h e = rw (take-take 2 slot_size (drop (i * slot_size) b) (omega arith), ← is, e)
+  pub seat_found : b ≡ false → (at : Option ℕ) → at ≡ index_of (has_key 0 p) (rows_in Creds count creds) → is_some at ≡ is_seat (seats_in count creds) p
+  unfolding is_seat some
+  seat_found e at f =
+      ap is_some f ∙ sym (some_index 0 (has_key 0 p) (rows_in Creds count creds)) ∙ some_key p (rows_in Creds count creds) two
+      ∙ rw (sym (zero_seat p two b z) ∙ e)
 
 -- ---- the round
 
-module _ (m : List ℕ) (q : IsQueue m) where
-  pub three_bytes : get_or m 1 0 ∷ get_or m 2 0 ∷ get_or m 3 0 ∷ [] ≡ round_bytes (round_of m)
-  three_bytes = let long = q.long in simp get_or-drop at (three_of (drop 1 m) (omega (arith, length-drop 1 m))) ∙ q.round
-
-  pub seat_two : length (take 2 (drop 2 m)) ≡ 2
-  seat_two = length-take-le 2 (drop 2 m) (omega (arith, length-drop 2 m, q.long))
+-- the seat that was taken last
+pub seat_is : (m : List ℕ) → length m ≡ queue_size → get_or m 2 0 ∷ get_or m 3 0 ∷ [] ≡ take 2 (drop 2 m)
+seat_is m long = simp get_or-drop at (two_of (drop 2 m) (omega (arith, long, length-drop 2 m)))
 
 -- a seat's bytes, after 1
-pub round_bytes_lem : (p : Seat) → length p ≡ 2 → 1 ∷ get_or p 0 0 ∷ get_or p 1 0 ∷ [] ≡ round_bytes (after_seat p)
-round_bytes_lem p two = ap (λ (l : List ℕ). 1 ∷ l) (two_of p (omega arith) ∙ take_all 2 p (omega arith))
+pub seat_bytes : (p : Seat) → length p ≡ 2 → 1 ∷ get_or p 0 0 ∷ get_or p 1 0 ∷ [] ≡ round_bytes (after_seat p)
+seat_bytes p two = ap (λ (l : List ℕ). 1 ∷ l) (two_of p (omega arith) ∙ take_all 2 p (omega arith))
+
+-- the round after a test of the seat that was taken last, where there is one
+pub settled_is : (ps : List Seat) (Told : Seat → Bool → Type 0) (held : Bool) → ((p : Seat) (b : Bool) → Told p b → b ≡ (held && is_seat ps p))
+    → (last kept : Option Seat) → MatchOption last (kept ≡ None) (λ p. (b : Bool) × Told p b × (kept ≡ then_some b p))
+    → round_from kept ≡ valid_round ps (cond held (round_from last) anew)
+settled_is ps Told held told None kept h = rw h (bool_cases held (λ e. rw e) (λ e. rw e))
+settled_is ps Told held told (Some p) kept h =
+    rw (h.2, told p h.0 h.1)
+    (bool_cases held (λ e. rw e (bool_cases (is_seat ps p) (λ f. rw f) (λ f. rw f))) (λ e. rw e))
+
+-- a slot stays whose seat is one of these
+pub stays_is : (ps : List Seat) (slot : Row) (b : Bool) → b ≡ is_seat ps (take 2 slot) → b ≡ not (orphaned ps slot)
+unfolding orphaned
+stays_is ps slot b e = e ∙ bool_cases (is_seat ps (take 2 slot)) (λ f. rw f) (λ f. rw f)
 
 -- slots without some are few
 pub few_left : (m : List ℕ) (q : IsQueue m) (p : Row → Bool) (n : ℕ) → n ≡ length (without p (rows_of slot_size (get_or m 0 0) (slots_of m))) → n ≤ 25

@@ -1,2 +1,3 @@
--- What the contracts of `queue` ask of the queue's bytes.
+-- What the contracts of `queue` ask of the queue's bytes, and what its view reads.
 pub mod Queue
+pub mod Viewed

@@ -1,2 +1,2 @@
--- The law of a loop that takes rows out.
-pub mod Going
+-- The law of a loop that keeps rows.
+pub mod Staying

@@ -2,12 +2,13 @@
 // Nothing here knows a table's stride or size; every byte afterwards is given.
 #![tactic(auto)]
 
-ghost use Rattle.std.specs.Prelude.{◌≡◌, ◌++◌, ◌+◌, ◌*◌, ◌≤◌, length, drop, replicate};
+ghost use Rattle.std.specs.Prelude.{◌≡◌, Bool, ◌++◌, ◌+◌, ◌*◌, ◌≤◌, length, take, drop, replicate};
 ghost use Rattle.rows.specs.Words.{was};
-ghost use Rattle.rows.specs.Rows.{rows_of, packed, stored, without, with_row, has_key};
+ghost use Rattle.rows.specs.Rows.{Row, rows_of, packed, stored, without, with_row, has_key};
 ghost use Rattle.rows.specs.Promises.{without_row, IsTable};
+ghost use Rattle.rows_change.specs.Tests.{TestsOthers};
 
-use rows::{Rows, row_has};
+use rows::{Rows, has_key};
 
 // Puts `row` over the first bytes of `bytes`.
 fn copy_over(bytes: &mut [u8], row: &[u8])
@@ -88,6 +89,41 @@ pub fn store(rows: &mut [u8], stride: usize, count: usize, row: &[u8]) -> usize
     }
 }
 
+// Copies a row over row `to`, or leaves the row that is there already.
+fn move_row(rows: &mut [u8], stride: usize, from: usize, to: usize)
+    requires { (to ≤ from) × (from * stride + stride ≤ length rows.old) }
+    ensures { rows.new ≡ with_row stride to (take stride (drop (from * stride) rows.old)) rows.old }
+{
+    if to < from {
+        let start = from * stride;
+        rows.copy_within(start..start + stride, to * stride);
+    }
+}
+
+// Keeps the rows that a test lets stay, in their order, and sets the bytes after them to 0. Returns the new count.
+// Rules out: only the first other row taken out; the last row moved into the gap; a byte left after the rows.
+pub fn retain<F: Fn(&[u8]) -> bool>(rows: &mut [u8], stride: usize, count: usize, stays: F) -> usize
+    requires table { IsTable stride count rows.old }
+    requires callable { (row : _) → length row.now ≡ stride → F.pre stays row }
+    ensures { (goes : Row → Bool) → TestsOthers F.Fn stays goes
+        → (result ≡ length (without goes (rows_of stride count rows.old)))
+        × (rows.new ≡ packed (length rows.old) (without goes (rows_of stride count rows.old))) }
+{
+    let mut kept = 0;
+    for i in 0..count {
+        let start = i * stride;
+        let end = start + stride;
+        if stays(&rows[start..end]) {
+            move_row(rows, stride, i, kept);
+            kept += 1;
+        }
+    }
+    let start = kept * stride;
+    let end = count * stride;
+    clear(&mut rows[start..end]);
+    kept
+}
+
 // Removes each row that has the key's bytes from `at` on. Returns the new count.
 // Rules out: only the first match; the last row moved into the gap.
 pub fn remove(rows: &mut [u8], stride: usize, count: usize, at: usize, key: &[u8]) -> usize
@@ -96,15 +132,5 @@ pub fn remove(rows: &mut [u8], stride: usize, count: usize, at: usize, key: &[u8
     ensures rows_value { rows.new
         ≡ packed (length rows.old) (without (has_key at (was key)) (rows_of stride count rows.old)) }
 {
-    let mut n = count;
-    let mut i = 0;
-    while i < n {
-        if row_has(rows, stride, i, at, key) {
-            remove_row(rows, stride, i);
-            n -= 1;
-        } else {
-            i += 1;
-        }
-    }
-    n
+    retain(rows, stride, count, |row| !has_key(row, at, key))
 }
