@@ -23,7 +23,7 @@ fn turned_away(caller: Caller, c: Check) -> Decision
 {
     Decision {
         check: c,
-        caller: caller,
+        caller,
         permission: 0,
         action: Action::Malformed,
         reply: 0,
@@ -32,11 +32,11 @@ fn turned_away(caller: Caller, c: Check) -> Decision
 
 // The decision on a record that passes 2 to 7, by its caller and its body, where the reply buffer has this capacity.
 // Rules out: the body judged before the permission; another clock for the rows; a reply that does not fit permitted.
-pub fn decide_request<'a>(
+pub fn decide_request(
     clock: u32,
     h: Head,
-    creds: &'a [u8; CRED_ROWS],
-    aces: &'a [u8; ACE_ROWS],
+    creds: &[u8; CRED_ROWS],
+    aces: &[u8; ACE_ROWS],
     caller: Caller,
     b: &[u8],
     capacity: usize,
@@ -44,8 +44,7 @@ pub fn decide_request<'a>(
     ensures { result ≡ decided_by clock (before h creds aces) caller (was b) capacity }
 {
     let header = caller.header;
-    let found = caller.row;
-    let cred = row_of(h.ncreds, creds, found);
+    let cred = row_of(h.ncreds, creds, caller.row);
     let permission = effective(clock, h, aces, cred, header);
     let a = action_of(header, b);
     let c = check_request(permission, header, a);
@@ -67,8 +66,8 @@ pub fn decide_request<'a>(
     };
     Decision {
         check: c,
-        caller: caller,
-        permission: permission,
+        caller,
+        permission,
         action: a,
         reply: length,
     }
@@ -76,11 +75,11 @@ pub fn decide_request<'a>(
 
 // The decision on a record.
 // Rules out: a decision that refuses every record with 8; the sender looked up before the header; a refusal with a permission.
-pub fn decide<'a>(
+pub fn decide(
     clock: u32,
     h: Head,
-    creds: &'a [u8; CRED_ROWS],
-    aces: &'a [u8; ACE_ROWS],
+    creds: &[u8; CRED_ROWS],
+    aces: &[u8; ACE_ROWS],
     rec: &[u8],
     capacity: usize,
 ) -> Decision
