@@ -23,7 +23,7 @@ pub use crate::storing::{tillerclover_store_current, tillerclover_store_next};
 use c_memory::{head_at, put_head, words_of};
 use check_waiting::terminal_sound;
 use effect_fresh::defaults::fresh_in;
-use rules::{ACE_ROWS, CRED_ROWS};
+use rules::{ACE_ROWS, CRED_ROWS, DefaultLists, TablesView};
 use rules_terminal::QUEUE;
 
 // Makes a new terminal of a build with these default rows, in memory of any content; nothing waits.
@@ -40,7 +40,11 @@ pub fn tillerclover_fresh_at(
 )
     ensures { FreshAt (defaults (was default_creds) (was default_aces)) (memory_in counts.new devowner.new rowners.new creds.new aces.new queue.new) }
 {
-    let h = fresh_in(creds, aces, default_creds, default_aces);
+    let lists = DefaultLists {
+        creds: default_creds,
+        aces: default_aces,
+    };
+    let h = fresh_in(creds, aces, lists);
     put_head(h, counts, devowner, rowners);
     queue::clear(queue);
 }
@@ -84,12 +88,9 @@ pub fn tillerclover_is_sound_at<'a>(
 ) -> u64
     ensures { IsSoundAt (memory_before counts devowner rowners creds aces queue) result }
 {
-    let h = head_at(counts, devowner, rowners);
-    if terminal_sound(h, creds, aces, queue) {
-        1
-    } else {
-        0
-    }
+    let head = head_at(counts, devowner, rowners);
+    let tables = TablesView { head, creds, aces };
+    u64::from(terminal_sound(tables, queue))
 }
 
 // Judges a record at once.
@@ -143,8 +144,9 @@ pub fn tillerclover_hand_in_at<'a>(
 )
     ensures { HandsInAt (memory_in (was counts) (was devowner) (was rowners) (was creds) (was aces) queue.old) (was rec) words.new queue.new }
 {
-    let h = head_at(counts, devowner, rowners);
-    let kept = hand_in::hand_in(h, creds, aces, queue, rec);
+    let head = head_at(counts, devowner, rowners);
+    let tables = TablesView { head, creds, aces };
+    let kept = hand_in::hand_in(tables, queue, rec);
     *words = words_of(kept);
 }
 

@@ -6,7 +6,7 @@ ghost use Rattle.rules_interface.specs.Memory.{memory_before};
 ghost use Rattle.rules_interface.specs.Interface.{ListsAt, TestsAt, ConvertsAt};
 
 use c_memory::head_at;
-use rules::{ACE_ROWS, CRED_ROWS};
+use rules::{ACE_ROWS, CRED_ROWS, TablesView};
 use rules_lists::Tested;
 use rules_terminal::QUEUE;
 
@@ -34,8 +34,9 @@ pub fn tillerclover_access_list_at<'a>(
 )
     ensures { ListsAt (memory_before counts devowner rowners creds aces queue) words.new text.old text.new }
 {
-    let h = head_at(counts, devowner, rowners);
-    *words = two_words(office_list::access_list(h, creds, aces, queue, text));
+    let head = head_at(counts, devowner, rowners);
+    let tables = TablesView { head, creds, aces };
+    *words = two_words(office_list::access_list(tables, queue, text));
 }
 
 // Tests a list of access rows that the provisioning program writes.
