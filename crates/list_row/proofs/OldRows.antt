@@ -5,7 +5,8 @@ use mathlib.Core.Bool.{not-not}
 use Rattle.std.specs.Int.{w16, to_be_bytes}
 use Rattle.text.specs.Buffer.{written, largest, Puts}
 use Rattle.text.proofs.Buffers.{puts_then, written_start}
-use Rattle.rows.specs.Rows.{Row, joined}
+use Rattle.rows.specs.Rows.{Row, joined, with_row}
+use Rattle.rows.proofs.Laws.{take_rest, lent_rest}
 use Rattle.rules.specs.Bits.{bit, be16}
 use Rattle.rules.specs.Bodies.{set_known, every_second}
 use Rattle.rules.proofs.BitLaws.{bits_in_byte}
@@ -75,12 +76,16 @@ written_at o zero s h = written_start o s (omega arith)
 written_at [] (suc at) s h = absurd (omega arith)
 written_at (b ∷ o) (suc at) s h = ap (λ (l : List ℕ). b ∷ l) (written_at o at s (omega arith))
 
--- the part from `at` on that the row fills comes back as y
-pub row_put : (o : List ℕ) (at : ℕ) (text y : List ℕ) → length o ≤ largest → at + ace_row_size ≤ length o → length text ≡ ace_row_size → y ≡ text
-    → Puts o at text (take at o ++ (y ++ drop (at + ace_row_size - at) (drop at o))) (at + ace_row_size)
-row_put o at text y h fits l e =
-    let k : at + ace_row_size - at ≡ length text = omega arith in
-    record { next = omega arith; buffer = rw (e, k) (sym (written_at o at text (omega arith))) }
+-- the part from `at` on is passed in, and comes back as y
+pub row_put : (o : List ℕ) (at : ℕ) (text made y : List ℕ) → length o ≤ largest → at + ace_row_size ≤ length o → length text ≡ ace_row_size → made ≡ text
+    → y ≡ with_row ace_row_size 0 made (take (length o - at) (drop at o)) → Puts o at text (take at o ++ (y ++ drop (length o - at) (drop at o))) (at + ace_row_size)
+unfolding with_row
+row_put o at text made y h fits l m e = record {
+  next = omega arith;
+  buffer = lent_rest at o y
+      ∙ ap (λ (t : List ℕ). take at o ++ t) (e ∙ rw (m, take_rest))
+      ∙ sym (rw l at (written_at o at text (omega arith)));
+}
 
 -- ---- the rows made of an old row
 
