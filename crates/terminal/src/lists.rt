@@ -12,7 +12,8 @@ use rules_terminal::QUEUE;
 
 // The words of what was written: 0 and its length, or a refusal's number and 0.
 fn two_words<E: Into<u8>>(written: Result<usize, E>) -> [u64; 2]
-    ensures { MatchResult written (λ length. result ≡ 0 ∷ length ∷ []) (λ error. (number : ℕ) × E.converts error number × (result ≡ number ∷ 0 ∷ [])) }
+    ensures { MatchResult written (λ length. result ≡ 0 ∷ length ∷ [])
+        (λ error. (number : ℕ) × E.converts error number × (result ≡ number ∷ 0 ∷ [])) }
 {
     match written {
         Ok(length) => [0, length as u64],
