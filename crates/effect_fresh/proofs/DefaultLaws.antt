@@ -1,21 +1,21 @@
 -- The rows of a build's default list: each is its body and what is after a body, and over a table of zeros they are the table.
 -- Over the table, so that both have one law.
-use Rattle.rows.proofs.Prelude.{◌≡◌, refl, sym, ap, ◌∙◌, true, false, List, [], ◌∷◌, ◌++◌, map, append-nil, ℕ, ◌-◌, ◌*◌, ◌/◌, ◌≤◌, ◌<◌, mul-le-mul_right, arith}
-use Rattle.rows.proofs.Prelude.{length, take, drop, replicate, length-append, length-map, length-replicate, leb-true, and_left}
+use Rattle.rows.proofs.Prelude.{◌≡◌, refl, sym, ap, ◌∙◌, true, false, List, [], ◌∷◌, ◌++◌, map, append-nil, ℕ, ◌-◌, ◌*◌, ◌/◌, ◌≤◌, mul-le-mul_right, arith}
+use Rattle.rows.proofs.Prelude.{length, take, replicate, length-append, length-map, length-replicate, leb-true, and_left}
 use native.Mathlib.Nat.{div-add-mod', sub-zero}
 use Rattle.text.specs.Buffer.{written}
 use Rattle.text.proofs.Buffers.{written_start, written_length}
 use Rattle.rows.specs.Rows.{Row, rows_of, joined, packed}
-use Rattle.rows.proofs.Laws.{length_rows_of, drop_replicate, take_rest, rows_of_suc}
+use Rattle.rows.proofs.Laws.{length_rows_of, drop_replicate}
 use Rattle.rows.proofs.Kept.{AllLong, long_rows_of, length_joined, rows_of_packed}
 use Rattle.rules.specs.declared.Table.{Table}
 use Rattle.rules.specs.declared.Table.TheVariants.{Creds, Aces}
 use Rattle.rules.specs.Tables.{stride, longest, capacity, row_from, table_size}
 use Rattle.rules.specs.Defaults.{listed, good_list, default_rows}
-use Rattle.rules.proofs.BodyLaws.{two_fit}
+use Rattle.rules.proofs.BodyLaws.{two_long}
 
 -- the whole rows of a list lie within it
-rows_within : (k : Table) (n : ℕ) → n / longest k * longest k ≤ n
+pub rows_within : (k : Table) (n : ℕ) → n / longest k * longest k ≤ n
 rows_within k n = omega (arith, div-add-mod' n (longest k))
 
 pub good_few : (k : Table) (b : List ℕ) → good_list k b ≡ true → length b / longest k ≤ 2
@@ -43,20 +43,11 @@ from_long : (k : Table) (b : List ℕ) → length b ≡ longest k → length (ro
 from_long Creds b l = rw (length-append, l)
 from_long Aces b l = l
 
--- ---- that many rows
-
--- each from s bytes
-abbrev pub rows_from : Table → ℕ → ℕ → List ℕ → List ℕ
-rows_from k s n b = joined (map (row_from k) (rows_of s n b))
-
--- the first, and those after it
-pub from_take : (k : Table) (s n : ℕ) (b : List ℕ) → 0 < n → rows_from k s n b ≡ row_from k (take s b) ++ rows_from k s (n - 1) (take (length b - s) (drop s b))
+-- of a walk over bodies, the next row and the others
+pub next_from : (k : Table) {body : List ℕ} {bodies all : List Row} → all ≡ body ∷ bodies
+    → joined (map (row_from k) all) ≡ row_from k body ++ joined (map (row_from k) bodies)
 unfolding joined
-from_take k s n b h = rw (rows_of_suc s n b h, take_rest)
-
-pub from_end : (k : Table) (s n : ℕ) (b : List ℕ) → n ≤ 0 → rows_from k s n b ≡ []
-unfolding rows_of joined
-from_end k s n b h = let e : n ≡ 0 = omega arith in ap (λ (m : ℕ). rows_from k s m b) e
+next_from k e = rw e
 
 -- ---- the rows of a list over a table of zeros
 
@@ -70,9 +61,9 @@ listed_long k b = all_long k (rows_of (longest k) (length b / longest k) b) (lon
 pub listed_count : (k : Table) (b : List ℕ) → length (listed k b) ≡ length b / longest k
 listed_count k b = length-map (rows_of (longest k) (length b / longest k) b) (row_from k) ∙ length_rows_of (longest k) (length b / longest k) b
 
-module _ (k : Table) (b x : List ℕ) (few : length b / longest k ≤ 2) (over : x ≡ written (replicate (table_size k) 0) 0 (joined (listed k b))) where
+module _ (k : Table) (b x : List ℕ) (few : length b / longest k ≤ capacity k) (over : x ≡ written (replicate (table_size k) 0) 0 (joined (listed k b))) where
   pub listed_fits : length b / longest k * stride k ≤ table_size k
-  listed_fits = let h : length b / longest k ≤ capacity k = omega (arith, few, two_fit k) in mul-le-mul_right (stride k) h
+  listed_fits = mul-le-mul_right (stride k) few
 
   short : length (joined (listed k b)) ≤ length (replicate {A = ℕ} (table_size k) 0)
   short = rw (length-replicate, length_joined (stride k) (listed k b) (listed_long k b), listed_count k b) listed_fits
@@ -93,12 +84,21 @@ module _ (k : Table) (b x : List ℕ) (few : length b / longest k ≤ 2) (over :
   pub listed_length : length x ≡ table_size k
   listed_length = rw (over, written_length, length-replicate)
 
+pub many_fit : (k : Table) → 24 ≤ capacity k
+many_fit Creds = omega arith
+many_fit Aces = omega arith
+
+pub two_at_least : (k : Table) → 2 ≤ stride k
+two_at_least k = two_long k
+
+pub ruleset good_steps = (listed_rows, listed_fits, listed_length, many_fit, two_at_least)
+
 -- ---- the default rows of a list, and their table
 
 pub good_table : (k : Table) (b x : List ℕ) → good_list k b ≡ true → x ≡ written (replicate (table_size k) 0) 0 (joined (listed k b))
     → x ≡ packed (table_size k) (default_rows k b)
 unfolding default_rows
-good_table k b x good over = rw good (listed_packed k b x (good_few k b good) over)
+good_table k b x good over = rw good (listed_packed k b x (omega (arith, good_few k b good, many_fit k)) over)
 
 pub good_count : (k : Table) (b : List ℕ) → good_list k b ≡ true → length b / longest k ≡ length (default_rows k b)
 unfolding default_rows
@@ -113,3 +113,5 @@ pub bad_table : (k : Table) (b x : List ℕ) → good_list k b ≡ false → x �
     → x ≡ packed (table_size k) (default_rows k b)
 unfolding packed joined
 bad_table k b x bad zeros = rw (bad_none k b bad, sub-zero) zeros
+
+pub ruleset default_steps = (good_few, good_table, good_count, bad_none, bad_table)

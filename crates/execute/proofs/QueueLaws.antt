@@ -1,33 +1,39 @@
 -- A decision that passes, with the queue: the memory that it leaves.
 -- An application record leaves the tables as they are.
-use Rattle.rows.proofs.Prelude.{◌≡◌, sym, ap, ◌∙◌, Bool, true, false, ◌&&◌, List, eqb, eq-eqb, ne_eqb}
+use Rattle.rows.proofs.Prelude.{◌≡◌, sym, ap, ◌∙◌, Bool, true, false, ◌&&◌, List, ℕ, eqb, eq-eqb, ne_eqb}
 use Rattle.rows.specs.Rows.{Row, without}
 use Rattle.rules.specs.declared.Tables.{Tables}
-use Rattle.rules.specs.declared.Check.TheVariants.{Pass}
 use Rattle.rules.specs.declared.Action.TheVariants.{Serve}
 use Rattle.rules.specs.declared.Decision.{Decision}
+use Rattle.rules.specs.declared.Judgement.{Judgement}
 use Rattle.rules.specs.Record.{Request}
-use Rattle.rules.specs.Tables.{sound}
+use Rattle.rules.specs.Tables.{tables_of}
 use Rattle.rules.specs.Defaults.{Defaults}
 use Rattle.rules.specs.Action.{action}
-use Rattle.rules.specs.Promises.Decision.{decided}
+use Rattle.rules.specs.Promises.Results.{Result}
 use Rattle.rules.specs.Outcome.{Outcome, tables_after, effect_by}
 use Rattle.rules_terminal.specs.Slots.{Round, queue_of, empty_queue}
 use Rattle.rules_terminal.specs.Round.{seats, same_seats, orphaned, valid_round, same_count}
 use Rattle.rules_terminal.specs.Terminal.{is_reset, clears, queue_after}
 use Rattle.rules_terminal.proofs.RowsMoved.{count_tells}
+use Rattle.execute.specs.Executed.{Decided, Executes}
 use Rattle.execute.proofs.Laws.{action_is, passes}
 
-module _ (t : Tables) (q : Request) (g : Decision) (is : g ≡ decided t q) (pass : g.check ≡ Pass) (h : sound t ≡ true) where
+-- the tables that are left
+pub left_as : {d : Defaults} {t : Tables} {q : Request} {lent cs es buffer : List ℕ} {j : Judgement} → Executes d t q lent j cs es buffer
+    → tables_of j.head cs es ≡ tables_after d t q
+left_as e = ap (λ (s : Result). s.tables) e.says
+
+module _ (t : Tables) (q : Request) (g : Decision) (permits : Decided t q g) where
   -- a record of an application resource leaves the tables
   pub served : (d : Defaults) → g.action ≡ Serve → tables_after d t q ≡ t
-  served d e = sym (ap (λ (o : Outcome). o.tables) (passes t q g is pass h d)) ∙ ap (effect_by d t q) (sym (action_is t q g is pass) ∙ e)
+  served d e = sym (ap (λ (o : Outcome). o.tables) (passes t q g permits d)) ∙ ap (effect_by d t q) (sym (action_is t q g permits) ∙ e)
 
   clears_is : (d : Defaults) → clears d t q ≡ is_reset g.action
   unfolding clears
   clears_is d =
-      sym (ap (λ (o : Outcome). eqb o.response.answer 0 && is_reset (action q.bytes)) (passes t q g is pass h d))
-      ∙ ap is_reset (sym (action_is t q g is pass))
+      sym (ap (λ (o : Outcome). eqb o.response.answer 0 && is_reset (action q.bytes)) (passes t q g permits d))
+      ∙ ap is_reset (sym (action_is t q g permits))
 
   -- ---- the memory that it leaves
 
@@ -43,7 +49,7 @@ module _ (t : Tables) (q : Request) (g : Decision) (is : g ≡ decided t q) (pas
       -- the number of rows tells whether one was added or removed
       tells : same_seats (seats t) (seats (tables_after d t q)) ≡ eqb t.ncreds u.ncreds
       unfolding same_count
-      tells = count_tells d t q h stays ∙ ap (λ (v : Tables). eqb t.ncreds v.ncreds) (sym after)
+      tells = count_tells d t q permits.0 stays ∙ ap (λ (v : Tables). eqb t.ncreds v.ncreds) (sym after)
 
       pub same_queue : u.ncreds ≡ t.ncreds → queue_of k ws ≡ queue_after d t q k ws
       unfolding queue_after

@@ -1,8 +1,11 @@
 -- What executing a record gives: its payload, and what is left of tables and buffer.
 -- A record is executed when it is decided and passed every check.
-use Rattle.std.specs.Prelude.{◌≡◌, [], true}
+use Rattle.std.specs.Prelude.{◌≡◌, [], true, length}
 use Rattle.rules.specs.declared.Tables.{Tables}
+use Rattle.rules.specs.declared.Head.{Head}
 use Rattle.rules.specs.declared.Judgement.{Judgement}
+use Rattle.rules.specs.declared.Links.{Links}
+use Rattle.rules.specs.declared.StoreRange.{StoreRange}
 use Rattle.rules.specs.declared.Check.{Check}
 use Rattle.rules.specs.declared.Check.TheVariants.{Pass, Refuse}
 use Rattle.rules.specs.declared.Header.{Header}
@@ -23,6 +26,18 @@ use Rattle.queue.specs.Queue.{IsQueue}
 abbrev pub payload_by : Check → Header → Bytes → Bytes
 payload_by Pass header r = passed_on header (body r)
 payload_by (Refuse n) header r = []
+
+-- what the sender of a permitted record r gets
+abbrev pub permitted_by : Decision → Bytes → StoreRange → Links → Head → Judgement
+permitted_by decision r store links head = record {
+  answer = 0;
+  permission = decision.permission;
+  payload = length (payload_by decision.check decision.caller.header r);
+  reply = decision.reply;
+  store = store;
+  links = links;
+  head = head;
+}
 
 -- of a request q with tables t: what is reported with the tables afterwards, and the caller's buffer
 pub record Executes (d : Defaults) (t : Tables) (q : Request) (lent : Bytes) (j : Judgement) (creds aces buffer : Bytes) : Type 0 where

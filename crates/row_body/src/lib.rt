@@ -7,20 +7,19 @@ ghost use Rattle.rows.specs.Words.{was};
 ghost use Rattle.rules.specs.declared.Table.TheVariants.{Creds, Aces};
 ghost use Rattle.rules.specs.Tables.{row_of};
 
-use rows::part;
 use rules::{ACE_ROW, ACE_SHORT, CRED_BODY, CRED_ROW, CRED_SHORT};
 
 // The credential row that a body stores, with no role asserted; zeros for a body of another length.
 // Rules out: an authority read from the type; the type left where a body of 21 bytes has it; a role kept from the row before.
+#[tactic(auto, unfolding(rules::specs::Bodies::cred_row_of))]
 pub fn cred_row(b: &[u8]) -> [u8; CRED_ROW]
     ensures { result ≡ row_of Creds (was b) }
 {
     let mut row = [0u8; CRED_ROW];
-    let length = b.len();
-    match length {
-        CRED_BODY => rows_change::put_row(&mut row, CRED_BODY, 0, b),
+    match b.len() {
+        CRED_BODY => row[..CRED_BODY].copy_from_slice(b),
         CRED_SHORT => {
-            rows_change::put_row(&mut row, 20, 0, part(b, 0, 20));
+            row[..20].copy_from_slice(&b[..20]);
             row[22] = b[20];
         }
         _ => {}
@@ -33,16 +32,16 @@ const LATEST: [u8; 4] = [255; 4];
 
 // The access row that a body stores; zeros for a body of another length.
 // Rules out: a body of 28 bytes that holds for no second but 0; the period before the subject.
+#[tactic(auto, unfolding(rules::specs::Bodies::ace_row_of))]
 pub fn ace_row(b: &[u8]) -> [u8; ACE_ROW]
     ensures { result ≡ row_of Aces (was b) }
 {
     let mut row = [0u8; ACE_ROW];
-    let length = b.len();
-    match length {
-        ACE_ROW => rows_change::put_row(&mut row, ACE_ROW, 0, b),
+    match b.len() {
+        ACE_ROW => row.copy_from_slice(b),
         ACE_SHORT => {
-            rows_change::put_row(&mut row, ACE_SHORT, 0, b);
-            rows_change::put_row(&mut row, 4, 8, &LATEST);
+            row[..ACE_SHORT].copy_from_slice(b);
+            row[ACE_ROW - 4..].copy_from_slice(&LATEST);
         }
         _ => {}
     }

@@ -11,9 +11,9 @@ ghost use Rattle.rules.specs.Promises.Keys.{key_offset, key_bytes};
 ghost use Rattle.rules.specs.StoreRange.{gap_of, store_range_of};
 ghost use Rattle.rules.specs.Promises.Words.{was, before};
 
-use fields::{ace_rows, capped, cred_rows};
-use rows::part;
-use rules::{ACE_ROWS, ACES, Action, CRED_ROWS, CREDS, Head, Key, StoreRange, Table};
+use fields::{ace_rows, cred_rows};
+use row_format::capacity_of;
+use rules::{ACE_ROWS, Action, CRED_ROWS, Head, Key, StoreRange, Table};
 
 // Rows counted.
 // Rules out: the other table's count; the rows that there is room for.
@@ -21,8 +21,8 @@ pub fn count_of(h: Head, table: Table) -> usize
     ensures { result ≡ count table h }
 {
     match table {
-        Table::Creds => h.ncreds as usize,
-        Table::Aces => h.naces as usize,
+        Table::Creds => usize::from(h.ncreds),
+        Table::Aces => usize::from(h.naces),
     }
 }
 
@@ -30,10 +30,7 @@ pub fn count_of(h: Head, table: Table) -> usize
 fn capped_of(h: Head, table: Table) -> usize
     ensures { result ≡ min (count table h) (capacity table) }
 {
-    match table {
-        Table::Creds => capped(h.ncreds, CREDS),
-        Table::Aces => capped(h.naces, ACES),
-    }
+    count_of(h, table).min(capacity_of(table))
 }
 
 // The index of the first row of the table that has the key's bytes from `at` on.
@@ -60,11 +57,7 @@ pub fn index_by_key<'a>(
 pub fn may_be_none(key: Key) -> bool
     ensures { result ≡ may_be_none key }
 {
-    match key {
-        Key::All => true,
-        Key::Number => false,
-        Key::Subject => false,
-    }
+    matches!(key, Key::All)
 }
 
 // Where in a row a key looks.
@@ -73,8 +66,7 @@ pub fn key_offset(key: Key) -> usize
     ensures { result ≡ key_offset key }
 {
     match key {
-        Key::All => 0,
-        Key::Number => 0,
+        Key::All | Key::Number => 0,
         Key::Subject => 2,
     }
 }
@@ -85,14 +77,14 @@ pub fn key_bytes(key: Key, b: &[u8]) -> &[u8]
     ensures { result.now ≡ key_bytes key (was b) }
 {
     match key {
-        Key::All => part(b, 0, 0),
-        Key::Number => b,
-        Key::Subject => b,
+        Key::All => &b[..0],
+        Key::Number | Key::Subject => b,
     }
 }
 
 // The index of the first row that the key, with the body, picks.
 // Rules out: a later row; a row of the other table.
+#[tactic(auto, using(rules::proofs::KeyLaws::goes_is))]
 pub fn picked<'a>(
     h: Head,
     creds: &'a [u8; CRED_ROWS],
@@ -107,6 +99,7 @@ pub fn picked<'a>(
 }
 
 // The rows from the first that the key picks to the last.
+#[tactic(auto, using(crate::proofs::Found::gaps), unfolding(rules::specs::Tables::rows_in))]
 fn gap<'a>(
     h: Head,
     creds: &'a [u8; CRED_ROWS],
@@ -121,7 +114,7 @@ fn gap<'a>(
         return StoreRange::none();
     };
     StoreRange {
-        first: first,
+        first,
         count: capped_of(h, table) - first,
     }
 }

@@ -1,23 +1,23 @@
 -- `defaults::put_listed`: a turn puts the row of one body.
-use Rattle.rows.proofs.Prelude.{arith, length}
-use native.Mathlib.Nat.{div-add-mod'}
+use Rattle.rows.proofs.Prelude.{ap, List, map, arith}
 use Rattle.text.proofs.Buffers.{writing_start, writing_step, writing_end}
-use Rattle.rows.proofs.Laws.{next_fits}
-use Rattle.effect_fresh.proofs.DefaultLaws.{from_take, from_end}
+use Rattle.rows.specs.Rows.{Row, joined}
+use Rattle.rules.specs.Tables.{row_from}
+use Rattle.effect_fresh.proofs.DefaultLaws.{rows_within, next_from}
 use Rattle.effect_fresh.proofs.defaults.put_listed.Goals as goal
 
-pub loop-left-init : goal.loop-left-init
-loop-left-init c = (omega (arith, div-add-mod' (length c.args.list.now) c.longest_of-long.result), writing_start _ _ _ (omega arith) (omega arith))
+pub new-requires : goal.new-requires
+new-requires c = rw (c.bodies_in.ensures, c.longest_of.ensures) (rows_within c.args.table _)
 
-pub loop-left-preserved : goal.loop-left-preserved
-loop-left-preserved c =
-    let l = c.loop-left in
-    let long = c.longest_of-long.result in (
-      next_fits long l.left l.rest.now c.loop-left-test.true l.invariant.0,
-      writing_step _ _ l.invariant.1 (from_take c.args.table long l.left l.rest.now c.loop-left-test.true) (rw c.part.ensures at c.put_listed_row-p.ensures),
-    )
+pub loop-body-init : goal.loop-body-init
+loop-body-init c =
+    rw (c.into_iter-body-iterator.ensures.into_iter_gives, c.iter-body-items.ensures, c.new.ensures, c.bodies_in.ensures, c.longest_of.ensures)
+    (writing_start _ _ _ (omega arith) (omega arith))
+
+pub loop-body-preserved : goal.loop-body-preserved
+loop-body-preserved c = writing_step _ _ c.loop-body.invariant (next_from c.args.table c.in-Some.ensures.steps) c.put_listed_row-p.ensures
 
 pub returns : goal.returns
+unfolding joined
 returns c =
-    let l = c.loop-left in
-    rw (← c.longest_of-long.ensures) (writing_end l.invariant.1 (from_end c.args.table c.longest_of-long.result l.left l.rest.now c.loop-left-test.false))
+    writing_end c.loop-body.invariant (ap (λ (rows : List Row). joined (map (row_from c.args.table) rows)) c.in-None.ensures.steps.0)

@@ -1,0 +1,2 @@
+-- Laws for the proofs of `row_lookup`.
+pub mod Found
