@@ -29,4 +29,4 @@ as_judged t h is q s lent queue buffer g =
     ∙ ap₂ (λ (r : Response) (u : Tables). record { answer = r.answer; permission = r.permission; tables = u }) a.response a.tables
 
 pub returns : goal.returns
-returns c = as_judged c.args.t _ c.head.ensures (lent c.args.clock c.args.rec.now) _ _ _ _ c.judge-j.ensures
+returns c = rw c.from_parts.ensures (as_judged c.args.t _ c.head.ensures (lent c.args.clock c.args.rec.now) _ _ _ _ c.judge-j.ensures)
