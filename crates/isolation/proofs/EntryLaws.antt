@@ -1,10 +1,10 @@
 -- The answer of one entry, and the loop over the entries.
-use Rattle.rows.proofs.Prelude.{◌≡◌, refl, sym, ap, ◌∙◌, true, false, List, ◌∷◌, ◌++◌, ℕ, suc, ◌+◌, ◌-◌, ◌*◌, ◌/◌, ◌≤◌, ◌<◌, add-one, arith}
+use Rattle.rows.proofs.Prelude.{◌≡◌, sym, ap, ◌∙◌, true, false, List, ◌∷◌, ◌++◌, ℕ, suc, ◌+◌, ◌-◌, ◌/◌, ◌≤◌, ◌<◌, add-one, arith}
 use Rattle.rows.proofs.Prelude.{length, take, drop, length-append, length-drop, bool_cases}
 use Rattle.rows.specs.Rows.{rows_of}
 use Rattle.std.specs.Prelude.{Some, None}
 use Rattle.rows.specs.Promises.{index_of}
-use Rattle.rows.proofs.Laws.{take_rest, rows_of_suc, is_some, some_index, index_before}
+use Rattle.rows.proofs.Laws.{rows_of_suc, is_some, some_index, index_before}
 use Rattle.rules.specs.declared.Tables.{Tables}
 use Rattle.rules.specs.declared.Table.TheVariants.{Aces}
 use Rattle.rules.specs.declared.Sender.{Sender}

@@ -1,9 +1,8 @@
 -- `entries_answer`: an entry's answer is the list's where it is a reason, and else the rest's is.
-use Rattle.rows.proofs.Prelude.{◌≡◌, sym, ap, ◌∙◌, ◌+◌, ℕ, arith}
+use Rattle.rows.proofs.Prelude.{◌≡◌, sym, ◌∙◌, ◌+◌, ℕ, arith}
 use Rattle.rules.specs.declared.Sender.{Sender}
 use Rattle.rules.specs.declared.Tables.{Tables}
 use Rattle.rows.specs.Rows.{Row}
-use Rattle.rules.specs.Promises.Words.{seen}
 use Rattle.rules_isolation.specs.declared.Isolation.{Isolation}
 use Rattle.rules_isolation.specs.declared.Isolation.TheVariants.{Isolated}
 use Rattle.rules_isolation.specs.Question.{sender_of, entry_answer}
