@@ -1,16 +1,17 @@
 -- The answer of one entry, and the loop over the entries.
-use Rattle.rows.proofs.Prelude.{◌≡◌, refl, sym, ap, ◌∙◌, true, false, List, ◌∷◌, ℕ, suc, ◌+◌, ◌-◌, ◌*◌, ◌/◌, ◌≤◌, ◌<◌, add-one, arith}
-use Rattle.rows.proofs.Prelude.{length, take, drop, length-drop, bool_cases}
+use Rattle.rows.proofs.Prelude.{◌≡◌, sym, ap, ◌∙◌, true, false, List, ◌∷◌, ◌++◌, ℕ, suc, ◌+◌, ◌-◌, ◌/◌, ◌≤◌, ◌<◌, add-one, arith}
+use Rattle.rows.proofs.Prelude.{length, take, drop, length-append, length-drop, bool_cases}
 use Rattle.rows.specs.Rows.{rows_of}
 use Rattle.std.specs.Prelude.{Some, None}
 use Rattle.rows.specs.Promises.{index_of}
-use Rattle.rows.proofs.Laws.{take_rest, rows_of_suc, is_some, some_index, index_before}
+use Rattle.rows.proofs.Laws.{rows_of_suc, is_some, some_index, index_before}
 use Rattle.rules.specs.declared.Tables.{Tables}
 use Rattle.rules.specs.declared.Table.TheVariants.{Aces}
 use Rattle.rules.specs.declared.Sender.{Sender}
 use Rattle.rules.specs.Tables.{rows}
 use Rattle.rules.specs.Permission.{sender_row, connection_of}
 use Rattle.rules.specs.Isolation.{names_owner, may_alter}
+use Rattle.std.proofs.Math.Seq.{take-append_seam, drop-append_seam}
 use Rattle.rules_isolation.specs.declared.Isolation.{Isolation}
 use Rattle.rules_isolation.specs.declared.Isolation.TheVariants.{Isolated, NamesOwner, MayAlter}
 use Rattle.rules_isolation.specs.Question.{entries, sender_of, lets_alter, altering_number, entry_answer, entries_answer}
@@ -65,30 +66,30 @@ entries_more b h =
     let less : length b / 2 - 1 ≡ length (drop 2 b) / 2 = rw length-drop (omega arith) in
     rows_of_suc 2 (length b / 2) b more ∙ rw less
 
+-- an entry, and what is after it
+entries_next : (entry rest : List ℕ) → length entry ≡ 2 → entries (entry ++ rest) ≡ entry ∷ entries rest
+entries_next entry rest h =
+    let more : 2 ≤ length (entry ++ rest) = simp length-append (omega arith) in
+    let first : take 2 (entry ++ rest) ≡ entry = rw (← h) (take-append_seam entry rest) in
+    let after : drop 2 (entry ++ rest) ≡ rest = rw (← h) (drop-append_seam entry rest) in
+    entries_more (entry ++ rest) more ∙ rw (first, after)
+
+-- the answer for all entries is the answer for the rest, after i of them
+abbrev pub FromEntry : Tables → List ℕ → List ℕ → ℕ → Type 0
+FromEntry t list rest i = entries_answer t 1 (entries list) ≡ entries_answer t (i + 1) (entries rest)
+
 module _ (t : Tables) (list : List ℕ) where
-  -- the answer for all entries is the answer for the rest, from entry i on
-  pub record EntryInv (rest : List ℕ) (i : ℕ) : Type 0 where
-    pub same : entries_answer t 1 (entries list) ≡ entries_answer t i (entries rest)
-    pub few : i * 2 + length rest ≤ length list + 2
-
-  pub entry_start : EntryInv list 1
-  entry_start = record { same = refl; few = omega arith }
-
-  pub entry_end : (rest : List ℕ) (i : ℕ) → EntryInv rest i → length rest < 2 → Isolated ≡ entries_answer t 1 (entries list)
+  pub entry_end : (rest : List ℕ) (i : ℕ) → FromEntry t list rest i → length rest < 2 → Isolated ≡ entries_answer t 1 (entries list)
   unfolding entries_answer rows_of
-  entry_end rest i inv h = let none : length rest / 2 ≡ 0 = omega arith in sym (inv.same ∙ rw none)
+  entry_end rest i inv h = let none : length rest / 2 ≡ 0 = omega arith in sym (inv ∙ rw none)
 
-  module _ (rest : List ℕ) (i : ℕ) (inv : EntryInv rest i) (h : 2 ≤ length rest) where
-    next_answer : entries_answer t 1 (entries list) ≡ entry_answer t i (sender_of (take 2 rest)) (entries_answer t (suc i) (entries (drop 2 rest)))
+  module _ (entry rest all : List ℕ) (i : ℕ) (inv : FromEntry t list all i) (e : all ≡ entry ++ rest) (h : length entry ≡ 2) where
+    next_answer : entries_answer t 1 (entries list) ≡ entry_answer t (i + 1) (sender_of entry) (entries_answer t (suc (i + 1)) (entries rest))
     unfolding entries_answer
-    next_answer = inv.same ∙ rw (entries_more rest h)
+    next_answer = inv ∙ rw (e, entries_next entry rest h)
 
-    pub entry_found : (x : Isolation) → x ≡ entry_answer t i (sender_of (take 2 rest)) Isolated → IsReason x → x ≡ entries_answer t 1 (entries list)
-    entry_found x e k = reason_stays t i (sender_of (take 2 rest)) x _ e k ∙ sym next_answer
+    pub entry_found : (x : Isolation) → x ≡ entry_answer t (i + 1) (sender_of entry) Isolated → IsReason x → x ≡ entries_answer t 1 (entries list)
+    entry_found x f k = reason_stays t (i + 1) (sender_of entry) x _ f k ∙ sym next_answer
 
-    pub entry_turn : entry_answer t i (sender_of (take 2 rest)) Isolated ≡ Isolated → EntryInv (take (length rest - 2) (drop 2 rest)) (i + 1)
-    entry_turn e =
-        rw (take_rest 2 rest) (record {
-          same = next_answer ∙ rest_follows t i (sender_of (take 2 rest)) _ e ∙ rw add-one;
-          few = rw length-drop (omega (arith, inv.few));
-        })
+    pub entry_turn : entry_answer t (i + 1) (sender_of entry) Isolated ≡ Isolated → FromEntry t list rest (i + 1)
+    entry_turn f = next_answer ∙ rest_follows t (i + 1) (sender_of entry) _ f ∙ rw (add-one, add-one)

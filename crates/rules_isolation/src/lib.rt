@@ -31,42 +31,19 @@ pub struct IsolationReport {
     pub row: usize,
 }
 
-impl Isolation {
+impl From<Isolation> for IsolationReport {
+    ghost from_gives = { λ answer report. report ≡ report_of answer };
+
     // Rules out: a reason that is reported as isolated; the row instead of the entry.
-    pub fn report(self) -> IsolationReport
-        ensures { result ≡ report_of self }
-    {
-        match self {
-            Isolation::Isolated => IsolationReport {
-                reason: 0,
-                entry: 0,
-                row: 0,
-            },
-            Isolation::OddLength => IsolationReport {
-                reason: 1,
-                entry: 0,
-                row: 0,
-            },
-            Isolation::Unsound => IsolationReport {
-                reason: 2,
-                entry: 0,
-                row: 0,
-            },
-            Isolation::NoOwner => IsolationReport {
-                reason: 3,
-                entry: 0,
-                row: 0,
-            },
-            Isolation::NamesOwner(i) => IsolationReport {
-                reason: 4,
-                entry: i,
-                row: 0,
-            },
-            Isolation::MayAlter(i, j) => IsolationReport {
-                reason: 5,
-                entry: i,
-                row: j,
-            },
-        }
+    fn from(answer: Isolation) -> IsolationReport {
+        let (reason, entry, row) = match answer {
+            Isolation::Isolated => (0, 0, 0),
+            Isolation::OddLength => (1, 0, 0),
+            Isolation::Unsound => (2, 0, 0),
+            Isolation::NoOwner => (3, 0, 0),
+            Isolation::NamesOwner(entry) => (4, entry, 0),
+            Isolation::MayAlter(entry, row) => (5, entry, row),
+        };
+        IsolationReport { reason, entry, row }
     }
 }

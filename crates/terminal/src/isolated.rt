@@ -8,7 +8,8 @@ ghost use Rattle.rules_interface.specs.Isolated.{report_words, identity};
 
 use c_memory::head_at;
 use isolation::isolation_of;
-use rules::{ACE_ROWS, CRED_ROWS, Tables};
+use rules::{ACE_ROWS, CRED_ROWS, Tables, TablesView};
+use rules_isolation::IsolationReport;
 
 // Whether the senders of a list are isolated from all others: the reason why not, 0 for none, the entry and the access row, in `words`.
 // Rules out: tables whose counts are exchanged; a reason instead of an entry; a word left as it was.
@@ -24,8 +25,9 @@ pub fn tillerclover_isolated_at<'a>(
     ensures { words.new
         ≡ report_words (report_of (isolation_of (tables_at (was counts) (was devowner) (was rowners) (was creds) (was aces)) (was senders))) }
 {
-    let h = head_at(counts, devowner, rowners);
-    let report = isolation_of(h, creds, aces, senders).report();
+    let head = head_at(counts, devowner, rowners);
+    let tables = TablesView { head, creds, aces };
+    let report = IsolationReport::from(isolation_of(tables, senders));
     *words = [report.reason as u64, report.entry as u64, report.row as u64];
 }
 

@@ -7,7 +7,8 @@ mod entries;
 use entries::{Entries, Entry, Tag};
 use fields::{be16, byte_at, skip};
 use isolation::isolation_of;
-use rules::Tables;
+use rules::{Tables, TablesView};
+use rules_isolation::IsolationReport;
 use rules_store::Step;
 use vectors_reader::{Tally, be64, more, tables_of};
 
@@ -83,7 +84,12 @@ fn answered<'a>(rt: &impl Print, p: &mut Progress<'a>, entry: Entry<'a>) {
 // Asks whether the senders after reason, entry and row are isolated.
 fn asked(rt: &impl Print, p: &mut Progress, s: &[u8]) {
     let t = &p.tables;
-    let found = isolation_of(t.head(), &t.creds, &t.aces, skip(s, 4)).report();
+    let tables = TablesView {
+        head: t.head(),
+        creds: &t.creds,
+        aces: &t.aces,
+    };
+    let found = IsolationReport::from(isolation_of(tables, skip(s, 4)));
     let is_same = (found.reason == byte_at(s, 0))
         & (found.entry == be16(skip(s, 1)) as usize)
         & (found.row == byte_at(s, 3) as usize);

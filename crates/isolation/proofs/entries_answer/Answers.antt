@@ -1,25 +1,35 @@
--- `entries_answer`. The loop's invariant: the answer for all entries is the answer for the rest, from entry `i` on.
-use Rattle.rows.proofs.Prelude.{sym, ◌∙◌, arith, length-take-le}
-use Rattle.isolation.proofs.EntryLaws.{entry_start, entry_end, entry_found, entry_turn}
+-- `entries_answer`: an entry's answer is the list's where it is a reason, and else the rest's is.
+use Rattle.rows.proofs.Prelude.{◌≡◌, sym, ◌∙◌, ◌+◌, ℕ, arith}
+use Rattle.rules.specs.declared.Sender.{Sender}
+use Rattle.rules.specs.declared.Tables.{Tables}
+use Rattle.rows.specs.Rows.{Row}
+use Rattle.rules_isolation.specs.declared.Isolation.{Isolation}
+use Rattle.rules_isolation.specs.declared.Isolation.TheVariants.{Isolated}
+use Rattle.rules_isolation.specs.Question.{sender_of, entry_answer}
+use Rattle.isolation.proofs.EntryLaws.{entry_end, entry_found, entry_turn}
 use Rattle.isolation.proofs.entries_answer.Goals as goal
 
-pub loop-rest-init : goal.loop-rest-init
-loop-rest-init c = entry_start _ _
+-- the entry at its place in the walk
+told : (t : Tables) (x : Isolation) (who : Sender) (entry : Row) (i n : ℕ)
+    → x ≡ entry_answer t (i + 1) who Isolated → who ≡ sender_of entry → i ≡ n → x ≡ entry_answer t (n + 1) (sender_of entry) Isolated
+told t x who entry i n e f g = rw (← f, ← g) e
 
-pub slice_bounds-sender_of-end : goal.slice_bounds-sender_of-end
-slice_bounds-sender_of-end c = sym (length-take-le 2 c.loop-rest.rest.now c.loop-rest-test.true)
+pub loop-i-preserved : goal.loop-i-preserved
+loop-i-preserved c =
+    let step = c.in-Some.ensures.steps in
+    let inv = c.loop-i.invariant in
+    let is = told _ _ _ _ _ _ c.entry_answer-answer.ensures c.sender_of.ensures step.1 in
+    record {
+      by_two = step.0.0 ∙ inv.by_two;
+      same = rw step.2 (entry_turn _ _ _ _ _ _ inv.same step.0.1.0 (step.0.1.1 ∙ inv.by_two) (sym is ∙ c.in-Isolated.is));
+    }
 
 pub returns-in_default : goal.returns-in_default
 returns-in_default c =
-    entry_found _ _ _ _ c.loop-rest.invariant c.loop-rest-test.true _ (c.entry_answer-answer.ensures ∙ rw c.sender_of.ensures) c.in_default.not-Isolated
-
-pub overflow_add-i : goal.overflow_add-i
-overflow_add-i c = omega (arith, c.loop-rest.invariant.few)
-
-pub loop-rest-preserved : goal.loop-rest-preserved
-loop-rest-preserved c =
-    entry_turn _ _ _ _ c.loop-rest.invariant c.loop-rest-test.true
-    (rw (← c.sender_of.ensures) (sym c.entry_answer-answer.ensures ∙ c.in-Isolated.is))
+    let step = c.in-Some.ensures.steps in
+    let inv = c.loop-i.invariant in
+    let is = told _ _ _ _ _ _ c.entry_answer-answer.ensures c.sender_of.ensures step.1 in
+    entry_found _ _ _ _ _ _ inv.same step.0.1.0 (step.0.1.1 ∙ inv.by_two) _ is c.in_default.not-Isolated
 
 pub returns : goal.returns
-returns c = entry_end _ _ _ _ c.loop-rest.invariant c.loop-rest-test.false
+returns c = entry_end _ _ _ _ c.loop-i.invariant.same (omega (arith, c.in-None.ensures.steps.0.1.0, c.loop-i.invariant.by_two))
