@@ -6,12 +6,12 @@ ghost use Rattle.std.specs.Prelude.{◌≡◌, [], ◌*◌, ◌≤◌, length};
 ghost use Rattle.rows.specs.Rows.{rows_of, every};
 ghost use Rattle.rules.specs.declared.Table.TheVariants.{Creds, Aces};
 ghost use Rattle.rules.specs.Tables.{stride, storable, capacity, rows_sound, head_sound, sound, tables_of, table_size};
-ghost use Rattle.rules.specs.Promises.Words.{was, before};
+ghost use Rattle.rules.specs.Promises.Words.{was, seen};
 
 use row_format::{all_aces_storable, all_creds_sound, capacity_of, is_nil, stride_of};
 use rows::all_zero;
 use rows_distinct::distinct;
-use rules::{ACE_ROWS, CRED_ROWS, Head, State, Table};
+use rules::{Head, State, Table, TablesView};
 
 // Whether each of `count` rows could be stored by a body, where all of them are there.
 #[inline(always)]
@@ -62,10 +62,11 @@ fn head_sound(h: Head) -> bool
 
 // Rules out: tables with a count over the capacity; tables with two rows of one number.
 #[tactic(auto, unfolding(rules::specs::Tables::sound))]
-pub fn tables_sound<'a>(h: Head, creds: &'a [u8; CRED_ROWS], aces: &'a [u8; ACE_ROWS]) -> bool
-    ensures { result ≡ sound (before h creds aces) }
+pub fn tables_sound(tables: TablesView<'_>) -> bool
+    ensures { result ≡ sound (seen tables.entry) }
 {
-    head_sound(h)
-        && rows_sound(Table::Creds, usize::from(h.ncreds), creds)
-        && rows_sound(Table::Aces, usize::from(h.naces), aces)
+    let TablesView { head, creds, aces } = tables;
+    head_sound(head)
+        && rows_sound(Table::Creds, usize::from(head.ncreds), creds)
+        && rows_sound(Table::Aces, usize::from(head.naces), aces)
 }

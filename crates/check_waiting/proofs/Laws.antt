@@ -1,17 +1,19 @@
 -- Laws of the memory's bytes, as the code reads them.
 use Rattle.rows.proofs.Prelude.{◌≡◌, refl, sym, ap, ◌∙◌, Bool, true, false, not, ◌&&◌, ◌||◌, and-false, and-true, or-false, drop-cons, bool_cases, List, []}
-use Rattle.rows.proofs.Prelude.{ℕ, zero, suc, ◌+◌, ◌-◌, ◌*◌, ◌/◌, ◌%◌, ◌≤◌, ◌<◌, min, min-eq_left, arith, length, take, drop, get_or, replicate, eqb, eq-eqb}
+use Rattle.rows.proofs.Prelude.{ℕ, zero, suc, ◌+◌, ◌-◌, ◌*◌, ◌/◌, ◌%◌, ◌≤◌, ◌<◌, min-eq_left, arith, length, take, drop, get_or, replicate, eqb, eq-eqb}
 use Rattle.rows.proofs.Prelude.{◌∷◌, ◌++◌, eqb-true, and_left, and_right, contradiction, le-leb, lt-leb, or_true_right}
-use Rattle.rows.proofs.Prelude.{take-append-drop, cond, eqb-false}
+use Rattle.rows.proofs.Prelude.{cond, eqb-false}
 use mathlib.Core.Bool.{and_assoc}
 use native.Mathlib.Numerals.{add-four}
 use Rattle.rows.specs.Rows.{Row, same, has_key, all_zero, every, some, distinct_numbers, rows_of}
-use Rattle.rows.proofs.Zeros.{zeros_part}
-use Rattle.rows.proofs.Laws.{take_rest, some_append, from_row, is_some, some_index}
+use Rattle.rows.proofs.AllZero.{zeros_part}
+use Rattle.rows.proofs.Laws.{is_some, some_index}
 use Rattle.std.specs.Prelude.{Option, Some, None}
+use Rattle.std.specs.Int.{w16, to_be_bytes}
+use Rattle.std.specs.Cmp.Lexicographic.{pointwise}
+use Rattle.rows.proofs.Kept.{same_true}
+use Rattle.rows.proofs.Prelude.{take_all, length-drop}
 use Rattle.rows.specs.Promises.{index_from}
-use Rattle.rules.specs.declared.Table.TheVariants.{Creds}
-use Rattle.rules.specs.Tables.{rows_in}
 use Rattle.rules.specs.Bits.{bits, be16}
 use Rattle.rules.specs.declared.Check.{Check}
 use Rattle.rules.specs.declared.Check.TheVariants.{Pass, Refuse}
@@ -29,18 +31,17 @@ use Rattle.rules.proofs.BitLaws.{bits_part, bits_small, bits_word, word_is}
 use Rattle.rules.proofs.Answers.{passed, long_enough}
 use Rattle.rules_terminal.specs.Slots.{seat_of, padded, slot_of, record_of, round_bytes, round_of, waiting, queue_size, slot_size}
 use Rattle.rules_terminal.specs.Terminal.{slot_sound, queue_sound}
-use Rattle.rules_terminal.proofs.SlotLaws.{short_record}
-use Rattle.rules.specs.Sizes.{cred_row_size}
+use Rattle.rules_terminal.proofs.SlotLaws.{short_record, is_pass_lem, slot_long}
 
 -- the round's bytes: zeros, or 1 and a seat
-pub round_is : (m : List ℕ) → 4 ≤ length m
-    → (eqb (get_or m 1 0) 1 || ((eqb (get_or m 1 0) 0 && eqb (get_or m 2 0) 0) && eqb (get_or m 3 0) 0)) ≡ same (take 3 (drop 1 m)) (round_bytes (round_of m))
+pub round_is : (m : List ℕ) → 4 ≤ length m → (e : Bool) → e ≡ pointwise eqb (take 3 (drop 1 m)) (0 ∷ 0 ∷ 0 ∷ [])
+    → (eqb (get_or m 1 0) 1 || e) ≡ same (take 3 (drop 1 m)) (round_bytes (round_of m))
 unfolding same round_of
-round_is m h =
-    rw (drop-cons m 1 0 (omega arith), drop-cons m 2 0 (omega arith), drop-cons m 3 0 (omega arith))
+round_is m h e is =
+    rw (is, drop-cons m 1 0 (omega arith), drop-cons m 2 0 (omega arith), drop-cons m 3 0 (omega arith))
     (bool_cases (eqb (get_or m 1 0) 0)
-    (λ e. rw (eqb-true (get_or m 1 0) 0 e, and-true))
-    (λ e. rw (e, eq-eqb (get_or m 2 0) (get_or m 2 0) refl, eq-eqb (get_or m 3 0) (get_or m 3 0) refl, or-false, and-true)))
+    (λ z. rw (eqb-true (get_or m 1 0) 0 z, and-true))
+    (λ z. rw (z, eq-eqb (get_or m 2 0) (get_or m 2 0) refl, eq-eqb (get_or m 3 0) (get_or m 3 0) refl, or-false, and-true)))
 
 -- ---- a slot
 
@@ -69,17 +70,26 @@ zeros_behind zero (suc m) (x ∷ b) h = ap (λ (k : Bool). eqb x 0 && k) (zeros_
 zeros_behind (suc n) m [] h = absurd (omega arith)
 zeros_behind (suc n) m (x ∷ b) h = rw (eq-eqb x x refl) (zeros_behind n m b (omega arith))
 
--- the tests of a slot's bytes, joined as the code has them
-pub tested_slot : (w r : List ℕ) → length w ≡ slot_size → r ≡ take (length r) (drop 4 w) → length r ≤ 256 → get_or r 2 0 < 256 → get_or r 3 0 < 256
+-- a slot of another length keeps no record
+pub other_length : (ws : List Row) (w : Row) → (length w ≡ slot_size → ⊥) → false ≡ slot_sound ws w
+unfolding slot_sound
+other_length ws w other =
+    bool_cases (slot_sound ws w)
+    (λ e.
+    let passes = is_pass_lem _ (and_right (same w (slot_of (record_of w))) _ e) in
+    absurd (other (ap length (same_true _ _ (and_left _ _ e)) ∙ slot_long (record_of w) (short_record ws (record_of w) passes))))
+    (λ e. sym e)
+
+slot_bytes : (w r : List ℕ) → length w ≡ slot_size → r ≡ take (length r) (drop 4 w) → length r ≤ 256 → get_or r 2 0 < 256 → get_or r 3 0 < 256
     → (((eqb (get_or w 0 0) (get_or r 2 0) && eqb (get_or w 1 0) (get_or r 3 0)) && (eqb (get_or w 2 0) (length r / 256) && eqb (get_or w 3 0) (length r % 256)))
     && all_zero (drop (length r + 4) w))
     ≡ same w (slot_of r)
 unfolding slot_of seat_of padded be16 same
-tested_slot [] r l e h x y = absurd (omega arith)
-tested_slot (a ∷ []) r l e h x y = absurd (omega arith)
-tested_slot (a ∷ b ∷ []) r l e h x y = absurd (omega arith)
-tested_slot (a ∷ b ∷ c ∷ []) r l e h x y = absurd (omega arith)
-tested_slot (a ∷ b ∷ c ∷ d ∷ w) r l e h x y =
+slot_bytes [] r l e h x y = absurd (omega arith)
+slot_bytes (a ∷ []) r l e h x y = absurd (omega arith)
+slot_bytes (a ∷ b ∷ []) r l e h x y = absurd (omega arith)
+slot_bytes (a ∷ b ∷ c ∷ []) r l e h x y = absurd (omega arith)
+slot_bytes (a ∷ b ∷ c ∷ d ∷ w) r l e h x y =
     let number : be16 (credential r) ≡ get_or r 2 0 ∷ get_or r 3 0 ∷ [] = word_is r 2 x y in
     let long : length w ≡ 256 = omega arith in
     let rest : same w (r ++ replicate (256 - length r) 0) ≡ all_zero (drop (length r) w) =
@@ -92,6 +102,30 @@ tested_slot (a ∷ b ∷ c ∷ d ∷ w) r l e h x y =
   where
     regroup : (p q u v z : Bool) → (((p && q) && (u && v)) && z) ≡ (p && (q && (u && (v && z))))
     regroup p q u v z = simp and_assoc
+
+-- the tests of a slot's bytes, joined as the code has them
+pub tested_slot : (w r size : List ℕ) → (length w ≡ slot_size) × (r ≡ take (length r) (drop 4 w)) × (4 ≤ length r) × (length r ≤ 256)
+    → get_or r 2 0 < 256 → get_or r 3 0 < 256 → size ≡ to_be_bytes w16 (length r) → (a b z : Bool)
+    → a ≡ pointwise eqb (take 2 w) (take 2 (drop 2 r)) → b ≡ pointwise eqb (take 2 (drop 2 w)) size → z ≡ all_zero (drop (length r + 4) w)
+    → ((a && b) && z) ≡ same w (slot_of r)
+tested_slot w r size h x y s a b z ha hb hz =
+    let high : length r / 256 % 256 ≡ length r / 256 = omega (arith, h.3) in
+    rw (
+      ha,
+      hb,
+      hz,
+      s,
+      high,
+      drop-cons w 0 0 (omega (arith, h.0)),
+      drop-cons w 1 0 (omega (arith, h.0)),
+      drop-cons w 2 0 (omega (arith, h.0)),
+      drop-cons w 3 0 (omega (arith, h.0)),
+      drop-cons r 2 0 (omega (arith, h.2)),
+      drop-cons r 3 0 (omega (arith, h.2)),
+      and-true,
+      and-true,
+    )
+    (slot_bytes (get_or w 0 0 ∷ get_or w 1 0 ∷ get_or w 2 0 ∷ get_or w 3 0 ∷ drop 4 w) r (omega (arith, h.0, length-drop 4 w)) h.1 h.3 x y)
 
 take_again : (k : ℕ) (s : List ℕ) → take k s ≡ take (length (take k s)) s
 take_again zero s = refl
@@ -154,23 +188,19 @@ module _ (r : List ℕ) where
 -- ---- the sender's row
 
 -- a row that passes is one of them
-some_at : (passes : Row → Bool) (s n i : ℕ) (b : List ℕ) → i < n → passes (take s (drop (i * s) b)) ≡ true → some passes (rows_of s n b) ≡ true
+row_passes : (passes : Row → Bool) (rows : List Row) (i : ℕ) → i < length rows → passes (get_or rows i []) ≡ true → some passes rows ≡ true
 unfolding some
-some_at passes s n i b h e =
-    ap (some passes) (sym (take-append-drop i (rows_of s n b)))
-    ∙ some_append passes (take i (rows_of s n b)) (drop i (rows_of s n b))
-    ∙ or_true_right (some passes (take i (rows_of s n b))) (some passes (drop i (rows_of s n b))) (rw (from_row s n i b h, e))
+row_passes passes [] i h e = absurd (omega arith)
+row_passes passes (row ∷ rows) zero h e = rw e
+row_passes passes (row ∷ rows) (suc i) h e = or_true_right (passes row) (some passes rows) (row_passes passes rows i (omega arith) e)
 
--- the key is looked for at a place, and then by a search
-module _ (n count : ℕ) (b key : List ℕ) (few : count ≡ min n 24) where
-  pub near : (i : ℕ) (h : Bool) → i < count → h ≡ has_key 0 key (take cred_row_size (drop (i * cred_row_size) b)) → h ≡ true → true ≡ some (has_key 0 key) (rows_in Creds n b)
-  unfolding rows_in
-  near i h l e t = sym (ap (λ (k : ℕ). some (has_key 0 key) (rows_of cred_row_size k b)) (sym few) ∙ some_at (has_key 0 key) cred_row_size count i b l (sym e ∙ t))
+-- the key is looked for at an index, and then by a search
+module _ (rows : List Row) (key : List ℕ) where
+  pub near : (i : ℕ) (row : List ℕ) → (i < length rows) × (row ≡ get_or rows i []) → (h : Bool) → h ≡ has_key 0 key row → h ≡ true → true ≡ some (has_key 0 key) rows
+  near i row at h l t = sym (row_passes (has_key 0 key) rows i at.0 (ap (has_key 0 key) (sym at.1) ∙ sym l ∙ t))
 
-  pub searched : (p : Option ℕ) → p ≡ index_from 0 (has_key 0 key) (rows_of cred_row_size count b) → is_some p ≡ some (has_key 0 key) (rows_in Creds n b)
-  unfolding rows_in
-  searched p e =
-      ap is_some e ∙ sym (some_index 0 (has_key 0 key) (rows_of cred_row_size count b)) ∙ ap (λ (k : ℕ). some (has_key 0 key) (rows_of cred_row_size k b)) few
+  pub searched : (p : Option ℕ) → p ≡ index_from 0 (has_key 0 key) rows → is_some p ≡ some (has_key 0 key) rows
+  searched p e = ap is_some e ∙ sym (some_index 0 (has_key 0 key) rows)
 
 -- what a place says of a partner's row
 pub lacks : (n : ℕ) (p : Option ℕ) → lacks_row (Partner n) p ≡ not (is_some p)
@@ -201,21 +231,21 @@ pub too_many : (ws : List Row) (m : List ℕ) → 25 < get_or m 0 0 → false �
 unfolding queue_sound
 too_many ws m l = sym (rw (lt-leb (get_or m 0 0) 25 l, and-false))
 
-module _ (ws : List Row) (m : List ℕ) (six : length m ≡ queue_size) (few : get_or m 0 0 ≤ 25) where
-  abbrev part : List ℕ
-  part = take (length m - 4) (drop 4 m)
+module _ (ws : List Row) (m part : List ℕ) (six : length m ≡ queue_size) (rest : part ≡ take 6500 (drop 4 m))
+    (n : ℕ) (counted : n ≡ get_or m 0 0) (few : get_or m 0 0 ≤ 25) where
+  part_is : part ≡ drop 4 m
+  part_is = rest ∙ take_all 6500 (drop 4 m) (omega (arith, six, length-drop 4 m))
 
-  pub tested : (r z s d : Bool) → r ≡ same (take 3 (drop 1 m)) (round_bytes (round_of m)) → z ≡ all_zero (drop (get_or m 0 0 * slot_size) part)
-      → s ≡ every (slot_sound ws) (rows_of slot_size (get_or m 0 0) part) → d ≡ distinct_numbers (rows_of slot_size (get_or m 0 0) part)
-      → (((r && z) && s) && d) ≡ queue_sound ws m
+  pub tested : (r z s d : Bool) → r ≡ same (take 3 (drop 1 m)) (round_bytes (round_of m)) → z ≡ all_zero (drop (n * slot_size) part)
+      → s ≡ every (slot_sound ws) (waiting m) → d ≡ distinct_numbers (rows_of slot_size n part) → (((r && z) && s) && d) ≡ queue_sound ws m
   unfolding queue_sound waiting
   tested r z s d hr hz hs hd =
-      rw (hr, hz, hs, hd, take_rest 4 m, eq-eqb (length m) queue_size six, le-leb (get_or m 0 0) 25 few, min-eq_left few)
+      rw (hr, hz, hs, hd, part_is, counted, eq-eqb (length m) queue_size six, le-leb (get_or m 0 0) 25 few, min-eq_left few)
 
   -- where nothing waits, the round and the zeros are all there is
-  pub tested_empty : (r z : Bool) → get_or m 0 0 ≡ 0 → r ≡ same (take 3 (drop 1 m)) (round_bytes (round_of m)) → z ≡ all_zero (drop (get_or m 0 0 * slot_size) part)
+  pub tested_empty : (r z : Bool) → n ≡ 0 → r ≡ same (take 3 (drop 1 m)) (round_bytes (round_of m)) → z ≡ all_zero (drop (n * slot_size) part)
       → (r && z) ≡ queue_sound ws m
-  unfolding every distinct_numbers rows_of
+  unfolding every distinct_numbers rows_of waiting
   tested_empty r z e hr hz =
-      sym (and-true (r && z)) ∙ sym (and-true ((r && z) && true))
-      ∙ tested r z true true hr hz (rw e) (rw e)
+      let none : get_or m 0 0 ≡ 0 = sym counted ∙ e in
+      sym (and-true (r && z)) ∙ sym (and-true ((r && z) && true)) ∙ tested r z true true hr hz (rw none) (rw e)

@@ -5,6 +5,7 @@ ghost use Rattle.rows.specs.Words.{was};
 ghost use Rattle.rules.specs.Bits.{bit, bits};
 
 // The byte at an index, or 0.
+// Rules out: the byte after it; a fault past the end.
 pub fn byte_at(s: &[u8], i: usize) -> u8
     ensures { result ≡ get_or (was s) i 0 }
 {

@@ -16,6 +16,7 @@ ghost use Rattle.rules.specs.Tables.{rows_in};
 ghost use Rattle.rules.specs.Promises.Words.{was};
 ghost use Rattle.rules.specs.Bits.{bits};
 
+pub use bits::byte_at;
 use bits::{double_field, field};
 use rows::Rows;
 use rules::{ACE_ROW, ACE_ROWS, ACES, CRED_ROW, CRED_ROWS, CREDS};

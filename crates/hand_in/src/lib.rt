@@ -9,12 +9,12 @@ ghost use Rattle.rules_terminal.specs.Round.{occupied};
 ghost use Rattle.rules.specs.Promises.Results.{number_judgement, result_with};
 ghost use Rattle.rules_terminal.specs.Terminal.{terminal, hand_in_checks};
 ghost use Rattle.rules_terminal.specs.Calls.{HandsIn};
-ghost use Rattle.rules.specs.Promises.Words.{was, before};
+ghost use Rattle.rules.specs.Promises.Words.{was, seen};
 
 use caller::check_record;
 use check_waiting::check_terminal;
 use rows::Rows;
-use rules::{ACE_ROWS, CRED_ROWS, Check, Head, Judgement, Links, StoreRange};
+use rules::{Check, Head, Judgement, Links, StoreRange, TablesView};
 use rules_terminal::{QUEUE, SLOT};
 
 // Check 26: the sender's seat is occupied.
@@ -30,20 +30,14 @@ fn check_free(queue: &[u8], rec: &[u8]) -> Check
 }
 
 // The first of the checks 1 to 7 and 26 that applies.
-fn check_hand_in<'a>(
-    h: Head,
-    creds: &'a [u8; CRED_ROWS],
-    aces: &'a [u8; ACE_ROWS],
-    queue: &[u8; QUEUE],
-    rec: &[u8],
-) -> Check
-    ensures { result ≡ verdict (hand_in_checks (terminal (before h creds aces) (was queue)) (was rec)) }
+fn check_hand_in(tables: TablesView<'_>, queue: &[u8; QUEUE], rec: &[u8]) -> Check
+    ensures { result ≡ verdict (hand_in_checks (terminal (seen tables.entry) (was queue)) (was rec)) }
 {
-    let c = check_terminal(h, creds, aces, queue);
+    let c = check_terminal(tables, queue);
     let Check::Pass = c else {
         return c;
     };
-    let c = check_record(h.ncreds, creds, rec);
+    let c = check_record(tables.head.ncreds, tables.creds, rec);
     let Check::Pass = c else {
         return c;
     };
@@ -67,20 +61,14 @@ fn kept(h: Head) -> Judgement
 
 // Hands a record in: the answer, with permission 0 and all else empty. The tables stay as they are.
 // Rules out: a second record kept for its sender; a record that lost a byte; a byte of the memory changed on a refusal; an answer 0 that permits.
-pub fn hand_in<'a>(
-    h: Head,
-    creds: &'a [u8; CRED_ROWS],
-    aces: &'a [u8; ACE_ROWS],
-    queue: &mut [u8; QUEUE],
-    rec: &[u8],
-) -> Judgement
-    ensures { HandsIn (terminal (before h creds aces) queue.old)
-        (was rec) (result_with result (was creds) (was aces)) queue.new }
+pub fn hand_in(tables: TablesView<'_>, queue: &mut [u8; QUEUE], rec: &[u8]) -> Judgement
+    ensures { HandsIn (terminal (seen tables.entry) queue.old)
+        (was rec) (result_with result tables.entry.creds.now tables.entry.aces.now) queue.new }
 {
-    let c = check_hand_in(h, creds, aces, queue, rec);
+    let c = check_hand_in(tables, queue, rec);
     let Check::Pass = c else {
-        return Judgement::number_alone(h, c);
+        return Judgement::number_alone(tables.head, c);
     };
     queue::enqueue(queue, rec);
-    kept(h)
+    kept(tables.head)
 }

@@ -13,6 +13,7 @@ pub fn read_full<R: Read>(input: &mut R, buf: &mut [u8]) -> usize
     ensures part { result ≤ length buf.new }
     ensures room { length buf.new ≡ length buf.old }
 {
+    // A loop by hand: std's `read_exact` does not say how many bytes came before the end, and `read_to_end` asks for a heap.
     let mut done = 0;
     while done < buf.len() {
         let n = input.read(&mut buf[done..]).unwrap_or(0);
@@ -47,10 +48,9 @@ pub fn read_file(
 fn report(rt: &(impl Eprint + AllocGlobal), path: &str, error: &io::Error) {
     if let Ok(text) = format!(in rt.alloc(); "{error}") {
         let said = text.as_str();
-        let said = match said.split_once(" (os error ") {
-            Some((words, _)) => words,
-            None => said,
-        };
+        let said = said
+            .split_once(" (os error ")
+            .map_or(said, |(words, _)| words);
         let _ = eprintln!(rt; "{path}: {said}");
     }
 }

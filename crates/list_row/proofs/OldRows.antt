@@ -2,6 +2,7 @@
 use Rattle.rows.proofs.Prelude.{◌≡◌, sym, ap, ◌∙◌, true, false, not, ◌||◌, List, [], ◌∷◌, ◌++◌, append_assoc, append-nil, ℕ, ◌+◌, ◌*◌, ◌/◌, ◌%◌, ◌≤◌, ◌<◌}
 use Rattle.rows.proofs.Prelude.{arith, zero, suc, ◌-◌, length, take, drop, get_or, replicate, length-append, drop_of_length-le, take_all, eqb}
 use mathlib.Core.Bool.{not-not}
+use Rattle.std.specs.Int.{w16, to_be_bytes}
 use Rattle.text.specs.Buffer.{written, largest, Puts}
 use Rattle.text.proofs.Buffers.{puts_then, written_start}
 use Rattle.rows.specs.Rows.{Row, joined, with_row}
@@ -55,16 +56,17 @@ exact {o} text h p =
     p.buffer ∙ written_start o text fits ∙ rw (drop_of_length-le o all, append-nil)
 
 -- the row that is made, where an old row has its 25 bytes and a subject its 16
-pub row_is : {o₁ o₂ o₃ o₄ : List ℕ} {r₁ r₂ r₃ r₄ : ℕ} (i kind : ℕ) (subject row set : List ℕ) (b : ℕ) → kind < 4 → length subject ≡ 16 → length row ≡ 25
-    → b ≡ get_or (take 25 row) 16 0 → b < 256 → set ≡ old_set (take 25 row)
-    → Puts (replicate ace_row_size 0) 0 (i / 256 ∷ i % 256 ∷ (kind * 64 + b / 8 * 2) ∷ 0 ∷ []) o₁ r₁ → Puts o₁ r₁ set o₂ r₂ → Puts o₂ r₂ (take 16 subject) o₃ r₃
+pub row_is : {o₁ o₂ o₃ o₄ number : List ℕ} {r₁ r₂ r₃ r₄ : ℕ} (i kind : ℕ) (subject row set : List ℕ) (b : ℕ) → kind < 4 → length subject ≡ 16 → length row ≡ 25
+    → number ≡ to_be_bytes w16 i → i < 65536 → b ≡ get_or (take 25 row) 16 0 → b < 256 → set ≡ old_set (take 25 row)
+    → Puts (replicate ace_row_size 0) 0 (get_or number 0 0 ∷ get_or number 1 0 ∷ (kind * 64 + b / 8 * 2) ∷ 0 ∷ []) o₁ r₁ → Puts o₁ r₁ set o₂ r₂ → Puts o₂ r₂ (take 16 subject) o₃ r₃
     → Puts o₃ r₃ every_second o₄ r₄
     → o₄ ≡ be16 i ++ entry kind subject row
-row_is i kind subject row set b k l m e n f p q r s =
+row_is i kind subject row set b k l m d j e n f p q r s =
+    let high : i / 256 % 256 ≡ i / 256 = omega arith in
     let w = take_all 25 row (omega arith) in
     let v = take_all 16 subject (omega arith) in
     exact (be16 i ++ entry kind subject row) (sym (made i kind subject row k m l).long)
-    (row_puts i kind subject set row b (omega arith) (e ∙ ap (λ (x : Row). get_or x 16 0) w) n (f ∙ ap (λ (x : Row). old_set x) w) p q (rw v at r) s)
+    (row_puts i kind subject set row b (omega arith) (e ∙ ap (λ (x : Row). get_or x 16 0) w) n (f ∙ ap (λ (x : Row). old_set x) w) (rw (d, high) at p) q (rw v at r) s)
 
 -- ---- that row put over a part of the buffer
 

@@ -11,7 +11,7 @@ ghost use Rattle.rules_legacy.specs.OldList.{is_anybody, bad_row};
 ghost use Rattle.rules_legacy.specs.Conversion.{entry, connection_entry, entries_of, numbered_from};
 ghost use Rattle.rules.specs.Sizes.{ace_row_size};
 
-use fields::{ace, skip};
+use fields::{ace, byte_at, skip};
 use row_format::is_nil;
 use rows::part;
 use rules::ACE_ROW;
@@ -39,11 +39,7 @@ const EVERY_SECOND: [u8; 8] = [0, 0, 0, 0, 255, 255, 255, 255];
 fn flags(row: &[u8]) -> u8
     ensures { result ≡ get_or (was row) 16 0 }
 {
-    if FLAGS_AT < row.len() {
-        row[FLAGS_AT]
-    } else {
-        0
-    }
+    byte_at(row, FLAGS_AT)
 }
 
 // Whether a zero bit is set or an unknown resource is in the set, which is 13 bytes later than in an access row.
@@ -76,12 +72,8 @@ fn row_made(number: u16, kind: u8, subject: &[u8], row: &[u8]) -> [u8; ACE_ROW]
     ensures { result ≡ be16 number ++ entry kind (was subject) (was row) }
 {
     let old = &row[..OLD_ROW];
-    let head = [
-        (number / 256) as u8,
-        (number % 256) as u8,
-        kind * 64 + flags(old) / 8 * 2,
-        0,
-    ];
+    let [high, low] = number.to_be_bytes();
+    let head = [high, low, kind * 64 + flags(old) / 8 * 2, 0];
     let mut made = [0u8; ACE_ROW];
     let p = put(&mut made, 0, &head);
     let p = put(&mut made, p, part(old, SET_AT, SET_BYTES));

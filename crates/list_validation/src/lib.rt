@@ -8,7 +8,7 @@ ghost use Rattle.rows.specs.Rows.{rows_of};
 ghost use Rattle.rules.specs.declared.Table.TheVariants.{Aces};
 ghost use Rattle.rules.specs.Tables.{storable};
 ghost use Rattle.rules.specs.Checks.{verdict};
-ghost use Rattle.rules_lists.specs.Lists.{excessive, rows_tested, list_tested};
+ghost use Rattle.rules_lists.specs.Lists.{excessive, tested_of, rows_tested, list_tested};
 ghost use Rattle.rules.specs.Sizes.{ace_row_size};
 
 use fields::ace;
@@ -16,18 +16,18 @@ use permission_row::row_alters;
 use row_format::ace_storable;
 use rows::part;
 use rows_distinct::before_repeat;
-use rules::{ACE_ROW, ACES, Check};
-use rules_lists::Tested;
-
-// Access rows at most.
-const MOST_ROWS: usize = ACES as usize;
+use rules::{ACE_ROW, ACES, Check, Subject};
+use rules_lists::ListError;
 
 // Whether the row gives a role or a connection create, update or delete on a security resource.
+#[tactic(auto, unfolding(rules_lists::specs::Lists::excessive))]
 fn excessive(row: &[u8]) -> bool
     ensures { result ≡ excessive (was row) }
 {
-    let kind = ace::kind(row);
-    ((kind == 1) | (kind == 2)) & row_alters(row)
+    match ace::kind(row) {
+        Subject::Role | Subject::Connection => row_alters(row),
+        Subject::Uuid | Subject::Other => false,
+    }
 }
 
 // Checks 20 and 21 of a row; `again` says whether an earlier row has its number.
@@ -43,34 +43,29 @@ fn check_row(row: &[u8], again: bool) -> Check
 }
 
 // The rows of a list whose size is good.
-fn test_rows(rows: &[u8], count: usize) -> Tested
+fn test_rows(rows: &[u8], count: usize) -> Result<(), ListError>
     requires { count * ace_row_size ≤ length rows.now }
-    ensures { result ≡ rows_tested [] (rows_of ace_row_size count (was rows)) }
+    ensures { tested_of result ≡ rows_tested [] (rows_of ace_row_size count (was rows)) }
 {
     let repeat = before_repeat(rows, ACE_ROW, count);
-    let mut i = 0;
-    while i < count {
+    for i in 0..count {
         let row = part(rows, i * ACE_ROW, ACE_ROW);
-        if let Check::Refuse(n) = check_row(row, i == repeat) {
-            return Tested {
-                answer: n,
-                row: i + 1,
-            };
+        if let Check::Refuse(fault) = check_row(row, i == repeat) {
+            return Err(ListError::BadRow { fault, row: i + 1 });
         }
-        i += 1;
     }
-    Tested { answer: 0, row: 0 }
+    Ok(())
 }
 
-// What is reported of the list: 0 and row 0 where it is accepted, 19 and row 0 for its size, else the fault of the first bad row, counted from 1.
+// The first fault of the list: its size, else that of the first bad row, counted from 1.
 // Rules out: a list of 33 rows; a later bad row named; a number that occurs twice; a row for a
 // connection that gives UPDATE of acl2; 21 for a row that could not be stored.
-pub fn test_list(rows: &[u8]) -> Tested
-    ensures { result ≡ list_tested (was rows) }
+pub fn test_list(rows: &[u8]) -> Result<(), ListError>
+    ensures { tested_of result ≡ list_tested (was rows) }
 {
     let count = rows.len() / ACE_ROW;
-    if (rows.len() % ACE_ROW != 0) | (MOST_ROWS < count) {
-        return Tested { answer: 19, row: 0 };
+    if (rows.len() % ACE_ROW != 0) | (count > ACES as usize) {
+        return Err(ListError::BadSize);
     }
     test_rows(rows, count)
 }

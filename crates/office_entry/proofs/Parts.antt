@@ -2,10 +2,14 @@
 use Rattle.rows.proofs.Prelude.{◌≡◌, sym, ap, ◌∙◌, List, [], ◌∷◌, ◌++◌, append_assoc, append-nil, ℕ, ◌≤◌, length}
 use Rattle.text.specs.Text.{ascii, decimal}
 use Rattle.text.specs.Buffer.{largest, Puts}
-use Rattle.text.proofs.Buffers.{puts_then}
+use Rattle.text.proofs.Buffers.{puts_none, puts_then}
+use Rattle.std.proofs.lemmas.Bool.Decides.{nat_tests}
 use Rattle.rows.specs.Rows.{Row, joined}
 use Rattle.rules.specs.Bodies.{row_number, ace_permission, ace_authority, ace_role}
 use Rattle.rules_office.specs.Office.{role_subject, subject_text, resources_text, row_text}
+
+-- for functions that test a number: what the tests tell, and that no text was put
+pub ruleset tested = (puts_none, nat_tests)
 
 three : (a b c : List ℕ) → (a ++ b) ++ c ≡ joined (a ∷ b ∷ c ∷ [])
 unfolding joined
@@ -28,13 +32,13 @@ role_puts w a n e f h =
     rw (← e, ← f, ← pairs (ascii "{\"authority\":\"") (decimal a) (ascii "\",\"role\":\"") (decimal n) (ascii "\"}")) h
 
 -- a key before each of four values, and the end
-pub keyed : (k a l b m c n d e : List ℕ) → ((((k ++ a) ++ (l ++ b)) ++ (m ++ c)) ++ (n ++ d)) ++ e ≡ joined (k ∷ a ∷ l ∷ b ∷ m ∷ c ∷ n ∷ d ∷ e ∷ [])
+pub keyed : (k a l b m c n d e : List ℕ) → ((((((k ++ a) ++ l) ++ b) ++ m) ++ c) ++ (n ++ d)) ++ e ≡ joined (k ∷ a ∷ l ∷ b ∷ m ∷ c ∷ n ∷ d ∷ e ∷ [])
 unfolding joined
 keyed k a l b m c n d e = simp (append_assoc, append-nil)
 
 -- the text of a row, by its number and its permission
 pub row_puts : {o o' : List ℕ} {at r : ℕ} (w : Row) (n p : ℕ) → n ≡ row_number w → p ≡ ace_permission w
-    → Puts o at (((((ascii "{\"aceid\":" ++ decimal n) ++ (ascii ",\"subject\":" ++ subject_text w)) ++ (ascii ",\"resources\":[" ++ resources_text w))
+    → Puts o at (((((((ascii "{\"aceid\":" ++ decimal n) ++ ascii ",\"subject\":") ++ subject_text w) ++ ascii ",\"resources\":[") ++ resources_text w)
     ++ (ascii "],\"permission\":" ++ decimal p))
     ++ ascii "}")
     o' r

@@ -14,35 +14,30 @@ use office_resources::put_resources;
 use rules::Subject;
 use text::{direct, put, put_byte, put_decimal};
 
+#[tactic(auto, using(crate::proofs::Parts::tested), unfolding(rules_office::specs::Office::hex_digit))]
 fn hex_digit(d: u8) -> u8
     requires { d < 16 }
     ensures { result ≡ hex_digit d }
 {
-    if d < 10 {
-        return 48 + d;
-    }
-    87 + d
+    if d < 10 { b'0' + d } else { b'a' + (d - 10) }
 }
 
+#[tactic(auto, using(crate::proofs::Parts::tested), unfolding(rules_office::specs::Office::dashed))]
 fn is_dashed(i: usize) -> bool
     ensures { result ≡ dashed i }
 {
-    match i {
-        4 => true,
-        6 => true,
-        8 => true,
-        10 => true,
-        _ => false,
-    }
+    matches!(i, 4 | 6 | 8 | 10)
 }
 
+#[tactic(auto, using(crate::proofs::Parts::tested), unfolding(rules_office::specs::Office::dash, text::specs::Text::ascii))]
 fn put_dash(out: &mut [u8], at: usize, i: usize) -> usize
     ensures { Puts out.old at (dash i) out.new result }
 {
     if is_dashed(i) {
-        return direct::put(out, at, b"-");
+        put_byte(out, at, b'-')
+    } else {
+        at
     }
-    direct::put(out, at, b"")
 }
 
 // Byte i of a UUID: a dash before some, and two digits.
@@ -58,10 +53,8 @@ fn put_uuid(out: &mut [u8], at: usize, u: &[u8]) -> usize
     ensures { Puts out.old at (uuid_text (was u)) out.new result }
 {
     let mut p = at;
-    let mut i = 0;
-    while i < u.len() {
-        p = put_hex(out, p, i, u[i]);
-        i += 1;
+    for (i, byte) in u.iter().enumerate() {
+        p = put_hex(out, p, i, *byte);
     }
     p
 }
@@ -79,7 +72,7 @@ fn put_number(out: &mut [u8], at: usize, key: &[u8], n: u16) -> usize
     ensures { Puts out.old at (was key ++ decimal n) out.new result }
 {
     let p = put(out, at, key);
-    put_decimal(out, p, n as usize)
+    put_decimal(out, p, usize::from(n))
 }
 
 fn put_role_subject(out: &mut [u8], at: usize, row: &[u8]) -> usize
@@ -90,41 +83,27 @@ fn put_role_subject(out: &mut [u8], at: usize, row: &[u8]) -> usize
     direct::put(out, p, b"\"}")
 }
 
+#[tactic(auto, unfolding(rules_office::specs::Office::connection_subject, text::specs::Text::ascii))]
 fn put_connection_subject(out: &mut [u8], at: usize, row: &[u8]) -> usize
     ensures { Puts out.old at (connection_subject (was row)) out.new result }
 {
     if ace::connection(row) == 1 {
-        return put(out, at, b"{\"conntype\":\"auth-crypt\"}");
+        put(out, at, b"{\"conntype\":\"auth-crypt\"}")
+    } else {
+        put(out, at, b"{\"conntype\":\"anon-clear\"}")
     }
-    put(out, at, b"{\"conntype\":\"anon-clear\"}")
 }
 
+#[tactic(auto, using(crate::proofs::Parts::tested), unfolding(rules_office::specs::Office::subject_text))]
 fn put_subject(out: &mut [u8], at: usize, row: &[u8]) -> usize
     ensures { Puts out.old at (subject_text (was row)) out.new result }
 {
-    let kind = ace::kind(row);
-    match kind {
-        Subject::UUID => put_uuid_subject(out, at, row),
-        Subject::ROLE => put_role_subject(out, at, row),
-        Subject::CONNECTION => put_connection_subject(out, at, row),
-        _ => put(out, at, b""),
+    match ace::kind(row) {
+        Subject::Uuid => put_uuid_subject(out, at, row),
+        Subject::Role => put_role_subject(out, at, row),
+        Subject::Connection => put_connection_subject(out, at, row),
+        Subject::Other => at,
     }
-}
-
-// A key and the subject.
-fn put_keyed_subject(out: &mut [u8], at: usize, row: &[u8]) -> usize
-    ensures { Puts out.old at (ascii ",\"subject\":" ++ subject_text (was row)) out.new result }
-{
-    let p = direct::put(out, at, b",\"subject\":");
-    put_subject(out, p, row)
-}
-
-// A key and the resources.
-fn put_keyed_resources(out: &mut [u8], at: usize, row: &[u8]) -> usize
-    ensures { Puts out.old at (ascii ",\"resources\":[" ++ resources_text (was row)) out.new result }
-{
-    let p = direct::put(out, at, b",\"resources\":[");
-    put_resources(out, p, row)
 }
 
 // The text of a row.
@@ -133,8 +112,10 @@ pub fn put_row(out: &mut [u8], at: usize, row: &[u8]) -> usize
     ensures { Puts out.old at (row_text (was row)) out.new result }
 {
     let p = put_number(out, at, b"{\"aceid\":", be16(row));
-    let p = put_keyed_subject(out, p, row);
-    let p = put_keyed_resources(out, p, row);
+    let p = direct::put(out, p, b",\"subject\":");
+    let p = put_subject(out, p, row);
+    let p = direct::put(out, p, b",\"resources\":[");
+    let p = put_resources(out, p, row);
     let p = put_number(out, p, b"],\"permission\":", ace::permission(row));
     direct::put(out, p, b"}")
 }

@@ -15,31 +15,31 @@ use Rattle.rules_office.specs.Office.{comma, separated, row_text, rows_text, lis
 use Rattle.rules_office.proofs.Bounds.{text_short}
 use Rattle.rules.specs.Sizes.{ace_row_size}
 
--- the text of that many rows, those of a shorter period left out
-abbrev pub entries : Bool → ℕ → List ℕ → List ℕ
-entries first n b = separated first (map row_text (rows_written (rows_of ace_row_size n b)))
+-- the text of these rows, those of a shorter period left out
+abbrev pub entries : Bool → List Row → List ℕ
+entries first rows = separated first (map row_text (rows_written rows))
 
 -- what one row adds
 abbrev pub entry : Bool → Row → List ℕ
 entry first w = cond (seasonal w) [] (comma first ++ row_text w)
 
-pub entries_take : (first : Bool) (n : ℕ) (b : List ℕ) → 0 < n
-    → entries first n b ≡ entry first (take ace_row_size b) ++ entries (seasonal (take ace_row_size b) && first) (n - 1) (take (length b - ace_row_size) (drop ace_row_size b))
+-- of a walk over them: the next one, and the others
+pub entries_next : (first : Bool) {w : Row} {others rows : List Row} → rows ≡ w ∷ others
+    → entries first rows ≡ entry first w ++ entries (seasonal w && first) others
 unfolding without
-entries_take first n b h = rw (rows_of_suc ace_row_size n b h, take_rest) (bool_cases (seasonal (take ace_row_size b)) (λ e. rw e) (λ e. rw e))
+entries_next first {w = w} e = rw e (bool_cases (seasonal w) (λ s. rw s) (λ s. rw s))
 
-pub entries_end : (first : Bool) (n : ℕ) (b : List ℕ) → n ≤ 0 → entries first n b ≡ []
-unfolding rows_of without
-entries_end first n b h = let e : n ≡ 0 = omega arith in ap (λ (k : ℕ). entries first k b) e
+pub entries_end : (first : Bool) {rows : List Row} → rows ≡ [] → entries first rows ≡ []
+unfolding without
+entries_end first e = rw e
 
 -- the list, in the three parts in which the code puts it
-pub list_puts : {o o₁ o₂ o₃ : List ℕ} {at r₁ r₂ r₃ : ℕ} (held : ℕ) (b : List ℕ) (n : ℕ) → length o ≤ largest → n ≡ min held 32
-    → Puts o at (ascii "{\"aclist2\":[") o₁ r₁ → Puts o₁ r₁ (rows_text (rows_written (rows_of ace_row_size n b))) o₂ r₂ → Puts o₂ r₂ (ascii "]}") o₃ r₃
-    → Puts o at (list_text (rows_written (rows_in Aces held b))) o₃ r₃
-unfolding list_text rows_in joined
-list_puts held b n h e p q r =
-    rw (← e, append-nil, ← append_assoc (ascii "{\"aclist2\":[") (rows_text (rows_written (rows_of ace_row_size n b))) (ascii "]}"))
-    (puts_then h (puts_then h p q) r)
+pub list_puts : {o o₁ o₂ o₃ : List ℕ} {at r₁ r₂ r₃ : ℕ} (rows : List Row) → length o ≤ largest
+    → Puts o at (ascii "{\"aclist2\":[") o₁ r₁ → Puts o₁ r₁ (rows_text (rows_written rows)) o₂ r₂ → Puts o₂ r₂ (ascii "]}") o₃ r₃
+    → Puts o at (list_text (rows_written rows)) o₃ r₃
+unfolding list_text joined
+list_puts rows h p q r =
+    rw (append-nil, ← append_assoc (ascii "{\"aclist2\":[") (rows_text (rows_written rows)) (ascii "]}")) (puts_then h (puts_then h p q) r)
 
 -- ---- the three ends
 

@@ -4,8 +4,9 @@
 #![tactic(auto)]
 
 ghost use Rattle.std.specs.Prelude.{◌≡◌, cond, [], ◌++◌, ◌*◌, ◌≤◌, ltb, length};
+ghost use Rattle.std.specs.Result.{result_unwrap_or};
 ghost use Rattle.text.specs.Buffer.{Puts};
-ghost use Rattle.rows.specs.Rows.{rows_of};
+ghost use Rattle.rows.specs.Listed.{listed};
 ghost use Rattle.rules.specs.declared.Table.TheVariants.{Aces};
 ghost use Rattle.rules.specs.Tables.{rows_in};
 ghost use Rattle.rules.specs.Promises.Words.{was, before};
@@ -14,12 +15,13 @@ ghost use Rattle.rules.specs.Checks.{number_of};
 ghost use Rattle.rules_terminal.specs.Terminal.{terminal};
 ghost use Rattle.rules_office.specs.Office.{comma, row_text, rows_text, seasonal, rows_written, list_text, office_verdict, office_reply};
 ghost use Rattle.rules.specs.Sizes.{ace_row_size};
+ghost use Rattle.office_list.specs.Answers.{refusal, answer_of};
 
 use check_waiting::terminal_sound;
-use fields::{ace, capped};
+use fields::{ace, ace_rows};
 use office_entry::put_row;
 use office_resources::put_comma;
-use rows::part;
+use rows::Rows;
 use rules::{ACE_ROW, ACE_ROWS, ACES, CRED_ROWS, Head};
 use rules_terminal::QUEUE;
 use text::{direct, put};
@@ -27,19 +29,32 @@ use text::{direct, put};
 // Bytes that fit every text (`text_short`, rules_office/proofs/Bounds.antt).
 const TEXT_MAX: usize = 13069;
 
-// The result: 0, 17 or 18, and how many bytes were written.
-#[repr(C)]
-#[derive(Clone, Copy)]
-pub struct Listed {
-    pub answer: u8,
-    pub length: usize,
+// Why no text is written.
+#[derive(Clone, Copy, Debug, PartialEq, Eq)]
+pub enum TextError {
+    // the tables or the queue are not sound
+    NotSound,
+    // the buffer holds fewer bytes than the text
+    TooShort,
+}
+
+// The answer's number.
+impl From<TextError> for u8 {
+    ghost from_gives = { λ error number. number ≡ refusal error };
+
+    fn from(error: TextError) -> u8 {
+        match error {
+            TextError::NotSound => 17,
+            TextError::TooShort => 18,
+        }
+    }
 }
 
 // Whether a row holds for a shorter period than every second.
 fn is_seasonal(row: &[u8]) -> bool
     ensures { result ≡ seasonal (was row) }
 {
-    !((ace::first(row) == 0) & (ace::last(row) == 4294967295))
+    !((ace::first(row) == 0) & (ace::last(row) == u32::MAX))
 }
 
 // A row after its comma, or nothing where the row is left out.
@@ -53,20 +68,14 @@ fn put_entry(out: &mut [u8], at: usize, first: bool, row: &[u8]) -> usize
     put_row(out, p, row)
 }
 
-fn put_rows(out: &mut [u8], at: usize, rows: &[u8], count: usize) -> usize
-    requires { count * ace_row_size ≤ length rows.now }
-    ensures { Puts out.old at (rows_text (rows_written (rows_of ace_row_size count (was rows)))) out.new result }
+fn put_rows(out: &mut [u8], at: usize, rows: Rows<'_>) -> usize
+    ensures { Puts out.old at (rows_text (rows_written (listed rows.entry))) out.new result }
 {
     let mut p = at;
     let mut first = true;
-    let mut rest = rows;
-    let mut left = count;
-    while 0 < left {
-        let row = part(rest, 0, ACE_ROW);
+    for row in rows.iter() {
         p = put_entry(out, p, first, row);
         first = is_seasonal(row) & first;
-        rest = &rest[ACE_ROW..];
-        left -= 1;
     }
     p
 }
@@ -75,8 +84,7 @@ fn put_list(out: &mut [u8], naces: u8, aces: &[u8; ACE_ROWS]) -> usize
     ensures { Puts out.old 0 (list_text (rows_written (rows_in Aces naces (was aces)))) out.new result }
 {
     let p = put(out, 0, b"{\"aclist2\":[");
-    let count = capped(naces, ACES);
-    let p = put_rows(out, p, aces, count);
+    let p = put_rows(out, p, ace_rows(naces, aces));
     put(out, p, b"]}")
 }
 
@@ -88,12 +96,10 @@ fn is_too_short(capacity: usize, naces: u8, aces: &[u8; ACE_ROWS]) -> bool
     if TEXT_MAX <= capacity {
         return false;
     }
-    let mut none = [0u8; 0];
-    let n = put_list(&mut none, naces, aces);
-    capacity < n
+    capacity < put_list(&mut [], naces, aces)
 }
 
-// The tables' access list as office text: the answer, the length of the text, and the caller's buffer afterwards.
+// The tables' access list as office text: the length of the text, and the caller's buffer afterwards.
 // Rules out: a byte written on 18; 18 where the text fits exactly; the text of tables that are
 // not sound, be it only in the queue; a row of a shorter period in the text.
 pub fn access_list<'a>(
@@ -102,26 +108,16 @@ pub fn access_list<'a>(
     aces: &'a [u8; ACE_ROWS],
     queue: &[u8; QUEUE],
     out: &mut [u8],
-) -> Listed
-    ensures answer { result.answer ≡ number_of (office_verdict (terminal (before h creds aces) (was queue)) (length out.old)) }
-    ensures length { result.length ≡ length (office_reply (terminal (before h creds aces) (was queue)) (length out.old)) }
+) -> Result<usize, TextError>
+    ensures answer { answer_of result ≡ number_of (office_verdict (terminal (before h creds aces) (was queue)) (length out.old)) }
+    ensures length { result_unwrap_or result 0 ≡ length (office_reply (terminal (before h creds aces) (was queue)) (length out.old)) }
     ensures buffer { out.new ≡ filled out.old (office_reply (terminal (before h creds aces) (was queue)) (length out.old)) }
 {
     if !terminal_sound(h, creds, aces, queue) {
-        return Listed {
-            answer: 17,
-            length: 0,
-        };
+        return Err(TextError::NotSound);
     }
     if is_too_short(out.len(), h.naces, aces) {
-        return Listed {
-            answer: 18,
-            length: 0,
-        };
+        return Err(TextError::TooShort);
     }
-    let n = put_list(out, h.naces, aces);
-    Listed {
-        answer: 0,
-        length: n,
-    }
+    Ok(put_list(out, h.naces, aces))
 }

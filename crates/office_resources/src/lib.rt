@@ -2,7 +2,7 @@
 // Every public function is total: a byte past the buffer's end is not written, and the position goes on.
 #![tactic(auto)]
 
-ghost use Rattle.std.specs.Prelude.{cond, [], ◌++◌, map, length, drop};
+ghost use Rattle.std.specs.Prelude.{◌≡◌, cond, [], ◌++◌, map, length, drop};
 ghost use Rattle.rows.specs.Words.{was};
 ghost use Rattle.text.specs.Text.{ascii};
 ghost use Rattle.text.specs.Buffer.{Puts};
@@ -19,65 +19,42 @@ pub fn put_comma(out: &mut [u8], at: usize, first: bool) -> usize
     ensures { Puts out.old at (comma first) out.new result }
 {
     if first {
-        return direct::put(out, at, b"");
-    }
-    direct::put(out, at, b",")
-}
-
-// The names of the application resources, which are in `names` after the five of security.
-fn put_application(out: &mut [u8], at: usize, n: u16) -> usize
-    ensures { Puts out.old at (ascii (lookup n (drop 5 names) "")) out.new result }
-{
-    match n {
-        Resource::WEIGHT => direct::put(out, at, b"/weight"),
-        Resource::TARE => direct::put(out, at, b"/tare"),
-        Resource::ZERO => direct::put(out, at, b"/zero"),
-        Resource::TICKET => direct::put(out, at, b"/ticket"),
-        Resource::LAMP => direct::put(out, at, b"/lamp"),
-        Resource::CALIB => direct::put(out, at, b"/calib"),
-        Resource::DISPLAY => direct::put(out, at, b"/display"),
-        Resource::YARD => direct::put(out, at, b"/yard"),
-        _ => put(out, at, b""),
+        at
+    } else {
+        direct::put(out, at, b",")
     }
 }
 
 // The name of resource n; a number that is not known has none.
-// In two groups, the first handing on to the second, since what a match costs to prove grows faster than its arms.
-fn put_name(out: &mut [u8], at: usize, n: u16) -> usize
-    ensures { Puts out.old at (ascii (lookup n names "")) out.new result }
+fn name_of(n: u16) -> &'static [u8]
+    ensures { result.now ≡ ascii (lookup n names "") }
 {
     match n {
-        Resource::DOXM => put(out, at, b"/oic/sec/doxm"),
-        Resource::PSTAT => put(out, at, b"/oic/sec/pstat"),
-        Resource::CRED => put(out, at, b"/oic/sec/cred"),
-        Resource::ACL2 => put(out, at, b"/oic/sec/acl2"),
-        Resource::ROLES => put(out, at, b"/oic/sec/roles"),
-        _ => put_application(out, at, n),
+        Resource::DOXM => b"/oic/sec/doxm",
+        Resource::PSTAT => b"/oic/sec/pstat",
+        Resource::CRED => b"/oic/sec/cred",
+        Resource::ACL2 => b"/oic/sec/acl2",
+        Resource::ROLES => b"/oic/sec/roles",
+        Resource::WEIGHT => b"/weight",
+        Resource::TARE => b"/tare",
+        Resource::ZERO => b"/zero",
+        Resource::TICKET => b"/ticket",
+        Resource::LAMP => b"/lamp",
+        Resource::CALIB => b"/calib",
+        Resource::DISPLAY => b"/display",
+        Resource::YARD => b"/yard",
+        _ => b"",
     }
 }
 
-// Resource n, if the row names it.
-fn put_item(out: &mut [u8], at: usize, first: bool, named: bool, n: u16) -> usize
-    ensures { Puts out.old at (cond named (comma first ++ braced (href (lookup n names ""))) []) out.new result }
+// What a row names: its key and its value.
+fn put_choice(out: &mut [u8], at: usize, first: bool, key: &[u8], value: &[u8]) -> usize
+    ensures { Puts out.old at (comma first ++ (was key ++ (was value ++ ascii "\"}"))) out.new result }
 {
-    if !named {
-        return direct::put(out, at, b"");
-    }
     let p = put_comma(out, at, first);
-    let q = direct::put(out, p, b"{\"href\":\"");
-    let r = put_name(out, q, n);
-    direct::put(out, r, b"\"}")
-}
-
-// A wildcard's text, if the row names it.
-fn put_wildcard(out: &mut [u8], at: usize, first: bool, named: bool, text: &[u8]) -> usize
-    ensures { Puts out.old at (cond named (comma first ++ was text) []) out.new result }
-{
-    if !named {
-        return direct::put(out, at, b"");
-    }
-    let p = put_comma(out, at, first);
-    put(out, p, text)
+    let p = direct::put(out, p, key);
+    let p = put(out, p, value);
+    direct::put(out, p, b"\"}")
 }
 
 // The wildcards: what may be named after the known resources.
@@ -85,12 +62,21 @@ fn put_wildcards(out: &mut [u8], at: usize, first: bool, row: &[u8]) -> usize
     ensures { Puts out.old at
         (separated first (map braced (picked (drop (length names) (chosen (was row))) (drop (length names) choices)))) out.new result }
 {
-    let plus = ace::plus(row);
-    let minus = ace::minus(row);
-    let star = ace::star(row);
-    let p = put_wildcard(out, at, first, plus, b"{\"wc\":\"+\"}");
-    let q = put_wildcard(out, p, !plus & first, minus, b"{\"wc\":\"-\"}");
-    put_wildcard(out, q, !minus & (!plus & first), star, b"{\"wc\":\"*\"}")
+    let key = b"{\"wc\":\"";
+    let mut p = at;
+    let mut first = first;
+    if ace::plus(row) {
+        p = put_choice(out, p, first, key, b"+");
+        first = false;
+    }
+    if ace::minus(row) {
+        p = put_choice(out, p, first, key, b"-");
+        first = false;
+    }
+    if ace::star(row) {
+        p = put_choice(out, p, first, key, b"*");
+    }
+    p
 }
 
 // The numbers of the known resources.
@@ -103,13 +89,11 @@ pub fn put_resources(out: &mut [u8], at: usize, row: &[u8]) -> usize
 {
     let mut p = at;
     let mut first = true;
-    let mut k = 0;
-    while k < NUMBERS.len() {
-        let n = NUMBERS[k];
-        let named = ace::in_set(row, n);
-        p = put_item(out, p, first, named, n);
-        first = !named & first;
-        k += 1;
+    for n in NUMBERS {
+        if ace::in_set(row, n) {
+            p = put_choice(out, p, first, b"{\"href\":\"", name_of(n));
+            first = false;
+        }
     }
     put_wildcards(out, p, first, row)
 }

@@ -1,52 +1,23 @@
 -- Laws of the slot whose turn it is, as the code finds it.
-use Rattle.rows.proofs.Prelude.{◌≡◌, refl, sym, ap, ◌∙◌, Bool, true, false, cond, List, [], ◌∷◌, ◌++◌, map, append-nil, ℕ, zero, suc, ◌+◌, ◌-◌, ◌*◌, ◌≤◌, ◌<◌}
-use Rattle.rows.proofs.Prelude.{arith, length, take, drop, get_or, drop_of_length-le, length-drop, length-map, length-take-le, take_all, take-take, eq-eqb}
-use Rattle.rows.proofs.Prelude.{ne_eqb, cond_cases, bool_cases}
+use Rattle.rows.proofs.Prelude.{◌≡◌, refl, sym, ap, ap₂, ◌∙◌, append_assoc, eqb, Bool, true, false, cond, List, [], ◌∷◌, ◌++◌, map, append-nil, ℕ, ◌+◌, ◌≤◌}
+use Rattle.rows.proofs.Prelude.{arith, length, take, drop, drop_of_length-le, length-map, take_all, cond_cases, bool_cases}
 use Rattle.std.specs.Prelude.{Option, Some, None}
-use Rattle.rows.specs.Rows.{Row, rows_of, all_zero, same, has_key, some, rows_before}
+use Rattle.std.proofs.lemmas.List.{map-append, drop-map, take-map}
+use Rattle.std.proofs.lemmas.Iterator.{YieldsList}
+use denote.Ref.{Bor}
+use Rattle.std.specs.Iterator.Adapters.{once_item, once_steps}
+use Rattle.std.specs.declared.iter.Once.{Once}
+use Rattle.rows.specs.Rows.{Row, same, has_key, some, rows_before}
 use Rattle.rows.specs.Promises.{index_from, index_of}
-use Rattle.rows.proofs.Laws.{found_cases, take_rest, a_row, next_fits, rows_of_suc, length_rows_of, rows_of_take, rows_of_drop}
-use Rattle.rules.specs.declared.Table.TheVariants.{Creds}
+use Rattle.std.specs.Cmp.Lexicographic.{pointwise}
+use Rattle.rows.proofs.Walk.{same_is}
+use Rattle.rows.proofs.Laws.{found_cases}
 use Rattle.rules.specs.Bits.{be16}
-use Rattle.rules.specs.Tables.{stride}
-use Rattle.rules_terminal.specs.Slots.{Seat, Round, anew, after_seat, round_of, slot_size}
+use Rattle.rules_terminal.specs.Slots.{Seat, Round, anew, after_seat}
 use Rattle.rules_terminal.specs.Round.{nobody, is_seat, start, in_turn}
 use Rattle.rules_terminal.proofs.SeatLaws.{index_bound}
-use Rattle.queue.proofs.Laws.{key_same, zero_seat}
+use Rattle.queue.proofs.Laws.{key_same}
 use Rattle.queue_turn.specs.Turns.{or_else, slot_in, rows_ahead}
-
--- ---- the loop over credential rows
-
--- one row more
-slot_more : (ws : List Row) (left : ℕ) (rest : List ℕ) → 0 < left
-    → slot_in ws (map (take 2) (rows_of (stride Creds) left rest))
-    ≡ or_else (index_of (has_key 0 (take 2 rest)) ws) (slot_in ws (map (take 2) (rows_of (stride Creds) (left - 1) (drop (stride Creds) rest))))
-unfolding slot_in
-slot_more ws left rest h = rw (rows_of_suc (stride Creds) left rest h, take-take 2 (stride Creds) rest (omega arith))
-
-module _ (creds slots : List ℕ) (count kept : ℕ) where
-  pub record Inv (rest : List ℕ) (left : ℕ) : Type 0 where
-    pub fits : left * stride Creds ≤ length rest
-    pub slot : slot_in (rows_of slot_size kept slots) (map (take 2) (rows_of (stride Creds) count creds))
-        ≡ slot_in (rows_of slot_size kept slots) (map (take 2) (rows_of (stride Creds) left rest))
-
-  module _ (rest : List ℕ) (left : ℕ) (inv : Inv rest left) (more : 0 < left) where
-    pub row_here : (stride Creds) ≤ length rest
-    row_here = a_row (stride Creds) left rest more inv.fits
-
-    module _ (at : Option ℕ) (is : at ≡ index_of (has_key 0 (take 2 rest)) (rows_of slot_size kept slots)) where
-      pub found : (i : ℕ) → at ≡ Some i → Some i ≡ slot_in (rows_of slot_size kept slots) (map (take 2) (rows_of (stride Creds) count creds))
-      found i e = sym (inv.slot ∙ slot_more (rows_of slot_size kept slots) left rest more ∙ rw (sym is ∙ e))
-
-      pub again : at ≡ None → Inv (take (length rest - (stride Creds)) (drop (stride Creds) rest)) (left - 1)
-      again e = record {
-        fits = next_fits (stride Creds) left rest more inv.fits;
-        slot = inv.slot ∙ slot_more (rows_of slot_size kept slots) left rest more ∙ rw (sym is ∙ e, take_rest (stride Creds) rest);
-      }
-
-  pub none : (rest : List ℕ) (left : ℕ) → Inv rest left → left ≤ 0 → None ≡ slot_in (rows_of slot_size kept slots) (map (take 2) (rows_of (stride Creds) count creds))
-  unfolding slot_in rows_of
-  none rest left inv h = let e : left ≡ 0 = omega arith in sym (inv.slot ∙ rw e)
 
 -- ---- where the last seat is
 
@@ -64,46 +35,36 @@ abbrev pub behind : ℕ → Option ℕ → ℕ
 behind n (Some i) = i + 1
 behind n None = n
 
-module _ (count : ℕ) (creds m : List ℕ) where
-  abbrev numbers : List Seat
-  numbers = map (take 2) (rows_of (stride Creds) count creds)
+module _ (rows : List Row) (n : ℕ) (all : n ≡ length rows) where
+  numbers_all : n ≡ length (map (take 2) rows)
+  numbers_all = all ∙ sym (length-map rows (take 2))
 
-  length_numbers : length numbers ≡ count
-  length_numbers = length-map (rows_of (stride Creds) count creds) (take 2) ∙ length_rows_of (stride Creds) count creds
+  pub ahead_anew : n ≡ rows_ahead anew (map (take 2) rows)
+  unfolding rows_ahead
+  ahead_anew = numbers_all
 
-  pub before_anew : get_or m 1 0 ≡ 0 → count ≡ rows_ahead (round_of m) numbers
-  unfolding rows_ahead round_of
-  before_anew e = rw (eq-eqb (get_or m 1 0) 0 e) (sym length_numbers)
-
-  pub before_bound : (k : Round) → rows_ahead k numbers ≤ count
+  pub ahead_bound : (k : Round) → rows_ahead k (map (take 2) rows) ≤ n
   unfolding rows_ahead is_seat
-  before_bound anew = omega (arith, length_numbers)
-  before_bound (after_seat p) =
-      cond_cases (λ (j : ℕ). j ≤ count) (same p nobody) (λ _. omega arith)
-      (λ _. cond_cases (λ (j : ℕ). j ≤ count) (some (same p) numbers)
-      (λ e. omega (arith, index_bound p numbers e, length_numbers)) (λ _. omega (arith, length_numbers)))
+  ahead_bound anew = omega (arith, numbers_all)
+  ahead_bound (after_seat p) =
+      cond_cases (λ (j : ℕ). j ≤ n) (same p nobody) (λ _. omega arith)
+      (λ _. cond_cases (λ (j : ℕ). j ≤ n) (some (same p) (map (take 2) rows))
+      (λ e. omega (arith, index_bound p (map (take 2) rows) e, numbers_all)) (λ _. omega (arith, numbers_all)))
 
-  module _ (some-round : get_or m 1 0 ≡ 0 → ⊥) (four : 4 ≤ length m) where
-    abbrev seat : Seat
-    seat = take 2 (drop 2 m)
+  module _ (p : Seat) (two : length p ≡ 2) (b : Bool) (is : b ≡ pointwise eqb p (0 ∷ 0 ∷ [])) where
+    z : b ≡ same p nobody
+    unfolding be16
+    z = is ∙ same_is p (0 ∷ 0 ∷ [])
 
-    seat_two : length seat ≡ 2
-    seat_two = length-take-le 2 (drop 2 m) (omega (arith, length-drop 2 m))
-
-    round_after_lem : round_of m ≡ after_seat seat
-    unfolding round_of
-    round_after_lem = rw (ne_eqb (get_or m 1 0) 0 some-round)
-
-    pub before_zero : (b : Bool) → b ≡ all_zero (drop 0 seat) → b ≡ true → 0 ≡ rows_ahead (round_of m) numbers
+    pub ahead_nobody : b ≡ true → 0 ≡ rows_ahead (after_seat p) (map (take 2) rows)
     unfolding rows_ahead
-    before_zero b e t = sym (ap (λ (k : Round). rows_ahead k numbers) round_after_lem ∙ rw (sym (zero_seat seat seat_two b e) ∙ t))
+    ahead_nobody e = sym (rw (sym z ∙ e))
 
-    pub before_else : (b : Bool) → b ≡ all_zero (drop 0 seat) → b ≡ false
-        → behind count (index_of (has_key 0 seat) (rows_of (stride Creds) count creds)) ≡ rows_ahead (round_of m) numbers
+    pub ahead_else : b ≡ false → behind n (index_of (has_key 0 p) rows) ≡ rows_ahead (after_seat p) (map (take 2) rows)
     unfolding rows_ahead is_seat
-    before_else b z f =
-        rw (index_place 0 seat (rows_of (stride Creds) count creds) seat_two, round_after_lem, sym (zero_seat seat seat_two b z) ∙ f)
-        (bool_cases (some (same seat) numbers) (λ e. rw e (omega arith)) (λ e. rw e (sym length_numbers)))
+    ahead_else e =
+        rw (index_place 0 p rows two, sym z ∙ e)
+        (bool_cases (some (same p) (map (take 2) rows)) (λ f. rw f (omega arith)) (λ f. rw f numbers_all))
 
 -- ---- the seats in turn
 
@@ -125,53 +86,55 @@ turned (after_seat p) ns =
     bool_cases (same p nobody) (λ e. rw e)
     (λ e. bool_cases (some (same p) ns) (λ f. rw (e, f)) (λ f. rw (e, f) (anew_turned ns)))
 
-map_drop : (k : ℕ) (ws : List Row) → drop k (map (take 2) ws) ≡ map (take 2) (drop k ws)
-map_drop zero ws = refl
-map_drop (suc k) [] = refl
-map_drop (suc k) (w ∷ ws) = map_drop k ws
+-- the rows in turn, with the unauthenticated seat among them
+pub rows_turned : (k : Round) (rows : List Row) (n : ℕ) → n ≡ rows_ahead k (map (take 2) rows)
+    → map (take 2) ((drop n rows ++ (nobody ∷ [])) ++ take n rows) ≡ in_turn k (nobody ∷ map (take 2) rows)
+unfolding be16
+rows_turned k rows n e =
+    sym (turned k (map (take 2) rows) ∙ rw (← e, drop-map (take 2) n rows, take-map (take 2) n rows, map-append, map-append, append_assoc))
 
-map_take : (k : ℕ) (ws : List Row) → take k (map (take 2) ws) ≡ map (take 2) (take k ws)
-map_take zero ws = refl
-map_take (suc k) [] = refl
-map_take (suc k) (w ∷ ws) = ap (λ (l : List Seat). take 2 w ∷ l) (map_take k ws)
+-- what the walk over them answers
+pub turned_answer : (slots ws : List Row) → slots ≡ ws → (last k : Round) → last ≡ k → (rows : List Row) (n : ℕ) → n ≡ rows_ahead last (map (take 2) rows)
+    → slot_in slots (map (take 2) ((drop n rows ++ (nobody ∷ [])) ++ take n rows)) ≡ slot_in ws (in_turn k (nobody ∷ map (take 2) rows))
+turned_answer slots ws e last k f rows n is = ap₂ slot_in e (rows_turned last rows n is ∙ ap (λ (r : Round). in_turn r (nobody ∷ map (take 2) rows)) f)
 
--- the three steps of the code
-module _ (ws : List Row) (last : Round) (count : ℕ) (creds : List ℕ) (k : ℕ)
-    (here : k ≡ rows_ahead last (map (take 2) (rows_of (stride Creds) count creds))) (fits : k ≤ count) where
-  abbrev whole : Option ℕ
-  whole = slot_in ws (in_turn last (nobody ∷ map (take 2) (rows_of (stride Creds) count creds)))
+-- ---- the walk over them
 
-  parts : in_turn last (nobody ∷ map (take 2) (rows_of (stride Creds) count creds))
-      ≡ map (take 2) (rows_of (stride Creds) (count - k) (drop (k * stride Creds) creds)) ++ nobody ∷ map (take 2) (rows_of (stride Creds) k creds)
-  parts =
-      turned last (map (take 2) (rows_of (stride Creds) count creds))
-      ∙ rw (
-        ← here,
-        map_drop k (rows_of (stride Creds) count creds),
-        map_take k (rows_of (stride Creds) count creds),
-        rows_of_drop (stride Creds) k count creds fits,
-        rows_of_take (stride Creds) k count creds fits,
-      )
+pub once_gives : {s : Once (Bor Row)} (x : Bor Row) (row : Row) → once_item s ≡ Some x → x.now ≡ row → YieldsList once_steps (λ seat. seat.now) s (row ∷ [])
+once_gives {s} x row e f = record {
+  runs = (
+    λ j p. let h : None ≡ Some x = p.0 ∙ e in cc,
+    λ y j p. (let h : Some y ≡ Some x = p.0 ∙ e in cc, λ z k q. let h : Some z ≡ None = q.0 ∙ p.1 in cc),
+  );
+}
 
-  steps : whole
-      ≡ or_else (slot_in ws (map (take 2) (rows_of (stride Creds) (count - k) (drop (k * stride Creds) creds))))
-      (or_else (index_of (has_key 0 nobody) ws) (slot_in ws (map (take 2) (rows_of (stride Creds) k creds))))
+-- where a walk has seats left, and the answer is theirs
+pub record Left {S : Type 0} (steps : S → Option (Bor Row) → S → Type 0) (walk : S) (slots seats : List Row) : Type 0 where
+  pub rest : List Row
+  pub gives : YieldsList steps (λ seat. seat.now) walk rest
+  pub answer : slot_in slots (map (take 2) seats) ≡ slot_in slots (map (take 2) rest)
+
+module _ {S : Type 0} (steps : S → Option (Bor Row) → S → Type 0) (walk : S) (slots seats : List Row) (l : Left steps walk slots seats) where
+  pub at_end : (u : S) → steps walk None u → None ≡ slot_in slots (map (take 2) seats)
   unfolding slot_in
-  steps =
-      ap (slot_in ws) parts
-      ∙ slot_append ws (map (take 2) (rows_of (stride Creds) (count - k) (drop (k * stride Creds) creds)))
-      (nobody ∷ map (take 2) (rows_of (stride Creds) k creds))
+  at_end u h = sym (l.answer ∙ ap (λ (rest : List Row). slot_in slots (map (take 2) rest)) (none_left l.rest l.gives))
+    where
+      none_left : (rest : List Row) → YieldsList steps (λ seat. seat.now) walk rest → rest ≡ []
+      none_left [] g = refl
+      none_left (seat ∷ rest) g = absurd (g.runs.0 u h)
 
-  module _ (x : Option ℕ)
-      (is : x ≡ slot_in ws (map (take 2) (rows_of (stride Creds) (count - k) (take (length creds - k * stride Creds) (drop (k * stride Creds) creds))))) where
-    pub next_first : (i : ℕ) → x ≡ Some i → Some i ≡ whole
-    next_first i e = sym (steps ∙ rw (sym (rw (take_rest (k * stride Creds) creds) at is), e))
+  module _ (seat : Bor Row) (u : S) (h : steps walk (Some seat) u) where
+    more : (rest : List Row) → YieldsList steps (λ s. s.now) walk rest → slot_in slots (map (take 2) seats) ≡ slot_in slots (map (take 2) rest)
+        → (left : List Row) × YieldsList steps (λ s. s.now) u left
+        × (slot_in slots (map (take 2) seats) ≡ or_else (index_of (has_key 0 (take 2 seat.now)) slots) (slot_in slots (map (take 2) left)))
+    unfolding slot_in
+    more [] g e = absurd (g.runs seat u h)
+    more (row ∷ rest) g e =
+        let next = g.runs.1 seat u h in
+        (rest, record { runs = next.1 }, e ∙ rw (sym next.0))
 
-    module _ (e : x ≡ None) (y : Option ℕ) (at : y ≡ index_of (has_key 0 (0 ∷ 0 ∷ [])) ws) where
-      pub next_nobody : (i : ℕ) → y ≡ Some i → Some i ≡ whole
-      unfolding be16
-      next_nobody i f = sym (steps ∙ rw (sym (rw (take_rest (k * stride Creds) creds) at is), e, ← at, f))
+    pub found : (at : Option ℕ) → at ≡ index_of (has_key 0 (take 2 seat.now)) slots → (i : ℕ) → at ≡ Some i → Some i ≡ slot_in slots (map (take 2) seats)
+    found at is i e = let m = more l.rest l.gives l.answer in sym (m.2 ∙ rw (sym is ∙ e))
 
-      pub next_rest : (z : Option ℕ) → y ≡ None → z ≡ slot_in ws (map (take 2) (rows_of (stride Creds) k creds)) → z ≡ whole
-      unfolding be16
-      next_rest z f g = g ∙ sym (steps ∙ rw (sym (rw (take_rest (k * stride Creds) creds) at is), e, ← at, f))
+    pub goes_on : (at : Option ℕ) → at ≡ index_of (has_key 0 (take 2 seat.now)) slots → at ≡ None → Left steps u slots seats
+    goes_on at is e = let m = more l.rest l.gives l.answer in record { rest = m.0; gives = m.1; answer = m.2 ∙ rw (sym is ∙ e) }

@@ -1,6 +1,5 @@
 -- The coming take, as code finds it: the slot of the first seat in turn, and the record there by value.
-use Rattle.std.specs.Prelude.{suc, cond, List, [], ◌∷◌, length}
-use Rattle.std.specs.Prelude.{Option, Some, None}
+use Rattle.std.specs.Prelude.{suc, cond, List, [], ◌∷◌, length, Option, Some, None}
 use Rattle.rows.specs.Rows.{Row, same, has_key, rows_before}
 use Rattle.rows.specs.Promises.{index_of}
 use Rattle.rules_terminal.specs.Slots.{Seat, Round, anew, after_seat, padded}
@@ -9,12 +8,12 @@ use Rattle.rules_terminal.specs.Terminal.{Terminal, turn, due}
 use Rattle.queue_turn.specs.declared.Due.{Due}
 use Rattle.rules.specs.Types.{Index}
 
-abbrev pub or_else : Option ℕ → Option ℕ → Option ℕ
+abbrev pub or_else : Option Index → Option Index → Option Index
 or_else (Some i) other = Some i
 or_else None other = other
 
 -- the slot of the first of these seats in which a record waits
-unfoldable pub slot_in : List Row → List Seat → Option ℕ
+unfoldable pub slot_in : List Row → List Seat → Option Index
 slot_in slots [] = None
 slot_in slots (seat ∷ seats) = or_else (index_of (has_key 0 seat) slots) (slot_in slots seats)
 

@@ -2,89 +2,64 @@
 // The round goes from the unauthenticated seat through the credential rows, starting after the last seat taken.
 #![tactic(auto)]
 
-ghost use Rattle.std.specs.Prelude.{◌≡◌, true, false, map, ◌∷◌, ◌+◌, ◌*◌, ◌≤◌, eqb, length, take, drop};
+ghost use Rattle.std.specs.Prelude.{◌≡◌, true, false, map, ◌∷◌, eqb, length, take, drop};
 ghost use Rattle.rows.specs.Words.{was};
-ghost use Rattle.rows.specs.Rows.{rows_of, has_key};
-ghost use Rattle.rows.specs.Promises.{index_of};
-ghost use Rattle.rules.specs.declared.Table.TheVariants.{Creds};
-ghost use Rattle.rules.specs.Tables.{stride, tables_of};
+ghost use Rattle.rows.specs.Listed.{listed};
+ghost use Rattle.rules.specs.Tables.{tables_of};
 ghost use Rattle.rules_terminal.specs.Slots.{round_of, waiting, slot_size};
 ghost use Rattle.rules_terminal.specs.Round.{nobody, in_turn};
-ghost use Rattle.rules_terminal.specs.Terminal.{terminal, sound_terminal, turn};
+ghost use Rattle.rules_terminal.specs.Terminal.{terminal, sound_terminal};
+ghost use Rattle.queue.specs.Viewed.{viewed, round_from};
 ghost use Rattle.queue_turn.specs.Turns.{slot_in, rows_ahead, due_of};
 
-use fields::capped;
+use fields::cred_rows;
+use queue::{Queue, record_in};
 use rows::{Rows, part};
-use rules::{ACE_ROWS, CRED_ROW, CRED_ROWS, CREDS, Head};
-use rules_terminal::SLOT;
+use rules::{ACE_ROWS, CRED_ROWS, Head};
+use std::iter::once;
 
-// The slot of the first of these credential rows in whose seat a record waits.
-fn first_waiting(creds: &[u8], count: usize, slots: &[u8], kept: usize) -> Option<usize>
-    requires { (count * stride Creds ≤ length creds.now) × (kept * slot_size ≤ length slots.now) }
-    ensures { result ≡ slot_in (rows_of slot_size kept (was slots)) (map (take 2) (rows_of (stride Creds) count (was creds))) }
+// How many rows there are.
+fn row_count(rows: Rows<'_>) -> usize
+    ensures { result ≡ length (listed rows.entry) }
 {
-    let mut rest = creds;
-    let mut left = count;
-    while 0 < left {
-        if let Some(i) = Rows::new(slots, SLOT, kept).find(0, &rest[..2]) {
-            return Some(i);
-        }
-        rest = &rest[CRED_ROW..];
-        left -= 1;
-    }
-    None
+    rows.iter().count()
 }
 
 // How many credential rows are before the seat that is first in turn.
-fn rows_before(creds: &[u8], count: usize, m: &[u8]) -> usize
-    requires { (count * stride Creds ≤ length creds.now) × (4 ≤ length m.now) }
-    ensures { result ≡ rows_ahead (round_of (was m)) (map (take 2) (rows_of (stride Creds) count (was creds))) }
+fn rows_before(rows: Rows<'_>, last_seat: Option<[u8; 2]>) -> usize
+    ensures { result ≡ rows_ahead (round_from last_seat) (map (take 2) (listed rows.entry)) }
 {
-    if m[1] == 0 {
-        return count;
-    }
-    let seat = &m[2..4];
-    if rows::all_zero(seat, 0) {
+    let all = row_count(rows);
+    let Some(seat) = last_seat else {
+        return all;
+    };
+    if seat == [0; 2] {
         return 0;
     }
-    let Some(i) = Rows::new(creds, CRED_ROW, count).find(0, seat) else {
-        return count;
+    let Some(i) = rows.find(0, &seat) else {
+        return all;
     };
     i + 1
 }
 
 // The slot of the coming take: that of the occupied seat that comes first in turn.
-fn next_slot(creds: &[u8], count: usize, m: &[u8], slots: &[u8], kept: usize) -> Option<usize>
-    requires { (count * stride Creds ≤ length creds.now) × (4 ≤ length m.now) × (kept * slot_size ≤ length slots.now) }
-    ensures { result ≡ slot_in (rows_of slot_size kept (was slots))
-        (in_turn (round_of (was m)) (nobody ∷ map (take 2) (rows_of (stride Creds) count (was creds)))) }
+fn next_slot(rows: Rows<'_>, queue: Queue<'_>) -> Option<usize>
+    ensures { result ≡ slot_in (waiting (viewed queue.entry))
+        (in_turn (round_of (viewed queue.entry)) (nobody ∷ map (take 2) (listed rows.entry))) }
 {
-    let k = rows_before(creds, count, m);
-    let start = k * CRED_ROW;
-    let later = first_waiting(&creds[start..], count - k, slots, kept);
-    if let Some(i) = later {
-        return Some(i);
+    let slots = queue.slots();
+    let passed = rows_before(rows, queue.last_seat());
+    let nobody = [0; 2];
+    let later = rows.iter().skip(passed);
+    let seats = later
+        .chain(once(&nobody[..]))
+        .chain(rows.iter().take(passed));
+    for seat in seats {
+        if let Some(i) = slots.find(0, part(seat, 0, 2)) {
+            return Some(i);
+        }
     }
-    let none = [0; 2];
-    let shared = Rows::new(slots, SLOT, kept).find(0, &none);
-    if let Some(i) = shared {
-        return Some(i);
-    }
-    first_waiting(creds, k, slots, kept)
-}
-
-// The slot of the record whose turn it is.
-fn due_slot<'a>(h: Head, creds: &'a [u8; CRED_ROWS], aces: &'a [u8; ACE_ROWS], m: &[u8]) -> usize
-    requires { (sound_terminal (terminal (tables_of h creds.now aces.now) m.now) ≡ true) × (eqb (length (waiting m.now)) 0 ≡ false) }
-    ensures { index_of (has_key 0 (turn (terminal (tables_of h (was creds) (was aces)) (was m)))) (waiting (was m))
-        ≡ At result }
-{
-    let count = m[0] as usize;
-    let n = capped(h.ncreds, CREDS);
-    let Some(i) = next_slot(creds, n, m, &m[4..], count) else {
-        return 0;
-    };
-    i
+    None
 }
 
 // The bytes after a slot's head: its record, with zeros after.
@@ -93,11 +68,12 @@ fn record_bytes(slot: &[u8]) -> [u8; 256]
     ensures { result ≡ drop 4 (was slot) }
 {
     let mut bytes = [0; 256];
-    rows_change::put_row(&mut bytes, 256, 0, &slot[4..]);
+    bytes.copy_from_slice(&slot[4..]);
     bytes
 }
 
-// The record whose turn it is, by value with zeros after, its length and its seat.
+// The record whose turn it is, with zeros after, its length and its seat.
+// The bytes are a fixed array by value, since the library has no heap.
 #[derive(Clone, Copy)]
 pub struct Due {
     pub bytes: [u8; 256],
@@ -116,14 +92,12 @@ pub fn due_record<'a>(
     requires { (sound_terminal (terminal (tables_of h creds.now aces.now) queue.now) ≡ true) × (eqb (length (waiting queue.now)) 0 ≡ false) }
     ensures { result ≡ due_of (terminal (tables_of h (was creds) (was aces)) (was queue)) }
 {
-    let i = due_slot(h, creds, aces, queue);
-    let slots = fields::skip(queue, 4);
-    let slot = part(slots, i * SLOT, SLOT);
-    let bytes = record_bytes(slot);
-    let size = queue::record_in(slot).len();
+    let queue = Queue::new(queue);
+    let due = next_slot(cred_rows(h.ncreds, creds), queue);
+    let slot = queue.slots().row_at(due);
     Due {
-        bytes: bytes,
-        size: size,
+        bytes: record_bytes(slot),
+        size: record_in(slot).len(),
         seat: [slot[0], slot[1]],
     }
 }

@@ -13,7 +13,7 @@ ghost use Rattle.rules.specs.Checks.{refuse_if};
 ghost use Rattle.rules.specs.Promises.Callers.{caller_row};
 ghost use Rattle.rules.specs.Roles.{body_of};
 ghost use Rattle.rules.specs.Reading.{own_body, row_bytes, contents, reads, reply_to, too_short};
-ghost use Rattle.rules.specs.Promises.Words.{was, before};
+ghost use Rattle.rules.specs.Promises.Words.{was, seen};
 ghost use Rattle.rules.specs.Sizes.{cred_row_size};
 
 use asserted_roles::put_roles;
@@ -21,7 +21,7 @@ use caller::row_of;
 use fields::{capped, cred_rows};
 use rows::part;
 use rules::{
-    ACE_ROW, ACE_ROWS, ACES, CRED_BODY, CRED_ROWS, CREDS, Caller, Check, Head, Header, Resource,
+    ACE_ROW, ACES, CRED_BODY, CRED_ROWS, CREDS, Caller, Check, Head, Header, Resource, TablesView,
     Verb,
 };
 use text::direct::put;
@@ -81,21 +81,20 @@ fn put_rows(
     out: &mut [u8],
     at: usize,
     clock: u32,
-    h: Head,
-    creds: &[u8; CRED_ROWS],
-    aces: &[u8; ACE_ROWS],
+    tables: TablesView<'_>,
     found: Option<usize>,
     resource: u16,
 ) -> usize
-    ensures { Puts out.old at (row_bytes clock (before h creds aces) (row_at found (rows Creds (before h creds aces))) resource) out.new result }
+    ensures { Puts out.old at (row_bytes clock (seen tables.entry) (row_at found (rows Creds (seen tables.entry))) resource) out.new result }
 {
+    let TablesView { head, creds, aces } = tables;
     match resource {
-        Resource::CRED => put_creds(out, at, h.ncreds, creds),
+        Resource::CRED => put_creds(out, at, head.ncreds, creds),
         Resource::ACL2 => {
-            let n = capped(h.naces, ACES) * ACE_ROW;
+            let n = capped(head.naces, ACES) * ACE_ROW;
             put(out, at, part(aces, 0, n))
         }
-        Resource::ROLES => put_roles(out, at, clock, row_of(h.ncreds, creds, found)),
+        Resource::ROLES => put_roles(out, at, clock, row_of(head.ncreds, creds, found)),
         _ => put(out, at, b""),
     }
 }
@@ -103,18 +102,17 @@ fn put_rows(
 fn put_contents(
     out: &mut [u8],
     clock: u32,
-    h: Head,
-    creds: &[u8; CRED_ROWS],
-    aces: &[u8; ACE_ROWS],
+    tables: TablesView<'_>,
     found: Option<usize>,
     resource: u16,
 ) -> usize
-    ensures { Puts out.old 0 (contents clock (before h creds aces) (row_at found (rows Creds (before h creds aces))) resource) out.new result }
+    ensures { Puts out.old 0 (contents clock (seen tables.entry) (row_at found (rows Creds (seen tables.entry))) resource) out.new result }
 {
-    let p = put_own(out, 0, h, resource);
+    let head = tables.head;
+    let p = put_own(out, 0, head, resource);
     let at = resource as usize * 16;
-    let p = put(out, p, part(&h.rowners, at, 16));
-    put_rows(out, p, clock, h, creds, aces, found, resource)
+    let p = put(out, p, part(&head.rowners, at, 16));
+    put_rows(out, p, clock, tables, found, resource)
 }
 
 // RETRIEVE of a security resource.
@@ -129,43 +127,22 @@ fn is_read(h: Header) -> bool
 
 // Writes the reply to a caller to the start of the buffer, as far as the buffer goes.
 // Rules out: rows in another order; a role in the reply of cred; another sender's roles; a byte written for a record that has no reply.
-pub fn put_reply(
-    out: &mut [u8],
-    clock: u32,
-    h: Head,
-    creds: &[u8; CRED_ROWS],
-    aces: &[u8; ACE_ROWS],
-    caller: Caller,
-) -> usize
-    ensures { Puts out.old 0 (reply_to clock (before h creds aces) (caller_row (before h creds aces) caller) caller.header) out.new result }
+pub fn put_reply(out: &mut [u8], clock: u32, tables: TablesView<'_>, caller: Caller) -> usize
+    ensures { Puts out.old 0 (reply_to clock (seen tables.entry) (caller_row (seen tables.entry) caller) caller.header) out.new result }
 {
     let header = caller.header;
     if !is_read(header) {
         return put(out, 0, b"");
     }
-    put_contents(
-        out,
-        clock,
-        h,
-        creds,
-        aces,
-        caller.row,
-        header.resource.number,
-    )
+    put_contents(out, clock, tables, caller.row, header.resource.number)
 }
 
 // The length of the reply to a caller: what an empty buffer measures.
 // Rules out: a length without the row owner; a length for OBSERVE.
-pub fn reply_length(
-    clock: u32,
-    h: Head,
-    creds: &[u8; CRED_ROWS],
-    aces: &[u8; ACE_ROWS],
-    caller: Caller,
-) -> usize
-    ensures { result ≡ length (reply_to clock (before h creds aces) (caller_row (before h creds aces) caller) caller.header) }
+pub fn reply_length(clock: u32, tables: TablesView<'_>, caller: Caller) -> usize
+    ensures { result ≡ length (reply_to clock (seen tables.entry) (caller_row (seen tables.entry) caller) caller.header) }
 {
-    put_reply(&mut [], clock, h, creds, aces, caller)
+    put_reply(&mut [], clock, tables, caller)
 }
 
 // Check 15: the reply does not fit the buffer.

@@ -1,17 +1,22 @@
 -- The loop over the records of a run: what is written and what is still to come are the lines of the whole input.
 -- The start, a turn and the two ends, over plain variables.
 use Rattle.rows.proofs.Prelude.{◌≡◌, refl, ap, ◌∙◌, cond, List, [], ◌∷◌, ◌++◌, append_assoc, append-nil, ℕ, zero, suc, ◌+◌, ◌-◌, ◌*◌, ◌≤◌, ◌<◌, min, arith}
-use Rattle.rows.proofs.Prelude.{length, length-append, length-drop, eq-eqb, le-ltb, lt-ltb, ne_eqb}
+use Rattle.rows.proofs.Prelude.{length, length-append, length-drop, eq-eqb, ne_eqb}
 use Rattle.rules.specs.declared.Tables.{Tables}
 use Rattle.rules.specs.Defaults.{no_defaults, fresh}
 use Rattle.rules.specs.Outcome.{tables_after}
+use Rattle.std.specs.Prelude.{Some, None, Ok, Err}
+use borrow.Author.Tests.{ltb-false}
 use Rattle.report.specs.declared.Judged.{Judged}
+use Rattle.report.specs.declared.records.Record.{Record}
+use Rattle.report.specs.declared.records.Cut.{Cut}
+use Rattle.report.specs.Records.{gives}
 use Rattle.report.specs.Judged.{judged_as}
 use Rattle.text.specs.Text.{ascii, decimal}
 use Rattle.text.specs.Buffer.{written, largest, Puts}
 use Rattle.text.proofs.Decimals.{decimal_length}
 use Rattle.text.proofs.Buffers.{puts_then, puts_length, Writing, writing_start, writing_step, writing_end}
-use Rattle.report.specs.Run.{header, line, line_for, cut, length_of, first_of, rest_of, is_cut, lines_from, lines, run_text}
+use Rattle.report.specs.Run.{header, line, line_for, cut, lent, length_of, first_of, rest_of, is_cut, lines_from, lines, run_text}
 use Rattle.report.specs.Fits.{LineFits, LinesFit, Whole}
 
 -- ---- a line
@@ -39,8 +44,8 @@ pub record Running (s o : List ℕ) (at : ℕ) (out : List ℕ) (p : ℕ) (t : T
   pub steps : ℕ
   pub enough : length rest ≤ steps
   pub writing : Writing o at (lines s) (lines_from steps t number rest) out p
-  -- each record took at least six bytes, so the place fits its type
-  pub numbers : 6 * number + length rest ≤ length s + 6
+  -- each number took a byte at least, so there are no more than bytes
+  pub numbers : number + length rest ≤ length s + 1
   -- four bytes of text at most for each byte of the input
   pub short : length s ≤ 32768 → length (lines s) + 4 * length rest ≤ 131072 + length (lines_from steps t number rest)
 
@@ -70,30 +75,39 @@ module _ {s o : List ℕ} {at : ℕ} {out : List ℕ} {p : ℕ} {t : Tables} {re
       let z : length rest ≡ 0 → ⊥ = λ e. omega arith in
       ap (λ (n : ℕ). lines_from n t number rest) k ∙ rw (ne_eqb (length rest) 0 z)
 
-  -- the input ends
-  pub run_end : length rest ≤ 0 → Puts o at (lines s) out p × LinesFit s
-  run_end h =
-      let e = lines_end i.steps t number rest h in
+  -- no more of the input is left
+  pub run_end : {rest' : List ℕ} → gives rest None rest' → Puts o at (lines s) out p × LinesFit s
+  run_end g =
+      let e = lines_end i.steps t number rest (omega arith) in
       (writing_end i.writing e, λ k. omega (arith, i.short k, ap length e))
 
   -- a record that is not all there
-  pub run_cut : {out' : List ℕ} {r : ℕ} → 0 < length rest → length rest < 6 + length_of rest → Puts out p cut out' r
-      → Puts o at (lines s) out' r × LinesFit s
-  run_cut h c q =
-      let e : lines_from i.steps t number rest ≡ cut ++ [] = rw (step h, lt-ltb (length rest) (6 + length_of rest) c, append-nil) in
-      (writing_end (writing_step cut [] i.writing e q) refl, λ k. omega (arith, i.short k, ap length e ∙ length-append cut [], cut_length))
+  pub run_cut : {out' : List ℕ} {r : ℕ} {rest' : List ℕ} {x : Cut} → gives rest (Some (Err x)) rest' → Puts out p cut out' r
+      → Running s o at out' r t rest' (number + 1)
+  run_cut {out'} {r} {rest'} g q =
+      let ends : lines_from i.steps t (number + 1) rest' ≡ [] = rw g.2 (lines_end i.steps t (number + 1) [] (omega arith)) in
+      let none : length rest' ≡ 0 = ap length g.2 in
+      let e : lines_from i.steps t number rest ≡ cut ++ lines_from i.steps t (number + 1) rest' = rw (step g.0, g.1, ends, append-nil) in
+      record {
+        steps = i.steps;
+        enough = omega arith;
+        writing = writing_step cut (lines_from i.steps t (number + 1) rest') i.writing e q;
+        numbers = omega (arith, i.numbers);
+        short = λ k. omega (arith, i.short k, ap length e ∙ length-append cut (lines_from i.steps t (number + 1) rest'), cut_length);
+      }
 
   -- a record, and what the judge says of it
-  pub run_turn : {out' : List ℕ} {r : ℕ} {rest' : List ℕ} {j : Judged} → 0 < length rest → 6 + length_of rest ≤ length rest
-      → j ≡ judged_as t (first_of rest) → rest' ≡ rest_of rest
+  pub run_turn : {out' : List ℕ} {r : ℕ} {rest' : List ℕ} (g : Record) {j : Judged} → gives rest (Some (Ok g)) rest'
+      → j ≡ judged_as t (lent g.clock g.bytes.now)
       → Puts out p (line number j.answer j.permission j.tables.state) out' r
       → LineFits number j.answer j.permission j.tables.state
       → Running s o at out' r j.tables rest' (number + 1)
-  run_turn {out'} {r} {rest'} {j} h c e d q l =
-      let len : length rest' ≡ length rest - (6 + length_of rest) = ap length d ∙ length-drop (6 + length_of rest) rest in
+  run_turn {out'} {r} {rest'} g {j} w e q l =
+      let c : 6 + length_of rest ≤ length rest = ltb-false (length rest) (6 + length_of rest) w.1 in
+      let len : length rest' ≡ length rest - (6 + length_of rest) = ap length w.4 ∙ length-drop (6 + length_of rest) rest in
       let text = line number j.answer j.permission j.tables.state in
       let more = lines_from (i.steps - 1) j.tables (number + 1) rest' in
-      let two : lines_from i.steps t number rest ≡ text ++ more = rw (e, d, step h, le-ltb (length rest) (6 + length_of rest) c) in
+      let two : lines_from i.steps t number rest ≡ text ++ more = rw (e, w.4, w.2, w.3, step w.0, w.1) in
       record {
         steps = i.steps - 1;
         enough = omega (arith, i.enough);

@@ -2,6 +2,8 @@
 // Each record is judged on the tables that the one before returned.
 #![tactic(auto)]
 
+mod records;
+
 ghost use Rattle.std.specs.Prelude.{◌≡◌, [], ◌∷◌, ◌++◌, min, length};
 ghost use Rattle.rows.specs.Words.{was};
 ghost use Rattle.text.specs.Text.{decimal};
@@ -11,9 +13,9 @@ ghost use Rattle.report.specs.Run.{lent, line, cut, lines, run_text};
 ghost use Rattle.report.specs.Judged.{judged_as};
 ghost use Rattle.report.specs.Fits.{LineFits, LinesFit, Whole};
 
-use fields::{be16, be32, skip};
 use judge::judge;
-use rules::{REPLY_MAX, Tables};
+use records::{Cut, Records};
+use rules::{Head, REPLY_MAX, Tables};
 use rules_terminal::QUEUE;
 use text::{put, put_byte, put_decimal};
 
@@ -69,8 +71,8 @@ fn judge_one(t: Tables, clock: u32, rec: &[u8]) -> Judged
 {
     let mut creds = t.creds;
     let mut aces = t.aces;
-    let mut queue = [0u8; QUEUE];
-    let mut reply = [0u8; REPLY_MAX];
+    let mut queue = [0; QUEUE];
+    let mut reply = [0; REPLY_MAX];
     let j = judge(
         t.head(),
         &mut creds,
@@ -82,21 +84,26 @@ fn judge_one(t: Tables, clock: u32, rec: &[u8]) -> Judged
         rec,
         &mut reply,
     );
-    let h = j.head;
-    let devowner = h.devowner;
-    let rowners = h.rowners;
+    let Head {
+        state,
+        owned,
+        ncreds,
+        naces,
+        devowner,
+        rowners,
+    } = j.head;
     Judged {
         answer: j.answer,
         permission: j.permission,
         tables: Tables {
-            state: h.state,
-            owned: h.owned,
-            ncreds: h.ncreds,
-            naces: h.naces,
-            devowner: devowner,
-            rowners: rowners,
-            creds: creds,
-            aces: aces,
+            state,
+            owned,
+            ncreds,
+            naces,
+            devowner,
+            rowners,
+            creds,
+            aces,
         },
     }
 }
@@ -108,19 +115,17 @@ fn put_lines(out: &mut [u8], at: usize, input: &[u8]) -> usize
 {
     let mut p = at;
     let mut t = start_tables();
-    let mut rest = input;
-    let mut number: usize = 1;
-    while 0 < rest.len() {
-        let end = 6 + be16(skip(rest, 4)) as usize;
-        if rest.len() < end {
-            return put_cut(out, p);
+    for (index, entry) in Records::new(input).enumerate() {
+        let number = index + 1;
+        match entry {
+            Ok(entry) => {
+                let j = judge_one(t, entry.clock, entry.bytes);
+                let next = j.tables;
+                p = put_line(out, p, number, j.answer, j.permission, next.state);
+                t = next;
+            }
+            Err(Cut) => p = put_cut(out, p),
         }
-        let j = judge_one(t, be32(rest), &rest[6..end]);
-        let next = j.tables;
-        p = put_line(out, p, number, j.answer, j.permission, next.state);
-        t = next;
-        rest = &rest[end..];
-        number += 1;
     }
     p
 }

@@ -5,7 +5,7 @@ use mathlib.Core.Bool.{and_assoc, and_comm}
 use lib.Seq.{take-add}
 use Rattle.rows.specs.Rows.{Row, rows_of, all_zero, same, every}
 use Rattle.rows.proofs.Kept.{same_true}
-use Rattle.rows.proofs.Zeros.{zeros_from}
+use Rattle.rows.proofs.AllZero.{zeros_from}
 use Rattle.rules.specs.Bits.{bits}
 use Rattle.rules.specs.Bodies.{nil, is_nil, ace_kind, ace_role, ace_subject, subject_storable}
 use Rattle.rules.specs.Lookup.{lookup}

@@ -2,7 +2,7 @@
 // Nothing here knows a table's stride or size; every byte afterwards is given.
 #![tactic(auto)]
 
-ghost use Rattle.std.specs.Prelude.{◌≡◌, Bool, ◌++◌, ◌+◌, ◌*◌, ◌≤◌, length, take, drop, replicate};
+ghost use Rattle.std.specs.Prelude.{◌≡◌, Bool, ◌+◌, ◌*◌, ◌≤◌, length, take, drop, replicate};
 ghost use Rattle.rows.specs.Words.{was};
 ghost use Rattle.rows.specs.Rows.{Row, rows_of, packed, stored, without, with_row, has_key};
 ghost use Rattle.rows.specs.Promises.{without_row, IsTable};
@@ -10,42 +10,12 @@ ghost use Rattle.rows_change.specs.Tests.{TestsOthers};
 
 use rows::{Rows, has_key};
 
-// Puts `row` over the first bytes of `bytes`.
-fn copy_over(bytes: &mut [u8], row: &[u8])
-    requires { length row.now ≤ length bytes.old }
-    ensures { bytes.new ≡ was row ++ drop (length (was row)) bytes.old }
-{
-    let mut i = 0;
-    while i < row.len() {
-        bytes[i] = row[i];
-        i += 1;
-    }
-}
-
 // Sets each byte to 0: of a table, removes all rows.
 // Rules out: the last byte left; only the first row cleared.
 pub fn clear(bytes: &mut [u8])
     ensures { bytes.new ≡ replicate (length bytes.old) 0 }
 {
-    let mut i = 0;
-    while i < bytes.len() {
-        bytes[i] = 0;
-        i += 1;
-    }
-}
-
-// Takes the first `n` bytes out: the others move down, and `n` zeros are at the end.
-fn shift_down(bytes: &mut [u8], n: usize)
-    requires { n ≤ length bytes.old }
-    ensures { bytes.new ≡ drop n bytes.old ++ replicate n 0 }
-{
-    let kept = bytes.len() - n;
-    let mut i = 0;
-    while i < kept {
-        bytes[i] = bytes[i + n];
-        i += 1;
-    }
-    clear(&mut bytes[kept..]);
+    bytes.fill(0);
 }
 
 // Puts `row` over row i.
@@ -55,7 +25,7 @@ pub fn put_row(rows: &mut [u8], stride: usize, i: usize, row: &[u8])
     ensures { rows.new ≡ with_row stride i (was row) rows.old }
 {
     let at = i * stride;
-    copy_over(&mut rows[at..], row);
+    rows[at..at + stride].copy_from_slice(row);
 }
 
 // Takes row i out: each later row moves down by one.
@@ -65,7 +35,9 @@ pub fn remove_row(rows: &mut [u8], stride: usize, i: usize)
     ensures { rows.new ≡ without_row stride i rows.old }
 {
     let at = i * stride;
-    shift_down(&mut rows[at..], stride);
+    rows.copy_within(at + stride.., at);
+    let kept = rows.len() - stride;
+    rows[kept..].fill(0);
 }
 
 // Stores `row` instead of the row with its number, else at the end. Returns the new count.

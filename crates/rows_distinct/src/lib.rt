@@ -30,14 +30,12 @@ pub fn before_repeat(rows: &[u8], stride: usize, count: usize) -> usize
     ensures { result ≡ before_repeat [] (rows_of stride count (was rows)) }
 {
     let mut seen = [false; 256];
-    let mut i = 0;
-    while i < count {
+    for i in 0..count {
         let low = rows[i * stride + 1] as usize;
         if again(seen[low], rows, stride, i) {
             return i;
         }
         seen[low] = true;
-        i += 1;
     }
     count
 }

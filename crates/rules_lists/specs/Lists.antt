@@ -1,6 +1,7 @@
 -- The test of a list that the provisioning program writes (U10): a file of access rows of 36 bytes, one after the other.
 -- The size comes first; then row by row whether the row could be stored, and after it what the row gives.
-use Rattle.std.specs.Prelude.{suc, ◌/◌, ◌%◌, Bool, not, ◌&&◌, ◌||◌, List, [], ◌∷◌, ◌++◌, eqb, ltb, length}
+use Rattle.std.specs.Prelude.{Result, suc, ◌/◌, ◌%◌, Bool, not, ◌&&◌, ◌||◌, List, [], ◌∷◌, ◌++◌, eqb, ltb, length}
+use Rattle.std.specs.declared.result.Result.TheVariants.{Ok, Err}
 use Rattle.rows.specs.Rows.{Row, rows_of, some, numbered_as}
 use Rattle.rules.specs.declared.Check.{Check}
 use Rattle.rules.specs.declared.Check.TheVariants.{Pass, Refuse}
@@ -9,6 +10,8 @@ use Rattle.rules.specs.Bodies.{ace_kind}
 use Rattle.rules.specs.Tables.{stride, capacity, storable}
 use Rattle.rules.specs.Checks.{refuse_if, verdict}
 use Rattle.rules.specs.Isolation.{row_alters}
+use Rattle.rules_lists.specs.declared.ListError.{ListError}
+use Rattle.rules_lists.specs.declared.ListError.TheVariants.{BadSize, BadRow}
 use Rattle.rules_lists.specs.declared.Tested.{Tested}
 use Rattle.rules.specs.Types.{Answer, Bytes, Checklist, Number}
 
@@ -39,6 +42,12 @@ tested answer row = record { answer = answer; row = row }
 
 abbrev pub accepted : Tested
 accepted = tested 0 0
+
+-- of what the code answers
+abbrev pub tested_of : Result (Unit {0}) ListError → Tested
+tested_of (Ok unit) = accepted
+tested_of (Err BadSize) = tested 19 0
+tested_of (Err (BadRow fault row)) = tested fault row
 
 -- a refusal names this row; if the row passes, the rest is the answer
 abbrev pub named_or : Check → Number → Tested → Tested

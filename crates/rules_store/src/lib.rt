@@ -3,7 +3,7 @@
 #![tactic(auto)]
 
 // What a program does next to store an image: it writes a byte, or it is done, or the store has another length than one for this image.
-#[derive(Clone, Copy)]
+#[derive(Clone, Copy, PartialEq, Eq)]
 pub enum Step {
     Write { at: usize, byte: u8 },
     Done,

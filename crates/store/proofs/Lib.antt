@@ -1,1 +1,4 @@
--- Proofs of the functions.
+-- Laws for the proofs of the functions.
+-- Offsets: the first offset at which two images differ. Bytes: sums and equality of bytes.
+mod Offsets
+mod Bytes

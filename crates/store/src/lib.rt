@@ -2,11 +2,12 @@
 // writes the byte that it gets, and asks again. A whole run looks at each byte of the images a few times.
 #![tactic(auto)]
 
-ghost use Rattle.std.specs.Prelude.{◌≡◌, ◌-◌, ◌%◌, length, if◌then◌else◌, ◌==◌, nat_eq};
+ghost use Rattle.std.specs.Prelude.{◌≡◌, ◌%◌, ◌<◌, length, if◌then◌else◌, ◌==◌, nat_eq};
+ghost use Rattle.std.specs.Option.{SomeIff};
 ghost use Rattle.rows.specs.Words.{was};
 ghost use Rattle.rules_store.specs.Store.{size_for, sum, counter, current_at, mismatch_from, to_copy, write, settled, next};
 
-use rows::{part, same_bytes};
+use rows::part;
 use rules_store::Step;
 
 const MARKS: usize = 8;
@@ -14,6 +15,7 @@ const MARKS: usize = 8;
 // What to do next to store the image `new`; `from` is 0 at the start, and then the address after the last write.
 // Rules out: a mark before the last byte that differs; a byte of the current image; a byte that is there already; Done while another image
 // is current; a write to a store of another length.
+#[tactic(auto, unfolding(rules_store::specs::Store::next, rules_store::specs::Store::fits))]
 pub fn next(store: &[u8], new: &[u8], from: usize) -> Step
     ensures { result ≡ next (was store) (was new) from }
 {
@@ -28,6 +30,7 @@ pub fn next(store: &[u8], new: &[u8], from: usize) -> Step
 
 // Where the current image starts, in a store for images of n bytes.
 // Rules out: the spare image; the image that was current before the last mark.
+#[tactic(auto, unfolding(rules_store::specs::Store::current_at, rules_store::specs::Store::even_counter))]
 pub fn current_at(store: &[u8], n: usize) -> usize
     ensures { result ≡ current_at n (was store) }
 {
@@ -45,24 +48,19 @@ fn by_parity(counter: u8, even: usize, odd: usize) -> usize
 fn counter(store: &[u8], n: usize) -> u8
     ensures { result ≡ counter n (was store) }
 {
-    if store.len() / 2 < n {
+    let Some(marks) = store.get(n.saturating_mul(2)..) else {
         return 0;
-    }
-    let at = n + n;
-    sum(part(store, at, store.len()))
+    };
+    sum(marks)
 }
 
 // The sum of bytes, modulo 256.
 fn sum(bytes: &[u8]) -> u8
     ensures { result ≡ sum (was bytes) % 256 }
 {
-    let mut total: u8 = 0;
-    let mut i = 0;
-    while i < bytes.len() {
-        total = std::num::wrapping_add_u8(total, bytes[i]);
-        i += 1;
-    }
-    total
+    bytes
+        .iter()
+        .fold(0, |total, byte| total.wrapping_add(*byte))
 }
 
 // Whether a store of this length is one for images of n bytes.
@@ -70,10 +68,7 @@ fn sum(bytes: &[u8]) -> u8
 pub fn fits(length: usize, n: usize) -> bool
     ensures { result ≡ (length == size_for n) }
 {
-    if length / 2 < n {
-        return false;
-    }
-    length - (n + n) == MARKS
+    length / 2 >= n && length - (n + n) == MARKS
 }
 
 // Whether the new image is the current one, where that is asked.
@@ -82,11 +77,7 @@ fn settled(store: &[u8], new: &[u8], from: usize) -> bool
     ensures { result ≡ settled (was store) (was new) from }
 {
     let n = new.len();
-    let asked = (from == 0) | (n + n < from);
-    if !asked {
-        return false;
-    }
-    same_bytes(part(store, current_at(store, n), n), new)
+    (from == 0 || n + n < from) && part(store, current_at(store, n), n) == new
 }
 
 // The next write, where the new image is not the current one.
@@ -97,52 +88,32 @@ fn write(store: &[u8], new: &[u8], from: usize) -> Step
     let n = new.len();
     let count = counter(store, n);
     let spare = by_parity(count, n, 0);
-    let offset = to_copy(less(from, spare), part(store, spare, n), new);
-    if offset < n {
+    if let Some(offset) = to_copy(from.saturating_sub(spare), part(store, spare, n), new) {
         return Step::Write {
             at: spare + offset,
             byte: new[offset],
         };
     }
-    let turn = count % 8;
-    let at = n + n + turn as usize;
+    let at = n + n + usize::from(count % 8);
     Step::Write {
-        at: at,
-        byte: std::num::wrapping_add_u8(store[at], 1),
+        at,
+        byte: store[at].wrapping_add(1),
     }
-}
-
-// a - b, or 0 if b is larger.
-fn less(a: usize, b: usize) -> usize
-    ensures { result ≡ a - b }
-{
-    if b < a { a - b } else { 0 }
 }
 
 // The offset of the byte to copy: the first from `from` on at which the images differ, else the first of all.
-fn to_copy(from: usize, old: &[u8], new: &[u8]) -> usize
-    ensures { result ≡ to_copy from (was old) (was new) }
+#[tactic(auto, unfolding(rules_store::specs::Store::to_copy))]
+fn to_copy(from: usize, old: &[u8], new: &[u8]) -> Option<usize>
+    requires { length old.now ≡ length new.now }
+    ensures { SomeIff result (to_copy from (was old) (was new) < length (was new)) (to_copy from (was old) (was new)) }
 {
-    let offset = mismatch_from(from, old, new);
-    if offset < new.len() {
-        return offset;
-    }
-    mismatch_from(0, old, new)
+    mismatch_from(from, old, new).or_else(|| mismatch_from(0, old, new))
 }
 
 // The first offset from `from` on at which the images differ.
-fn mismatch_from(from: usize, old: &[u8], new: &[u8]) -> usize
-    ensures { result ≡ mismatch_from from (was old) (was new) }
+fn mismatch_from(from: usize, old: &[u8], new: &[u8]) -> Option<usize>
+    requires { length old.now ≡ length new.now }
+    ensures { SomeIff result (mismatch_from from (was old) (was new) < length (was new)) (mismatch_from from (was old) (was new)) }
 {
-    let mut i = from;
-    while i < old.len() {
-        if new.len() <= i {
-            return i;
-        }
-        if old[i] != new[i] {
-            return i;
-        }
-        i += 1;
-    }
-    i
+    (from..new.len()).find(|i| old[*i] != new[*i])
 }

@@ -1,13 +1,24 @@
 // The C interface of lists: the access list as office text, the test of a list, and lists of the older terminals.
 // A result is two words: the answer, and a row or a length.
-ghost use Rattle.std.specs.Prelude.{◌≡◌};
+ghost use Rattle.std.specs.Prelude.{◌≡◌, ℕ, [], ◌∷◌, MatchResult};
 ghost use Rattle.rules.specs.Promises.Words.{was};
 ghost use Rattle.rules_interface.specs.Memory.{memory_before};
 ghost use Rattle.rules_interface.specs.Interface.{ListsAt, TestsAt, ConvertsAt};
 
 use c_memory::head_at;
 use rules::{ACE_ROWS, CRED_ROWS};
+use rules_lists::Tested;
 use rules_terminal::QUEUE;
+
+// The words of what was written: 0 and its length, or a refusal's number and 0.
+fn two_words<E: Into<u8>>(written: Result<usize, E>) -> [u64; 2]
+    ensures { MatchResult written (λ length. result ≡ 0 ∷ length ∷ []) (λ error. (number : ℕ) × E.converts error number × (result ≡ number ∷ 0 ∷ [])) }
+{
+    match written {
+        Ok(length) => [0, length as u64],
+        Err(error) => [error.into() as u64, 0],
+    }
+}
 
 // The access list as office text.
 // Rules out: a byte written on 17 or 18; another list's text; a length that is not the text's.
@@ -24,8 +35,7 @@ pub fn tillerclover_access_list_at<'a>(
     ensures { ListsAt (memory_before counts devowner rowners creds aces queue) words.new text.old text.new }
 {
     let h = head_at(counts, devowner, rowners);
-    let l = office_list::access_list(h, creds, aces, queue, text);
-    *words = [l.answer as u64, l.length as u64];
+    *words = two_words(office_list::access_list(h, creds, aces, queue, text));
 }
 
 // Tests a list of access rows that the provisioning program writes.
@@ -33,7 +43,7 @@ pub fn tillerclover_access_list_at<'a>(
 pub fn tillerclover_test_list_at(rows: &[u8], words: &mut [u64; 2])
     ensures { TestsAt (was rows) words.new }
 {
-    let found = list_validation::test_list(rows);
+    let found = Tested::from(list_validation::test_list(rows));
     *words = [found.answer as u64, found.row as u64];
 }
 
@@ -42,6 +52,5 @@ pub fn tillerclover_test_list_at(rows: &[u8], words: &mut [u64; 2])
 pub fn tillerclover_convert_list_at(file: &[u8], rows: &mut [u8], words: &mut [u64; 2])
     ensures { ConvertsAt (was file) words.new rows.old rows.new }
 {
-    let made = list_convert::convert(file, rows);
-    *words = [made.answer as u64, made.length as u64];
+    *words = two_words(list_convert::convert(file, rows));
 }

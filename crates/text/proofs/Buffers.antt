@@ -1,12 +1,12 @@
 -- Laws of texts put into a buffer one after the other, and how much of it is written.
 -- A writer's proof composes what its calls ensure by `puts_then`; a loop's keeps `Writing`.
-use mathlib.Core.Path.{◌≡◌, refl, ap, sym, subst, ◌∙◌}
+use mathlib.Core.Path.{◌≡◌, refl, ap, sym, ◌∙◌}
 use mathlib.Core.List.{List, [], ◌∷◌, ◌++◌, append_assoc, append-nil}
-use Prim.Native.Nat.{ℕ, zero, suc, ◌+◌, ◌-◌, ◌≤◌, ◌<◌, min}
+use Prim.Native.Nat.{ℕ, zero, suc, ◌+◌, ◌-◌, ◌≤◌, min}
 use native.Mathlib.Omega.{arith}
-use lib.ListN.{length, take, drop, set, length-append, length-drop, take-append-drop}
-use lib.Seq.{length-take-le}
-use Rattle.text.specs.Buffer.{written, largest, Puts, Counts}
+use lib.ListN.{length, take, drop, set, length-append}
+use borrow.Rule.Slice.PartMut.{put_mid}
+use Rattle.text.specs.Buffer.{written, largest, Puts}
 
 -- ---- the buffer
 
@@ -55,19 +55,33 @@ written_past [] at s h = refl
 written_past (b ∷ o) zero s h = absurd (omega arith)
 written_past (b ∷ o) (suc at) s h = ap (λ (l : List ℕ). b ∷ l) (written_past o at s (omega arith))
 
+-- a text, as one copy of the part that fits: n bytes from a on
+written_copied : (o : List ℕ) (at : ℕ) (s : List ℕ) (a n : ℕ) → a ≡ min at (length o) → n ≡ min (length s) (length o - a)
+    → put_mid a n o (take n s) ≡ written o at s
+unfolding written
+written_copied [] at s a n e f = let z : a ≡ 0 = omega arith in let w : n ≡ 0 = omega arith in rw (z, w)
+written_copied (b ∷ o) zero [] a n e f = let z : a ≡ 0 = omega arith in let w : n ≡ 0 = omega arith in rw (z, w)
+written_copied (b ∷ o) zero (x ∷ s) zero zero e f = absurd (omega arith)
+written_copied (b ∷ o) zero (x ∷ s) zero (suc n) e f = ap (λ (l : List ℕ). x ∷ l) (written_copied o zero s 0 n (omega arith) (omega arith))
+written_copied (b ∷ o) zero (x ∷ s) (suc a) n e f = absurd (omega arith)
+written_copied (b ∷ o) (suc at) s zero n e f = absurd (omega arith)
+written_copied (b ∷ o) (suc at) s (suc a) n e f = ap (λ (l : List ℕ). b ∷ l) (written_copied o at s a n (omega arith) (omega arith))
+
 -- ---- what the writers ensure
 
 pub puts_none : (o : List ℕ) {at : ℕ} → at ≤ largest → Puts o at [] o at
 puts_none o {at} h = record { next = omega arith; buffer = sym (written_none o at) }
 
-pub puts_one : (o : List ℕ) (at b : ℕ) → at < largest → Puts o at (b ∷ []) (set o at b) (at + 1)
-puts_one o at b h = record { next = omega arith; buffer = sym (written_one o at b) }
+pub puts_one : (o : List ℕ) (at b : ℕ) {r : ℕ} → r ≡ min (at + 1) largest → Puts o at (b ∷ []) (set o at b) r
+puts_one o at b e = record { next = e; buffer = sym (written_one o at b) }
 
 pub puts_beyond : (o : List ℕ) (at : ℕ) (s : List ℕ) {r : ℕ} → length o ≤ at → r ≡ min (at + length s) largest → Puts o at s o r
 puts_beyond o at s h e = record { next = e; buffer = sym (written_past o at s h) }
 
-pub puts_past : (o : List ℕ) (at b : ℕ) {r : ℕ} → length o ≤ at → r ≡ min (at + 1) largest → Puts o at (b ∷ []) o r
-puts_past o at b h e = puts_beyond o at (b ∷ []) h e
+-- k bytes x from a on, which are the part of the text that fits
+pub puts_copied : {o t x : List ℕ} {at a k n r : ℕ} → a ≡ min at (length o) → n ≡ min (length t) (length o - a) → k ≡ n → x ≡ take n t
+    → r ≡ min (at + length t) largest → Puts o at t (put_mid a k o x) r
+puts_copied {o} {t} {x} {at} {a} {k} {n} e f g h i = record { next = i; buffer = rw (g, h) (written_copied o at t a n e f) }
 
 pub puts_then : {o s t o₁ o₂ : List ℕ} {at r₁ r₂ : ℕ} → length o ≤ largest → Puts o at s o₁ r₁ → Puts o₁ r₁ t o₂ r₂
     → Puts o at (s ++ t) o₂ r₂
@@ -78,18 +92,6 @@ puts_then {o} {s} {t} {o₁} {o₂} {at} {r₁} {r₂} h p q = record {
 
 pub puts_length : {o s o' : List ℕ} {at r : ℕ} → Puts o at s o' r → length o' ≡ length o
 puts_length {o} {s} {o'} {at} p = ap length p.buffer ∙ written_length o at s
-
--- the part of a text that fits, and the rest past the end
-pub puts_over : {o o₁ : List ℕ} {at p r : ℕ} (n : ℕ) (t : List ℕ) → length o ≤ largest → n ≤ length t → length o ≤ at + n → Puts o at (take n t) o₁ p
-    → r ≡ min (p + (length t - n)) largest → Puts o at t o₁ r
-puts_over {o} {o₁} {at} {p} {r} n t b h f q e =
-    let l = length-take-le n t h in
-    let past : length o₁ ≤ p = omega (arith, puts_length q, q.next, l, b, f) in
-    let rest : r ≡ min (p + length (drop n t)) largest = omega (arith, length-drop n t, e) in
-    subst (λ (w : List ℕ). Puts o at w o₁ r) (take-append-drop n t) (puts_then b q (puts_beyond o₁ p (drop n t) past rest))
-
-pub counts : (r : ℕ) (o : List ℕ) → r ≤ length o → Counts r o
-counts r o h = (h, sym (length-take-le r o h))
 
 -- ---- on the way: of the whole text that is to be from `at` on, `rest` is still to be put, at p
 pub record Writing (o : List ℕ) (at : ℕ) (whole rest out : List ℕ) (p : ℕ) : Type 0 where

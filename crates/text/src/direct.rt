@@ -3,19 +3,15 @@
 ghost use Rattle.text.specs.Buffer.{Puts};
 ghost use Rattle.rows.specs.Words.{was};
 
-use crate::{advance, copy};
-
 // A text.
 // Rules out: a text cut one byte early; bytes before the position touched.
 pub fn put(out: &mut [u8], at: usize, text: &[u8]) -> usize
     ensures { Puts out.old at (was text) out.new result }
 {
-    let size = out.len();
-    if size <= at {
-        return advance(at, text.len());
-    }
-    if text.len() <= size - at {
-        return copy(out, at, text);
+    if at <= out.len() && text.len() <= out.len() - at {
+        let end = at + text.len();
+        out[at..end].copy_from_slice(text);
+        return end;
     }
     crate::put(out, at, text)
 }

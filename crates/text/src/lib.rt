@@ -4,10 +4,10 @@
 
 pub mod direct;
 
-ghost use Rattle.std.specs.Prelude.{◌≡◌, [], ◌∷◌, min, ◌+◌, ◌≤◌, length};
+ghost use Rattle.std.specs.Prelude.{◌≡◌, [], ◌∷◌, min, length};
 ghost use Rattle.rows.specs.Words.{was};
 ghost use Rattle.text.specs.Text.{decimal};
-ghost use Rattle.text.specs.Buffer.{largest, Puts, Counts};
+ghost use Rattle.text.specs.Buffer.{Puts, Counts};
 
 // One byte. The largest position stays where it is.
 // Rules out: a byte written past the end; a position that stops at the end.
@@ -16,53 +16,21 @@ pub fn put_byte(out: &mut [u8], at: usize, b: u8) -> usize
 {
     if at < out.len() {
         out[at] = b;
-        return at + 1;
     }
-    if at < usize::MAX { at + 1 } else { at }
-}
-
-// A text that fits, in one copy.
-fn copy(out: &mut [u8], at: usize, text: &[u8]) -> usize
-    requires { at + length text.now ≤ length out.old }
-    ensures { Puts out.old at (was text) out.new result }
-{
-    let mut p = at;
-    let mut i = 0;
-    while i < text.len() {
-        out[p] = text[i];
-        p += 1;
-        i += 1;
-    }
-    p
-}
-
-// The position that many bytes further. The largest position stays where it is.
-fn advance(at: usize, count: usize) -> usize
-    ensures { result ≡ min (at + count) largest }
-{
-    if count <= usize::MAX - at {
-        at + count
-    } else {
-        usize::MAX
-    }
+    at.saturating_add(1)
 }
 
 // A text. Past the buffer's end nothing is written; of a text over the end the part that fits is put, and the position goes on.
-// It calls itself, one deep, so it is in the code once: crate `reply`, which must be fast, has `direct::put`.
+// Its code is in a program once: crate `reply`, which must be fast, has `direct::put`.
 // Rules out: a text cut one byte early; bytes before the position touched.
+#[inline(never)]
 pub fn put(out: &mut [u8], at: usize, text: &[u8]) -> usize
     ensures { Puts out.old at (was text) out.new result }
 {
-    let size = out.len();
-    if size <= at {
-        return advance(at, text.len());
-    }
-    let left = size - at;
-    if text.len() <= left {
-        return copy(out, at, text);
-    }
-    let p = put(out, at, &text[..left]);
-    advance(p, text.len() - left)
+    let start = at.min(out.len());
+    let fits = text.len().min(out.len() - start);
+    out[start..start + fits].copy_from_slice(&text[..fits]);
+    at.saturating_add(text.len())
 }
 
 // A number in decimal: the digits of its tenth, and then its last digit.
@@ -70,7 +38,7 @@ pub fn put(out: &mut [u8], at: usize, text: &[u8]) -> usize
 pub fn put_decimal(out: &mut [u8], at: usize, n: usize) -> usize
     ensures { Puts out.old at (decimal n) out.new result }
 {
-    let digit = (48 + n % 10) as u8;
+    let digit = b'0' + (n % 10) as u8;
     if n < 10 {
         return put_byte(out, at, digit);
     }
@@ -84,5 +52,5 @@ pub fn within(out: &[u8], at: usize) -> usize
     ensures value { result ≡ min at (length (was out)) }
     ensures counts { Counts result (was out) }
 {
-    if at < out.len() { at } else { out.len() }
+    out.len().min(at)
 }

@@ -2,59 +2,33 @@
 // The file's form is in model/src/queries.rs: tables and lists of senders; stores and images, steps, whole runs and current images.
 #![tactic(auto)]
 
-use fields::{be16, be32, skip};
+mod entries;
+
+use entries::{Entries, Entry, Tag};
+use fields::{be16, byte_at, skip};
 use isolation::isolation_of;
-use rows::part;
+use rules::Tables;
 use rules_store::Step;
-use vectors_reader::{byte_at, more, tables_of};
+use vectors_reader::{Tally, be64, more, tables_of};
 
-// What an entry holds, by the number of its tag.
+// What is held from entry to entry: what the queries are about, and how many were put to the library.
 #[derive(Drop)]
-struct Tag {
-    number: u8,
-}
-
-impl Tag {
-    const TABLES: u8 = 0;
-
-    const STORE: u8 = 1;
-
-    const IMAGE: u8 = 2;
-
-    // a question of isolation
-    const QUESTION: u8 = 3;
-
-    const STEP: u8 = 4;
-
-    const CURRENT: u8 = 5;
-
-    const RUN: u8 = 6;
-}
-
-// What was put to the library, and how much of it differs.
-#[derive(Drop)]
-struct Progress {
-    entry: u64,
+struct Progress<'a> {
+    tables: Tables,
+    store: &'a [u8],
+    image: &'a [u8],
+    tally: Tally,
     questions: u64,
     steps: u64,
     currents: u64,
     runs: u64,
-    differences: u64,
-}
-
-// A step as numbers, as C has it: 0 done, 1 a byte to write at a place, 2 unfit.
-#[derive(Drop)]
-struct Write {
-    answer: u8,
-    address: usize,
-    byte: u8,
 }
 
 fn main(rt: HostRuntime) {
     let path = "queries.bin";
     let mut bytes = buffer();
     if let Some(n) = input::read_file(&rt, path, &mut bytes) {
-        print_result(&rt, walk(&rt, &bytes[..n]));
+        print_result(&rt, &walk(&rt, &bytes[..n]));
     }
 }
 
@@ -63,185 +37,130 @@ fn buffer() -> [u8; 200000] {
     [0; 200000]
 }
 
-fn print_result(rt: &impl Print, p: Progress) {
+fn print_result(rt: &impl Print, p: &Progress) {
     let _ = println!(rt;
         "queries: {} lists of senders, {} steps, {} current images, {} runs, {} differences",
-        p.questions, p.steps, p.currents, p.runs, p.differences
+        p.questions, p.steps, p.currents, p.runs, p.tally.differences
     );
 }
 
-// All entries in their order, up to an entry that is cut: a tag, the length of what follows, and that.
-fn walk(rt: &impl Print, bytes: &[u8]) -> Progress {
+// All entries in their order, up to one that is cut.
+fn walk<'a>(rt: &impl Print, bytes: &'a [u8]) -> Progress<'a> {
     let mut p = Progress {
-        entry: 0,
+        tables: tables_of(b""),
+        store: b"",
+        image: b"",
+        tally: Tally::default(),
         questions: 0,
         steps: 0,
         currents: 0,
         runs: 0,
-        differences: 0,
     };
-    let mut tables = part(bytes, 0, 0);
-    let mut store = tables;
-    let mut image = tables;
-    let mut rest = bytes;
-    while 0 < rest.len() {
-        counted(&mut p);
-        let tag = byte_at(rest, 0);
-        let size = 3 + be16(skip(rest, 1)) as usize;
-        if rest.len() < size {
-            differing(rt, &mut p);
-            return p;
+    for entry in Entries::new(bytes) {
+        p.tally.advance();
+        match entry {
+            Ok(entry) => answered(rt, &mut p, entry),
+            Err(_) => p.tally.differ(rt),
         }
-        let body = skip(part(rest, 0, size), 3);
-        let t = one_of(tag == Tag::TABLES, body, tables);
-        let m = one_of(tag == Tag::STORE, body, store);
-        let i = one_of(tag == Tag::IMAGE, body, image);
-        tables = t;
-        store = m;
-        image = i;
-        answered(rt, &mut p, tag, body, tables, store, image);
-        rest = &rest[size..];
     }
     p
 }
 
-// The first one where the test holds, else the second.
-fn one_of<'a>(test: bool, a: &'a [u8], b: &'a [u8]) -> &'a [u8] {
-    if test { a } else { b }
-}
-
-fn counted(p: &mut Progress) {
-    p.entry = more(p.entry);
-}
-
-// Says which entry differs, and counts it.
-fn differing(rt: &impl Print, p: &mut Progress) {
-    let entry = p.entry;
-    let _ = println!(rt; "entry {entry} differs");
-    p.differences = more(p.differences);
-}
-
-fn compared(rt: &impl Print, p: &mut Progress, is_same: bool) {
-    if !is_same {
-        differing(rt, p);
-    }
-}
-
 // An entry that is put to the library; tables, a store and an image only become the current ones.
-fn answered(
-    rt: &impl Print,
-    p: &mut Progress,
-    tag: u8,
-    s: &[u8],
-    tables: &[u8],
-    store: &[u8],
-    image: &[u8],
-) {
-    match tag {
-        Tag::TABLES | Tag::STORE | Tag::IMAGE => {}
-        Tag::QUESTION => asked(rt, p, s, tables),
-        Tag::STEP => stepped(rt, p, s, store, image),
-        Tag::CURRENT => located(rt, p, s, store),
-        Tag::RUN => stored(rt, p, s, store, image),
-        _ => differing(rt, p),
+fn answered<'a>(rt: &impl Print, p: &mut Progress<'a>, entry: Entry<'a>) {
+    let s = entry.body;
+    match entry.tag {
+        Tag::Tables => p.tables = tables_of(s),
+        Tag::Store => p.store = s,
+        Tag::Image => p.image = s,
+        Tag::Question => asked(rt, p, s),
+        Tag::Step => stepped(rt, p, s),
+        Tag::Current => located(rt, p, s),
+        Tag::Run => stored(rt, p, s),
     }
 }
 
 // Asks whether the senders after reason, entry and row are isolated.
-fn asked(rt: &impl Print, p: &mut Progress, s: &[u8], tables: &[u8]) {
-    let t = tables_of(tables);
-    let creds = t.creds;
-    let aces = t.aces;
-    let found = isolation_of(t.head(), &creds, &aces, skip(s, 4)).report();
-    p.questions = more(p.questions);
+fn asked(rt: &impl Print, p: &mut Progress, s: &[u8]) {
+    let t = &p.tables;
+    let found = isolation_of(t.head(), &t.creds, &t.aces, skip(s, 4)).report();
     let is_same = (found.reason == byte_at(s, 0))
         & (found.entry == be16(skip(s, 1)) as usize)
         & (found.row == byte_at(s, 3) as usize);
-    compared(rt, p, is_same);
-}
-
-// A number of 64 bits.
-fn be64(s: &[u8]) -> usize {
-    be32(s) as usize * 4294967296 + be32(skip(s, 4)) as usize
+    p.questions = more(p.questions);
+    p.tally.compare(rt, is_same);
 }
 
 // Asks for the next step from a position.
-fn stepped(rt: &impl Print, p: &mut Progress, s: &[u8], store: &[u8], image: &[u8]) {
+fn stepped(rt: &impl Print, p: &mut Progress, s: &[u8]) {
+    let step = store::next(p.store, p.image, be64(s) as usize);
     p.steps = more(p.steps);
-    compared(
-        rt,
-        p,
-        same_step(&step_from(store, image, be64(s)), skip(s, 8)),
-    );
+    p.tally.compare(rt, step_of(skip(s, 8)) == Some(step));
 }
 
-fn step_from(store: &[u8], image: &[u8], from: usize) -> Write {
-    let step = store::next(store, image, from);
-    match step {
-        Step::Write { at, byte } => Write {
-            answer: 1,
-            address: at,
-            byte: byte,
-        },
-        Step::Done => Write {
-            answer: 0,
-            address: 0,
-            byte: 0,
-        },
-        Step::Unfit => Write {
-            answer: 2,
-            address: 0,
-            byte: 0,
-        },
+// The step of these bytes: 0 done, 1 a byte to write at a place, 2 unfit; the place and the byte, both 0 where none is written.
+fn step_of(s: &[u8]) -> Option<Step> {
+    match (byte_at(s, 0), be16(skip(s, 1)), byte_at(s, 3)) {
+        (0, 0, 0) => Some(Step::Done),
+        (1, at, byte) => Some(Step::Write {
+            at: at as usize,
+            byte,
+        }),
+        (2, 0, 0) => Some(Step::Unfit),
+        _ => None,
     }
 }
 
-// Whether a step is the one of these bytes: answer, place and byte.
-fn same_step(w: &Write, expected: &[u8]) -> bool {
-    (w.answer == byte_at(expected, 0))
-        & (w.address == be16(skip(expected, 1)) as usize)
-        & (w.byte == byte_at(expected, 3))
-}
-
 // Asks where the current image of that many bytes starts.
-fn located(rt: &impl Print, p: &mut Progress, s: &[u8], store: &[u8]) {
+fn located(rt: &impl Print, p: &mut Progress, s: &[u8]) {
+    let is_same = same_current(p.store, be64(s) as usize, skip(s, 8));
     p.currents = more(p.currents);
-    compared(rt, p, same_current(store, be64(s), skip(s, 8)));
+    p.tally.compare(rt, is_same);
 }
 
 // Whether the answer and the place are those of these bytes: 0 and the place, or 2 and 0 where the store is none for such images.
 fn same_current(store: &[u8], n: usize, expected: &[u8]) -> bool {
-    if !store::fits(store.len(), n) {
-        return (byte_at(expected, 0) == 2) & (be16(skip(expected, 1)) == 0);
+    let answer = byte_at(expected, 0);
+    let place = be16(skip(expected, 1)) as usize;
+    if store::fits(store.len(), n) {
+        (answer == 0) & (store::current_at(store, n) == place)
+    } else {
+        (answer == 2) & (place == 0)
     }
-    (byte_at(expected, 0) == 0) & (store::current_at(store, n) == be16(skip(expected, 1)) as usize)
 }
 
 // Stores the image in a copy of the store, to the end.
-fn stored(rt: &impl Print, p: &mut Progress, s: &[u8], store: &[u8], image: &[u8]) {
+fn stored(rt: &impl Print, p: &mut Progress, s: &[u8]) {
+    let mut memory = [0; 17360];
+    text::put(&mut memory, 0, p.store);
+    let n = p.store.len().min(memory.len());
+    let is_same = same_run(&mut memory[..n], p.image, s);
     p.runs = more(p.runs);
-    let mut memory = [0u8; 17360];
-    text::put(&mut memory, 0, store);
-    let n = text::within(&memory, store.len());
-    compared(rt, p, same_run(&mut memory[..n], image, s));
+    p.tally.compare(rt, is_same);
 }
 
 // Whether the writes of a whole run are those of these bytes, four for each, and it is done then.
 fn same_run(memory: &mut [u8], image: &[u8], expected: &[u8]) -> bool {
     let mut from = 0;
-    let mut rest = expected;
-    while 4 <= rest.len() {
-        let step = step_from(memory, image, from);
-        let address = step.address;
-        if !same_step(&step, rest) {
+    for expected in expected.chunks_exact(4) {
+        let step = store::next(memory, image, from);
+        if step_of(expected) != Some(step) {
             return false;
         }
-        if memory.len() <= address {
+        let (at, byte) = written(step);
+        let Some(place) = memory.get_mut(at) else {
             return false;
-        }
-        memory[address] = step.byte;
-        from = address + 1;
-        rest = &rest[4..];
+        };
+        *place = byte;
+        from = at + 1;
     }
-    step_from(memory, image, from).answer == 0
+    store::next(memory, image, from) == Step::Done
+}
+
+// The place and the byte of a step; of one that writes none both are 0, as the file has them.
+fn written(step: Step) -> (usize, u8) {
+    match step {
+        Step::Write { at, byte } => (at, byte),
+        Step::Done | Step::Unfit => (0, 0),
+    }
 }

@@ -13,9 +13,8 @@ returns-in_default-c c =
     let rec_of : List ℕ = c.args.rec.now in
     let four : 4 ≤ length rec_of = long_enough rec_of (not_applied _ _ c.check_length-c.ensures c.in-Pass.is) in
     let headed : c.check_fields-c.result ≡ verdict (field_checks (header_of rec_of)) =
-    let known = c.shared_slice_known-1 in
     c.check_fields-c.ensures (header_of rec_of)
-    (has_fields rec_of _ c.be16-word.ensures four (known.given 2).fits (known.given 3).fits
+    (has_fields rec_of _ c.be16-word.ensures four (c.type_inv.rec 2).fits (c.type_inv.rec 3).fits
     _ c.be16.ensures _ c.resource_row-e.ensures) in
     skip _ _ _ c.check_length-c.ensures c.in-Pass.is
     (stop_all (field_checks (header_of rec_of)) _ _ headed c.in_default-c.is)
@@ -25,18 +24,16 @@ returns c =
     let rec_of : List ℕ = c.args.rec.now in
     let four : 4 ≤ length rec_of = long_enough rec_of (not_applied _ _ c.check_length-c.ensures c.in-Pass.is) in
     let headed : c.check_fields-c.result ≡ verdict (field_checks (header_of rec_of)) =
-    let known = c.shared_slice_known-1 in
     c.check_fields-c.ensures (header_of rec_of)
-    (has_fields rec_of _ c.be16-word.ensures four (known.given 2).fits (known.given 3).fits
+    (has_fields rec_of _ c.be16-word.ensures four (c.type_inv.rec 2).fits (c.type_inv.rec 3).fits
     _ c.be16.ensures _ c.resource_row-e.ensures) in
     let r = rec_of in
-    let known = c.shared_slice_known-1 in
     let word = c.be16-word.ensures in
     skip _ _ _ c.check_length-c.ensures c.in-Pass.is
     (skip_all (field_checks (header_of r)) _ headed c.in-Pass-c.is
     (last 7 _
-    (c.check_credential.ensures (sender r) (over r _ word four (known.given 2).fits (known.given 3).fits)
-    ∙ ap (refuse_if 7) (row_shown r _ word four (known.given 2).fits (known.given 3).fits _ _ c.place_near-place.ensures))))
+    (c.check_credential.ensures (sender r) (over r _ word four (c.type_inv.rec 2).fits (c.type_inv.rec 3).fits)
+    ∙ ap (refuse_if 7) (row_shown r _ word four (c.type_inv.rec 2).fits (c.type_inv.rec 3).fits _ _ c.index_near.ensures))))
 
 pub returns-in_default : goal.returns-in_default
 returns-in_default c = stop _ _ _ _ c.check_length-c.ensures c.in_default.is

@@ -1,9 +1,8 @@
--- `is_slot_of`: byte by byte, and zeros after the record.
+-- `is_slot_of`: the head and the zeros.
 use Rattle.check_waiting.proofs.Laws.{tested_slot}
 use Rattle.check_waiting.proofs.is_slot_of.Goals as goal
 
 pub returns : goal.returns
 returns c =
-    rw c.zeros_from.ensures
-    (tested_slot c.args.slot.now c.args.rec.now c.requires.0 c.requires.1
-    c.requires.3 (c.shared_slice_known-2-1.given 2).fits (c.shared_slice_known-2-1.given 3).fits)
+    tested_slot c.args.slot.now c.args.rec.now _ c.requires (c.type_inv.rec 2).fits (c.type_inv.rec 3).fits c.to_be_bytes-size.ensures
+    _ _ _ c.eq.ensures c.eq-2.ensures c.zeros_from.ensures

@@ -10,5 +10,5 @@ slice_bounds-old-end c = sym (length-take-le 25 c.args.row.now (omega arith))
 pub returns : goal.returns
 unfolding every_second
 returns c =
-    row_is _ _ c.args.subject.now c.args.row.now _ _ c.requires.0 c.requires.1 c.requires.2 c.flags.ensures (omega arith)
+    row_is _ _ c.args.subject.now c.args.row.now _ _ c.requires.0 c.requires.1 c.requires.2 c.to_be_bytes.ensures (omega arith) c.flags.ensures (omega arith)
     c.part.ensures c.put-p.ensures c.put-p-2.ensures c.put-p-3.ensures c.put.ensures

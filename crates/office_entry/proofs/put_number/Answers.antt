@@ -4,4 +4,4 @@ use Rattle.text.proofs.Buffers.{puts_then}
 use Rattle.office_entry.proofs.put_number.Goals as goal
 
 pub returns : goal.returns
-returns c = puts_then (omega arith) c.put-p.ensures c.put_decimal.ensures
+returns c = rw (← c.from.ensures) (puts_then (omega arith) c.put-p.ensures c.put_decimal.ensures)

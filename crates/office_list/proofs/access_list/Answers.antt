@@ -22,5 +22,5 @@ pub returns : goal.returns
 returns c =
     let a = c.args in
     let e = all_written (terminal (tables_of a.h a.creds.now a.aces.now) a.queue.now) a.out.now _
-    (sym c.terminal_sound.ensures ∙ c.if-not-terminal_sound.false) (sym c.is_too_short.ensures ∙ c.if-is_too_short.false) c.put_list-n.ensures in
+    (sym c.terminal_sound.ensures ∙ c.if-not-terminal_sound.false) (sym c.is_too_short.ensures ∙ c.if-is_too_short.false) c.put_list.ensures in
     record { answer = e.0; length = e.1.0; buffer = e.1.1 }

@@ -6,4 +6,4 @@ use Rattle.office_list.proofs.put_list.Goals as goal
 
 pub returns : goal.returns
 unfolding ascii
-returns c = list_puts c.args.naces c.args.aces.now _ (omega arith) c.capped-count.ensures c.put-p.ensures c.put_rows-p.ensures c.put.ensures
+returns c = rw (← c.ace_rows.ensures) (list_puts _ (omega arith) c.put-p.ensures c.put_rows-p.ensures c.put.ensures)

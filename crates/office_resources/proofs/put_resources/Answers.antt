@@ -1,22 +1,31 @@
 -- `put_resources`: a turn puts the item of a known number, if the row names it, and the wildcards end the text.
-use Rattle.rows.proofs.Prelude.{refl, ◌∙◌, ◌<◌, add-one, arith}
+use Rattle.rows.proofs.Prelude.{refl, sym, ◌∙◌, ◌<◌, add-one, arith}
+use Rattle.text.specs.Text.{ascii}
 use Rattle.text.proofs.Buffers.{writing_start, writing_step, writing_end}
 use Rattle.rules_office.specs.Office.{resources_text}
-use Rattle.office_resources.proofs.Chosen.{count, in_number, href_number, items_put, items_last}
+use Rattle.office_resources.proofs.Chosen.{count, in_number, around_name, items_put, items_skip, items_last}
 use Rattle.office_resources.proofs.put_resources.Goals as goal
+use Rattle.office_resources.proofs.put_resources.Goals.{then-in_set, else-in_set}
 
-pub loop-k-init : goal.loop-k-init
-loop-k-init c = (omega arith, writing_start _ _ _ (omega arith) (omega arith))
+pub loop-n-init : goal.loop-n-init
+loop-n-init c = writing_start _ _ _ (omega arith) (omega arith)
 
-pub loop-k-preserved : goal.loop-k-preserved
-loop-k-preserved c =
+pub loop-n-preserved : goal.loop-n-preserved
+unfolding ascii
+loop-n-preserved c =
     let w = c.args.row.now in
-    let k = c.loop-k.k in
+    let k = c.loop-n.n-index in
     let h : k < count = omega arith in
-    (omega arith, rw (add-one k) (items_put w c.loop-k.first k (omega arith) (c.in_set-named.ensures ∙ in_number w k h) c.loop-k.invariant.1 c.put_item-p.ensures (href_number k h)))
+    let b = c.in_set.ensures ∙ in_number w k h in
+    elim c.if-in_set.branch [
+      | then-in_set t ↦ rw (add-one k, t.out-is, t.p-is, t.first-is)
+          (items_put w c.loop-n.first k (omega arith) (sym t.if-in_set.true ∙ b) c.loop-n.invariant t.put_choice-p.ensures (around_name k h _ t.name_of.ensures))
+      | else-in_set t ↦ rw (add-one k, t.out-is, t.p-is, t.first-is)
+          (items_skip w c.loop-n.first k (omega arith) (sym t.if-in_set.false ∙ b) c.loop-n.invariant)
+    ]
 
 pub returns : goal.returns
 unfolding resources_text
 returns c =
-    let e = items_last c.args.row.now c.loop-k.first c.loop-k.k (omega arith) (omega arith) in
-    writing_end (writing_step _ _ c.loop-k.invariant.1 e c.put_wildcards.ensures) refl
+    let e = items_last c.args.row.now c.loop-n.first c.loop-n.n-index (omega arith) (omega arith) in
+    writing_end (writing_step _ _ c.loop-n.invariant e c.put_wildcards.ensures) refl

@@ -1,56 +1,46 @@
--- `next_slot`: the three steps.
-use Rattle.rows.proofs.Prelude.{◌≤◌, arith}
-use Rattle.rules_terminal.specs.Slots.{round_of}
-use Rattle.queue_turn.proofs.TurnLaws.{before_bound, next_first, next_nobody, next_rest}
+-- `next_slot`: seat by seat.
+use Rattle.rows.proofs.Prelude.{refl, ap, ◌∙◌, rules}
+use Rattle.std.proofs.lemmas.Iterator.{YieldsList-from_take}
+use Rattle.std.proofs.lemmas.Iterator.Adapters.{YieldsList-from_skip}
+use Rattle.std.proofs.lemmas.Iterator.Consumers.{YieldsList-at, YieldsList-from_chain, YieldsList-from_first}
+use Rattle.rows.specs.Rows.{has_key}
+use Rattle.rows.specs.Promises.{index_of}
+use Rattle.rows.specs.Listed.{listed, left}
+use Rattle.rules.specs.Bits.{be16}
+use Rattle.rules_terminal.specs.Round.{nobody}
+use Rattle.queue_turn.proofs.TurnLaws.{once_gives, at_end, found, goes_on, turned_answer}
 use Rattle.queue_turn.proofs.next_slot.Goals as goal
 
-pub returns-in-Some : goal.returns-in-Some
-returns-in-Some c =
-    let bound : c.rows_before-k.result ≤ c.args.count =
-    omega (arith, c.rows_before-k.ensures, before_bound c.args.count c.args.creds.now c.args.m.now (round_of c.args.m.now)) in
-    next_first _ _ c.args.count c.args.creds.now _ c.rows_before-k.ensures
-    bound _ c.first_waiting-later.ensures _ c.in-Some.is
+pub loop-seat-init : goal.loop-seat-init
+unfolding be16
+loop-seat-init c =
+    let rows = listed c.args.rows in
+    let n = c.rows_before-passed.result in
+    let later = YieldsList-from_skip n (YieldsList-at c.skip-later.ensures.source (YieldsList-from_first (λ r. r.now) left rows c.iter.ensures)) c.skip-later.ensures.count in
+    let earlier = YieldsList-from_take n (YieldsList-at c.take.ensures.source (YieldsList-from_first (λ r. r.now) left rows c.iter-2.ensures)) c.take.ensures.count in
+    let shared = once_gives _ nobody c.once.ensures.item refl in
+    let first = YieldsList-from_chain (YieldsList-at c.chain.ensures.first later) (YieldsList-at (cc) shared) c.chain.ensures.first_done c.chain.ensures.second_done in
+    let whole = YieldsList-from_chain (YieldsList-at c.chain-seats.ensures.first first) (YieldsList-at (cc) earlier) c.chain-seats.ensures.first_done c.chain-seats.ensures.second_done in
+    (search rules, search rules, record { rest = _; gives = YieldsList-at c.into_iter-seat-iterator.ensures.into_iter_gives whole; answer = refl })
 
-pub returns-in-Some-shared : goal.returns-in-Some-shared
-returns-in-Some-shared c =
-    let bound : c.rows_before-k.result ≤ c.args.count =
-    omega (arith, c.rows_before-k.ensures, before_bound c.args.count c.args.creds.now c.args.m.now (round_of c.args.m.now)) in
-    next_nobody _ _ c.args.count c.args.creds.now _ c.rows_before-k.ensures bound _
-    c.first_waiting-later.ensures c.in_default.is _ c.find-shared.ensures _ c.in-Some-shared.is
+pub returns-in-Some-find : goal.returns-in-Some-find
+returns-in-Some-find c =
+    let slots = listed c.slots-slots.result in
+    found _ _ slots _ c.loop-seat.invariant.2 c.in-Some.seat c.next.new.self c.in-Some.ensures.steps _
+    (c.find.ensures ∙ ap (λ key. index_of (has_key 0 key) slots) c.part.ensures) _ c.in-Some-find.is
+    ∙ turned_answer slots _ c.slots-slots.ensures _ _ c.last_seat.ensures _ _ c.rows_before-passed.ensures
+
+pub loop-seat-preserved : goal.loop-seat-preserved
+loop-seat-preserved c =
+    let slots = listed c.slots-slots.result in (
+      search rules,
+      search rules,
+      goes_on _ _ slots _ c.loop-seat.invariant.2 c.in-Some.seat c.next.new.self c.in-Some.ensures.steps _
+          (c.find.ensures ∙ ap (λ key. index_of (has_key 0 key) slots) c.part.ensures) c.in_default.is,
+    )
 
 pub returns : goal.returns
 returns c =
-    let bound : c.rows_before-k.result ≤ c.args.count =
-    omega (arith, c.rows_before-k.ensures, before_bound c.args.count c.args.creds.now c.args.m.now (round_of c.args.m.now)) in
-    next_rest _ _ c.args.count c.args.creds.now _ c.rows_before-k.ensures bound _ c.first_waiting-later.ensures
-    c.in_default.is _ c.find-shared.ensures _ c.in_default-shared.is c.first_waiting.ensures
-
-pub overflow_mul-start : goal.overflow_mul-start
-overflow_mul-start c =
-    let bound : c.rows_before-k.result ≤ c.args.count =
-    omega (arith, c.rows_before-k.ensures, before_bound c.args.count c.args.creds.now c.args.m.now (round_of c.args.m.now)) in
-    omega (arith, bound, c.requires.0, c.well_formed)
-
-pub slice_bounds-first_waiting-count : goal.slice_bounds-first_waiting-count
-slice_bounds-first_waiting-count c =
-    let bound : c.rows_before-k.result ≤ c.args.count =
-    omega (arith, c.rows_before-k.ensures, before_bound c.args.count c.args.creds.now c.args.m.now (round_of c.args.m.now)) in
-    omega (arith, bound, c.requires.0)
-
-pub slice_bounds-first_waiting-start : goal.slice_bounds-first_waiting-start
-slice_bounds-first_waiting-start c =
-    let bound : c.rows_before-k.result ≤ c.args.count =
-    omega (arith, c.rows_before-k.ensures, before_bound c.args.count c.args.creds.now c.args.m.now (round_of c.args.m.now)) in
-    omega (arith, bound, c.requires.0)
-
-pub overflow_sub-count : goal.overflow_sub-count
-overflow_sub-count c =
-    let bound : c.rows_before-k.result ≤ c.args.count =
-    omega (arith, c.rows_before-k.ensures, before_bound c.args.count c.args.creds.now c.args.m.now (round_of c.args.m.now)) in
-    bound
-
-pub first_waiting-requires : goal.first_waiting-requires
-first_waiting-requires c =
-    let bound : c.rows_before-k.result ≤ c.args.count =
-    omega (arith, c.rows_before-k.ensures, before_bound c.args.count c.args.creds.now c.args.m.now (round_of c.args.m.now)) in
-    (omega (arith, bound, c.requires.0), c.requires.2)
+    let slots = listed c.slots-slots.result in
+    at_end _ _ slots _ c.loop-seat.invariant.2 c.next.new.self c.in-None.ensures.steps
+    ∙ turned_answer slots _ c.slots-slots.ensures _ _ c.last_seat.ensures _ _ c.rows_before-passed.ensures

@@ -1,28 +1,38 @@
--- `put_lines` meets its contract: a turn judges a record and puts its line.
-use Rattle.rows.proofs.Prelude.{◌≡◌, ◌+◌, add-sub_cancel_left, arith}
-use Rattle.rows.proofs.Laws.{take_rest}
-use Rattle.report.specs.Run.{length_of}
-use Rattle.report.proofs.Lines.{run_start, run_turn, run_cut, run_end}
+-- `put_lines` meets its contract: a turn judges a record and puts its line, and the last may put that a record is cut.
+use mathlib.Core.Logic.{inl}
+use Rattle.rows.proofs.Prelude.{◌+◌, ◌^◌, ◌≤◌, ◌<◌, List, ℕ, length, arith}
+use Rattle.rules.specs.declared.Tables.{Tables}
+use Rattle.report.proofs.Lines.{Running, run_start, run_turn, run_cut, run_end}
 use Rattle.report.proofs.put_lines.Goals as goal
 
-pub loop-rest-init : goal.loop-rest-init
-loop-rest-init c = run_start _ _ (omega arith) (omega arith) c.start_tables-t.ensures
+-- the numbers of all records that may be left fit
+few : {s o out rest : List ℕ} {at p : ℕ} (count : ℕ) {t : Tables} → length s ≤ 2 ^ 63 → Running s o at out p t rest (count + 1) → count + length rest < 2 ^ 64
+few count h i = omega (arith, i.numbers)
 
--- the length that the rest has after its clock
-pub returns-then-rest-end : goal.returns-then-rest-end
-returns-then-rest-end c =
-    let long : c.be16.result ≡ length_of c.loop-rest.rest.now = rw c.skip.ensures at c.be16.ensures in
-    let short = rw long at c.if-rest-end.true in
-    let e = run_cut c.loop-rest.invariant c.loop-rest-test.true short c.put_cut.ensures in
-    record { puts = e.0; lines_fit = e.1 }
+pub loop-index-init : goal.loop-index-init
+loop-index-init c =
+    let first : Running c.args.input.now c.args.out.now c.args.at c.args.out.now c.args.at c.start_tables-t.result c.args.input.now 1
+    = run_start _ _ (omega arith) (omega arith) c.start_tables-t.ensures in
+    rw (
+      c.into_iter-index-iterator.ensures.into_iter_gives,
+      c.enumerate-index-items.ensures.source,
+      c.enumerate-index-items.ensures.count,
+      c.new.ensures,
+    )
+    ((tt, tt, inl (few 0 (omega arith) first)), tt, first)
 
-pub loop-rest-preserved : goal.loop-rest-preserved
-loop-rest-preserved c =
-    let rest = c.loop-rest.rest.now in
-    let long : c.be16.result ≡ length_of rest = rw c.skip.ensures at c.be16.ensures in
-    let judged = rw (long, add-sub_cancel_left, c.be32.ensures) at c.judge_one-j.ensures in
-    run_turn c.loop-rest.invariant c.loop-rest-test.true (rw long at c.if-rest-end.false) judged
-    (rw long (take_rest (6 + length_of rest) rest)) c.put_line-p.ensures.puts c.put_line-p.ensures.line_fits
+pub loop-index-preserved-in-Ok : goal.loop-index-preserved-in-Ok
+loop-index-preserved-in-Ok c =
+    let g = rw c.in-Ok.is at c.in-Some.ensures.steps in
+    let turn = run_turn c.loop-index.invariant.2 c.in-Ok.entry g.0 c.judge_one-j.ensures (rw g.1 at c.put_line-p.ensures.puts) (rw g.1 at c.put_line-p.ensures.line_fits) in
+    let next = rw (← g.2) at turn in
+    ((tt, tt, inl (few _ (omega arith) next)), tt, next)
+
+pub loop-index-preserved : goal.loop-index-preserved
+loop-index-preserved c =
+    let g = rw c.in-Err.is at c.in-Some.ensures.steps in
+    let last = rw (← g.2) at (run_cut c.loop-index.invariant.2 g.0 c.put_cut-p.ensures) in
+    ((tt, tt, inl (few _ (omega arith) last)), tt, last)
 
 pub returns : goal.returns
-returns c = let e = run_end c.loop-rest.invariant c.loop-rest-test.false in record { puts = e.0; lines_fit = e.1 }
+returns c = let e = run_end c.loop-index.invariant.2 c.in-None.ensures.steps.0 in record { puts = e.0; lines_fit = e.1 }

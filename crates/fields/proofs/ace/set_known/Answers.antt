@@ -1,7 +1,7 @@
 -- `ace::set_known`: the ranges between and after the known numbers are fields of zeros, and the bytes of such a field are 0 too.
 use Rattle.rows.proofs.Prelude.{◌≡◌, sym, ap, ◌∙◌, Bool, ◌&&◌, List, ℕ, zero, suc, ◌+◌, ◌*◌, ◌%◌, ◌<◌, arith, get_or, eqb, bit_or, rules, ne_eqb}
 use native.Mathlib.Nat.{zero-add}
-use Rattle.rows.proofs.Zeros.{zero_both}
+use Rattle.rows.proofs.AllZero.{zero_both}
 use Rattle.rules.specs.Bits.{bits}
 use Rattle.rules.specs.Bodies.{set_known}
 use Rattle.rules.proofs.BitLaws.{bits_split, bits_in_byte, bits_byte, bits_word}

@@ -1,6 +1,10 @@
--- `direct::put` meets its contract: past the end only the position goes on; what fits is copied, and the rest is `put`'s.
-use Rattle.text.proofs.Buffers.{puts_beyond}
+-- `direct::put` meets its contract: a text that fits is copied whole.
+use Rattle.std.proofs.Common.{length, arith, sym, ◌∙◌}
+use lib.Seq.{take_all}
+use Rattle.text.proofs.Buffers.{puts_copied}
 use Rattle.text.proofs.direct.put.Goals as goal
 
-pub returns-then-size-at : goal.returns-then-size-at
-returns-then-size-at c = puts_beyond _ _ _ c.if-size-at.true c.advance.ensures
+pub returns-then-text-out : goal.returns-then-text-out
+returns-then-text-out c =
+    let t = c.args.text.now in
+    puts_copied {n = length t} (omega arith) (omega arith) (omega arith) (c.copy_from_slice.ensures.after ∙ sym (take_all (length t) t (omega arith))) (omega arith)

@@ -1,0 +1,2 @@
+-- The answers' numbers (Answers).
+pub mod Answers
