@@ -2,12 +2,22 @@
 // 0 RESET, 1 RFOTM, 2 RFPRO, 3 RFNOP, 4 SRESET.
 #![tactic(auto)]
 
-ghost use Rattle.std.specs.Prelude.{◌≡◌, not, ◌≤◌};
+ghost use Rattle.std.specs.Prelude.{◌≡◌, not};
 ghost use Rattle.rules.specs.States.{write_allowed, move_listed, state_allows};
 ghost use Rattle.rules.specs.Checks.{refuse_if, verdict, bad_target};
 ghost use Rattle.rules.specs.Promises.Groups.{state_checks};
+ghost use Rattle.check_state.specs.Columns.{column};
 
 use rules::{Action, Check, Head, State};
+
+// What an action writes: a column of `WRITES`.
+#[derive(Clone, Copy)]
+enum Write {
+    Doxm,
+    RowOwner,
+    Row,
+    Target,
+}
 
 // State by kind of write: doxm, row owners, rows, target.
 const WRITES: [[bool; 4]; 5] = [
@@ -19,18 +29,16 @@ const WRITES: [[bool; 4]; 5] = [
 ];
 
 // No other number is a state, and none allows a write.
-fn write_allowed(state: u8, kind: usize) -> bool
-    requires { kind ≤ 3 }
-    ensures { result ≡ write_allowed state kind }
+#[tactic(auto, unfolding(rules::specs::States::write_allowed))]
+fn write_allowed(state: u8, write: Write) -> bool
+    ensures { result ≡ write_allowed state (column write) }
 {
-    let s = state as usize;
-    if 4 < s {
-        return false;
-    }
-    WRITES[s][kind]
+    let state = usize::from(state);
+    state < WRITES.len() && WRITES[state][write as usize]
 }
 
 // The listed moves: a target by a state.
+#[tactic(auto, unfolding(rules::specs::States::move_listed))]
 fn move_listed(state: u8, owned: bool, target: u8) -> bool
     ensures { result ≡ move_listed state owned target }
 {
@@ -40,61 +48,49 @@ fn move_listed(state: u8, owned: bool, target: u8) -> bool
             State::RFPRO => owned,
             _ => false,
         },
-        State::RFPRO => match target {
-            State::RESET => true,
-            State::RFNOP => true,
-            State::SRESET => true,
-            _ => false,
-        },
-        State::RFNOP => match target {
-            State::RESET => true,
-            State::RFPRO => true,
-            State::SRESET => true,
-            _ => false,
-        },
-        State::SRESET => match target {
-            State::RESET => true,
-            State::RFPRO => true,
-            _ => false,
-        },
+        State::RFPRO => matches!(target, State::RESET | State::RFNOP | State::SRESET),
+        State::RFNOP => matches!(target, State::RESET | State::RFPRO | State::SRESET),
+        State::SRESET => matches!(target, State::RESET | State::RFPRO),
         _ => false,
+    }
+}
+
+// What each state allows: the writes of the table, applications and asserted roles in RFNOP alone, and reading always.
+fn state_allows(state: u8, a: Action) -> bool
+    ensures { result ≡ state_allows state a }
+{
+    match a {
+        Action::Serve => state == State::RFNOP,
+        Action::Read | Action::Malformed => true,
+        Action::SetRowOwner(_) => write_allowed(state, Write::RowOwner),
+        Action::SetOwner(owned) => {
+            write_allowed(state, Write::Doxm) && (state != State::SRESET || owned == 1)
+        }
+        Action::SetState(_) => write_allowed(state, Write::Target),
+        Action::Store(_) | Action::Remove(_, _) => write_allowed(state, Write::Row),
+        Action::Assert(connection) => state == State::RFNOP && connection == 1,
     }
 }
 
 fn check_state(state: u8, a: Action) -> Check
     ensures { result ≡ refuse_if 11 (not (state_allows state a)) }
 {
-    match a {
-        Action::Serve => Check::refuse_if(11, !(state == State::RFNOP)),
-        Action::Read => Check::Pass,
-        Action::SetRowOwner(_) => Check::refuse_if(11, !write_allowed(state, 1)),
-        Action::SetOwner(owned) => Check::refuse_if(
-            11,
-            !(write_allowed(state, 0) & (!(state == State::SRESET) | (owned == 1))),
-        ),
-        Action::SetState(_) => Check::refuse_if(11, !write_allowed(state, 3)),
-        Action::Store(_) => Check::refuse_if(11, !write_allowed(state, 2)),
-        Action::Remove(_, _) => Check::refuse_if(11, !write_allowed(state, 2)),
-        Action::Assert(connection) => Check::refuse_if(
-            11,
-            !((state == State::RFNOP) & (connection == 1)),
-        ),
-        Action::Malformed => Check::Pass,
-    }
+    Check::refuse_if(11, !state_allows(state, a))
 }
 
+#[tactic(auto, using(rules::proofs::Others::no_move), unfolding(rules::specs::States::move_allowed, rules::specs::Checks::refuse_if))]
 fn check_target(h: Head, a: Action) -> Check
     ensures { result ≡ refuse_if 12 (bad_target h a) }
 {
     let Action::SetState(target) = a else {
         return Check::Pass;
     };
-    let owned = h.owned == 1;
-    Check::refuse_if(12, !move_listed(h.state, owned, target))
+    Check::refuse_if(12, !move_listed(h.state, h.owned == 1, target))
 }
 
 // The first of the checks 11 and 12 that applies to the action.
 // Rules out: a write that the state forbids; a move to the present state; a role asserted over connection 0.
+#[tactic(auto, unfolding(rules::specs::Checks::verdict, rules::specs::Checks::refuse_if))]
 pub fn check_states(h: Head, a: Action) -> Check
     ensures { result ≡ verdict (state_checks h a) }
 {

@@ -5,7 +5,7 @@
 ghost use Rattle.std.specs.Prelude.{◌≡◌};
 ghost use Rattle.rules.specs.Record.{received};
 ghost use Rattle.rules.specs.Promises.Decision.{nothing_permitted, decided_by, decided};
-ghost use Rattle.rules.specs.Promises.Words.{was, before};
+ghost use Rattle.rules.specs.Promises.Words.{was, seen};
 
 use action::action_of;
 use caller::{caller_of, check_caller, row_of};
@@ -15,7 +15,7 @@ use check_state::check_states;
 use fields::record::body_of;
 use permission::effective;
 use reply::{check_capacity, reply_length};
-use rules::{ACE_ROWS, Action, CRED_ROWS, Caller, Check, Decision, Head};
+use rules::{Action, Caller, Check, Decision, TablesView};
 
 // A record that is refused is permitted nothing.
 fn turned_away(caller: Caller, c: Check) -> Decision
@@ -34,32 +34,31 @@ fn turned_away(caller: Caller, c: Check) -> Decision
 // Rules out: the body judged before the permission; another clock for the rows; a reply that does not fit permitted.
 pub fn decide_request(
     clock: u32,
-    h: Head,
-    creds: &[u8; CRED_ROWS],
-    aces: &[u8; ACE_ROWS],
+    tables: TablesView<'_>,
     caller: Caller,
     b: &[u8],
     capacity: usize,
 ) -> Decision
-    ensures { result ≡ decided_by clock (before h creds aces) caller (was b) capacity }
+    ensures { result ≡ decided_by clock (seen tables.entry) caller (was b) capacity }
 {
+    let TablesView { head, creds, aces } = tables;
     let header = caller.header;
-    let cred = row_of(h.ncreds, creds, caller.row);
-    let permission = effective(clock, h, aces, cred, header);
+    let cred = row_of(head.ncreds, creds, caller.row);
+    let permission = effective(clock, head, aces, cred, header);
     let a = action_of(header, b);
     let c = check_request(permission, header, a);
     let Check::Pass = c else {
         return turned_away(caller, c);
     };
-    let c = check_states(h, a);
+    let c = check_states(head, a);
     let Check::Pass = c else {
         return turned_away(caller, c);
     };
-    let c = check_rows(clock, h, creds, aces, cred, a, b);
+    let c = check_rows(clock, head, creds, aces, cred, a, b);
     let Check::Pass = c else {
         return turned_away(caller, c);
     };
-    let length = reply_length(clock, h, creds, aces, caller);
+    let length = reply_length(clock, tables, caller);
     let c = check_capacity(capacity, length);
     let Check::Pass = c else {
         return turned_away(caller, c);
@@ -75,20 +74,14 @@ pub fn decide_request(
 
 // The decision on a record.
 // Rules out: a decision that refuses every record with 8; the sender looked up before the header; a refusal with a permission.
-pub fn decide(
-    clock: u32,
-    h: Head,
-    creds: &[u8; CRED_ROWS],
-    aces: &[u8; ACE_ROWS],
-    rec: &[u8],
-    capacity: usize,
-) -> Decision
-    ensures { result ≡ decided (before h creds aces) (received clock (was rec) capacity) }
+pub fn decide(clock: u32, tables: TablesView<'_>, rec: &[u8], capacity: usize) -> Decision
+    ensures { result ≡ decided (seen tables.entry) (received clock (was rec) capacity) }
 {
-    let caller = caller_of(h.ncreds, creds, rec);
+    let TablesView { head, creds, .. } = tables;
+    let caller = caller_of(head.ncreds, creds, rec);
     let c = check_caller(rec.len(), caller);
     let Check::Pass = c else {
         return turned_away(caller, c);
     };
-    decide_request(clock, h, creds, aces, caller, body_of(rec), capacity)
+    decide_request(clock, tables, caller, body_of(rec), capacity)
 }

@@ -5,7 +5,7 @@
 ghost use Rattle.std.specs.Prelude.{◌≡◌, cond, ◌≤◌};
 ghost use Rattle.rules.specs.Directory.{links};
 ghost use Rattle.rules.specs.Links.{set_of, asks_links};
-ghost use Rattle.rules.specs.Promises.Words.{before};
+ghost use Rattle.rules.specs.Promises.Words.{seen};
 ghost use Rattle.permission_row.specs.ByLink.{of_link};
 ghost use Rattle.decision_links.specs.Linked.{link_header, link_passes, link_permitted, permitted_links};
 
@@ -15,7 +15,7 @@ use check_state::check_states;
 use directory::resource_row;
 use permission::effective_links;
 use permission_row::LINKS;
-use rules::{ACE_ROWS, Action, CRED_ROWS, Caller, Check, Head, Header, Links, Resource, Verb};
+use rules::{Action, Caller, Check, Head, Header, Links, Resource, TablesView, Verb};
 
 // The header with another resource.
 fn link_header(header: Header, n: u16) -> Header
@@ -68,21 +68,16 @@ fn bits_sum(h: Head, header: Header, permissions: [u8; LINKS]) -> u64
 }
 
 // The links' permissions are found in one walk over the access rows.
-fn link_set<'a>(
-    clock: u32,
-    h: Head,
-    creds: &'a [u8; CRED_ROWS],
-    aces: &'a [u8; ACE_ROWS],
-    caller: Caller,
-) -> u64
-    ensures { result ≡ set_of (link_permitted clock (before h creds aces) caller) links }
+fn link_set(clock: u32, tables: TablesView<'_>, caller: Caller) -> u64
+    ensures { result ≡ set_of (link_permitted clock (seen tables.entry) caller) links }
 {
+    let TablesView { head, creds, aces } = tables;
     let header = caller.header;
     let found = caller.row;
     let who = header.sender;
-    let cred = row_of(h.ncreds, creds, found);
-    let permissions = effective_links(clock, h, aces, cred, connection_of(who));
-    bits_sum(h, header, permissions)
+    let cred = row_of(head.ncreds, creds, found);
+    let permissions = effective_links(clock, head, aces, cred, connection_of(who));
+    bits_sum(head, header, permissions)
 }
 
 // RETRIEVE or UPDATE of /yard.
@@ -100,20 +95,14 @@ fn asks_links(h: Header) -> bool
 
 // The links of /yard in the response to a permitted record of this caller.
 // Rules out: a link without an endpoint for the connection; a link out of its season; the links for OBSERVE.
-pub fn links_of<'a>(
-    clock: u32,
-    h: Head,
-    creds: &'a [u8; CRED_ROWS],
-    aces: &'a [u8; ACE_ROWS],
-    caller: Caller,
-) -> Links
-    ensures { result ≡ permitted_links clock (before h creds aces) caller }
+pub fn links_of(clock: u32, tables: TablesView<'_>, caller: Caller) -> Links
+    ensures { result ≡ permitted_links clock (seen tables.entry) caller }
 {
     let header = caller.header;
     if !asks_links(header) {
         return Links::none();
     }
-    let set = link_set(clock, h, creds, aces, caller);
+    let set = link_set(clock, tables, caller);
     Links {
         set: set,
         size: u64::count_ones(set),

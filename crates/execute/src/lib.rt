@@ -20,7 +20,7 @@ use reply::put_reply;
 use row_lookup::store_range_of;
 use rules::{
     ACE_ROWS, Action, CRED_ROWS, Check, Decision, DefaultLists, Head, Judgement, Links, State,
-    StoreRange,
+    StoreRange, TablesView,
 };
 use rules_terminal::QUEUE;
 
@@ -41,13 +41,7 @@ pub fn payload(d: Decision, rec: &[u8]) -> &[u8]
 }
 
 // What the sender of a permitted record gets, with the rows to store, the links and the head of the tables afterwards.
-fn permitted(
-    d: Decision,
-    rec: &[u8],
-    store: StoreRange,
-    links: Links,
-    head: Head,
-) -> Judgement
+fn permitted(d: Decision, rec: &[u8], store: StoreRange, links: Links, head: Head) -> Judgement
     ensures { result ≡ permitted_by d (was rec) store links head }
 {
     Judgement {
@@ -79,9 +73,14 @@ pub fn execute(
         (received clock (was rec) (length reply.old))
         reply.old result creds.new aces.new reply.new }
 {
-    put_reply(reply, clock, h, creds, aces, d.caller);
+    let tables = TablesView {
+        head: h,
+        creds: &*creds,
+        aces: &*aces,
+    };
+    put_reply(reply, clock, tables, d.caller);
     let store = store_range_of(h, creds, aces, d.action, body_of(rec));
-    let links = links_of(clock, h, creds, aces, d.caller);
+    let links = links_of(clock, tables, d.caller);
     let head = apply(clock, h, creds, aces, d, rec, lists);
     permitted(d, rec, store, links, head)
 }
@@ -121,7 +120,12 @@ pub fn execute_queued(
 {
     let resource = d.caller.header.resource;
     if !resource.configuration {
-        let links = links_of(clock, h, creds, aces, d.caller);
+        let tables = TablesView {
+            head: h,
+            creds: &*creds,
+            aces: &*aces,
+        };
+        let links = links_of(clock, tables, d.caller);
         return permitted(d, rec, StoreRange::none(), links, h);
     }
     let was_valid = queue::round_valid(h.ncreds, creds, queue);
@@ -161,7 +165,12 @@ pub fn judge_sound(
         (received clock (was rec) (length reply.old))
         queue.old queue.new }
 {
-    let d = decide(clock, h, creds, aces, rec, reply.len());
+    let tables = TablesView {
+        head: h,
+        creds: &*creds,
+        aces: &*aces,
+    };
+    let d = decide(clock, tables, rec, reply.len());
     let c = d.check;
     let Check::Pass = c else {
         return Judgement::number_alone(h, c);

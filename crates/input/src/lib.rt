@@ -13,7 +13,7 @@ pub fn read_full<R: Read>(input: &mut R, buf: &mut [u8]) -> usize
     ensures part { result ≤ length buf.new }
     ensures room { length buf.new ≡ length buf.old }
 {
-    // A loop by hand: std's `read_exact` does not say how many bytes came before the end, and `read_to_end` asks for a heap.
+    // A loop by hand: `read_exact` does not say how many bytes came before the end, and `read_to_end` asks for a heap.
     let mut done = 0;
     while done < buf.len() {
         let n = input.read(&mut buf[done..]).unwrap_or(0);

@@ -15,7 +15,7 @@ use fields::{ace, byte_at, skip};
 use row_format::is_nil;
 use rows::part;
 use rules::ACE_ROW;
-use text::direct::put;
+use text::put;
 
 // Bytes of an old row.
 pub const OLD_ROW: usize = 25;

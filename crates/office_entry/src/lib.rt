@@ -12,7 +12,7 @@ ghost use Rattle.rules_office.specs.Office.{role_subject, connection_subject, su
 use fields::{ace, be16};
 use office_resources::put_resources;
 use rules::Subject;
-use text::{direct, put, put_byte, put_decimal};
+use text::{put, put_byte, put_decimal};
 
 #[tactic(auto, using(crate::proofs::Parts::tested), unfolding(rules_office::specs::Office::hex_digit))]
 fn hex_digit(d: u8) -> u8
@@ -62,9 +62,9 @@ fn put_uuid(out: &mut [u8], at: usize, u: &[u8]) -> usize
 fn put_uuid_subject(out: &mut [u8], at: usize, row: &[u8]) -> usize
     ensures { Puts out.old at (uuid_subject (was row)) out.new result }
 {
-    let p = direct::put(out, at, b"{\"uuid\":\"");
+    let p = put(out, at, b"{\"uuid\":\"");
     let p = put_uuid(out, p, ace::subject(row));
-    direct::put(out, p, b"\"}")
+    put(out, p, b"\"}")
 }
 
 // A key and a number.
@@ -80,7 +80,7 @@ fn put_role_subject(out: &mut [u8], at: usize, row: &[u8]) -> usize
 {
     let p = put_number(out, at, b"{\"authority\":\"", ace::authority(row));
     let p = put_number(out, p, b"\",\"role\":\"", ace::role(row));
-    direct::put(out, p, b"\"}")
+    put(out, p, b"\"}")
 }
 
 #[tactic(auto, unfolding(rules_office::specs::Office::connection_subject, text::specs::Text::ascii))]
@@ -112,10 +112,10 @@ pub fn put_row(out: &mut [u8], at: usize, row: &[u8]) -> usize
     ensures { Puts out.old at (row_text (was row)) out.new result }
 {
     let p = put_number(out, at, b"{\"aceid\":", be16(row));
-    let p = direct::put(out, p, b",\"subject\":");
+    let p = put(out, p, b",\"subject\":");
     let p = put_subject(out, p, row);
-    let p = direct::put(out, p, b",\"resources\":[");
+    let p = put(out, p, b",\"resources\":[");
     let p = put_resources(out, p, row);
     let p = put_number(out, p, b"],\"permission\":", ace::permission(row));
-    direct::put(out, p, b"}")
+    put(out, p, b"}")
 }

@@ -1,5 +1,5 @@
 -- The text of the rows that are left, and what the entry point ends with.
-use Rattle.rows.proofs.Prelude.{◌≡◌, ap, ◌∙◌, Bool, true, false, ◌&&◌, cond, List, [], ◌++◌, map, append_assoc, append-nil, ℕ, ◌-◌, ◌≤◌, ◌<◌, min, arith}
+use Rattle.rows.proofs.Prelude.{◌≡◌, ap, ◌∙◌, Bool, true, false, ◌&&◌, cond, List, [], ◌∷◌, ◌++◌, map, append_assoc, append-nil, ℕ, ◌-◌, ◌≤◌, ◌<◌, min, arith}
 use Rattle.rows.proofs.Prelude.{length, take, drop, ltb, ltb-false, bool_cases}
 use Rattle.text.specs.Text.{ascii}
 use Rattle.text.specs.Buffer.{largest, Puts}

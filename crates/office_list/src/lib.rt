@@ -9,7 +9,7 @@ ghost use Rattle.text.specs.Buffer.{Puts};
 ghost use Rattle.rows.specs.Listed.{listed};
 ghost use Rattle.rules.specs.declared.Table.TheVariants.{Aces};
 ghost use Rattle.rules.specs.Tables.{rows_in};
-ghost use Rattle.rules.specs.Promises.Words.{was, before};
+ghost use Rattle.rules.specs.Promises.Words.{was, seen};
 ghost use Rattle.rules.specs.Reading.{filled};
 ghost use Rattle.rules.specs.Checks.{number_of};
 ghost use Rattle.rules_terminal.specs.Terminal.{terminal};
@@ -22,9 +22,9 @@ use fields::{ace, ace_rows};
 use office_entry::put_row;
 use office_resources::put_comma;
 use rows::Rows;
-use rules::{ACE_ROW, ACE_ROWS, ACES, CRED_ROWS, Head};
+use rules::{ACE_ROWS, TablesView};
 use rules_terminal::QUEUE;
-use text::{direct, put};
+use text::put;
 
 // Bytes that fit every text (`text_short`, rules_office/proofs/Bounds.antt).
 const TEXT_MAX: usize = 13069;
@@ -62,7 +62,7 @@ fn put_entry(out: &mut [u8], at: usize, first: bool, row: &[u8]) -> usize
     ensures { Puts out.old at (cond (seasonal (was row)) [] (comma first ++ row_text (was row))) out.new result }
 {
     if is_seasonal(row) {
-        return direct::put(out, at, b"");
+        return put(out, at, b"");
     }
     let p = put_comma(out, at, first);
     put_row(out, p, row)
@@ -102,22 +102,21 @@ fn is_too_short(capacity: usize, naces: u8, aces: &[u8; ACE_ROWS]) -> bool
 // The tables' access list as office text: the length of the text, and the caller's buffer afterwards.
 // Rules out: a byte written on 18; 18 where the text fits exactly; the text of tables that are
 // not sound, be it only in the queue; a row of a shorter period in the text.
-pub fn access_list<'a>(
-    h: Head,
-    creds: &'a [u8; CRED_ROWS],
-    aces: &'a [u8; ACE_ROWS],
+pub fn access_list(
+    tables: TablesView<'_>,
     queue: &[u8; QUEUE],
     out: &mut [u8],
 ) -> Result<usize, TextError>
-    ensures answer { answer_of result ≡ number_of (office_verdict (terminal (before h creds aces) (was queue)) (length out.old)) }
-    ensures length { result_unwrap_or result 0 ≡ length (office_reply (terminal (before h creds aces) (was queue)) (length out.old)) }
-    ensures buffer { out.new ≡ filled out.old (office_reply (terminal (before h creds aces) (was queue)) (length out.old)) }
+    ensures answer { answer_of result ≡ number_of (office_verdict (terminal (seen tables.entry) (was queue)) (length out.old)) }
+    ensures length { result_unwrap_or result 0 ≡ length (office_reply (terminal (seen tables.entry) (was queue)) (length out.old)) }
+    ensures buffer { out.new ≡ filled out.old (office_reply (terminal (seen tables.entry) (was queue)) (length out.old)) }
 {
-    if !terminal_sound(h, creds, aces, queue) {
+    let TablesView { head, aces, .. } = tables;
+    if !terminal_sound(tables, queue) {
         return Err(TextError::NotSound);
     }
-    if is_too_short(out.len(), h.naces, aces) {
+    if is_too_short(out.len(), head.naces, aces) {
         return Err(TextError::TooShort);
     }
-    Ok(put_list(out, h.naces, aces))
+    Ok(put_list(out, head.naces, aces))
 }

@@ -11,18 +11,14 @@ ghost use Rattle.rules_office.specs.Office.{comma, separated, names, href, choic
 
 use fields::ace;
 use rules::Resource;
-use text::{direct, put};
+use text::put;
 
 // A comma, but not before the first.
 // Rules out: a comma before the first; none before the second.
 pub fn put_comma(out: &mut [u8], at: usize, first: bool) -> usize
     ensures { Puts out.old at (comma first) out.new result }
 {
-    if first {
-        at
-    } else {
-        direct::put(out, at, b",")
-    }
+    if first { at } else { put(out, at, b",") }
 }
 
 // The name of resource n; a number that is not known has none.
@@ -52,9 +48,9 @@ fn put_choice(out: &mut [u8], at: usize, first: bool, key: &[u8], value: &[u8]) 
     ensures { Puts out.old at (comma first ++ (was key ++ (was value ++ ascii "\"}"))) out.new result }
 {
     let p = put_comma(out, at, first);
-    let p = direct::put(out, p, key);
+    let p = put(out, p, key);
     let p = put(out, p, value);
-    direct::put(out, p, b"\"}")
+    put(out, p, b"\"}")
 }
 
 // The wildcards: what may be named after the known resources.
@@ -79,7 +75,7 @@ fn put_wildcards(out: &mut [u8], at: usize, first: bool, row: &[u8]) -> usize
     p
 }
 
-// The numbers of the known resources.
+// The numbers of the known resources. In one table with their names the loop's proof did not close.
 const NUMBERS: [u16; 13] = [0, 1, 2, 3, 4, 8, 9, 10, 11, 12, 13, 14, 16];
 
 // The resources of a row: those that it names, with a comma between them, and then its wildcards.

@@ -3,7 +3,7 @@
 #![tactic(auto)]
 
 ghost use Rattle.std.specs.Prelude.{◌≡◌, true, false, map, ◌∷◌, eqb, length, take, drop};
-ghost use Rattle.rows.specs.Words.{was};
+ghost use Rattle.rules.specs.Promises.Words.{was, seen};
 ghost use Rattle.rows.specs.Listed.{listed};
 ghost use Rattle.rules.specs.Tables.{tables_of};
 ghost use Rattle.rules_terminal.specs.Slots.{round_of, waiting, slot_size};
@@ -15,7 +15,7 @@ ghost use Rattle.queue_turn.specs.Turns.{slot_in, rows_ahead, due_of};
 use fields::cred_rows;
 use queue::{Queue, record_in};
 use rows::{Rows, part};
-use rules::{ACE_ROWS, CRED_ROWS, Head};
+use rules::TablesView;
 use std::iter::once;
 
 // How many rows there are.
@@ -83,17 +83,13 @@ pub struct Due {
 
 // The record whose turn it is, in a sound terminal where one waits.
 // Rules out: the first record that came; that of the last seat taken, once more; a byte of another record after it.
-pub fn due_record<'a>(
-    h: Head,
-    creds: &'a [u8; CRED_ROWS],
-    aces: &'a [u8; ACE_ROWS],
-    queue: &[u8],
-) -> Due
-    requires { (sound_terminal (terminal (tables_of h creds.now aces.now) queue.now) ≡ true) × (eqb (length (waiting queue.now)) 0 ≡ false) }
-    ensures { result ≡ due_of (terminal (tables_of h (was creds) (was aces)) (was queue)) }
+pub fn due_record(tables: TablesView<'_>, queue: &[u8]) -> Due
+    requires { (sound_terminal (terminal (seen tables) queue.now) ≡ true) × (eqb (length (waiting queue.now)) 0 ≡ false) }
+    ensures { result ≡ due_of (terminal (seen tables.entry) (was queue)) }
 {
+    let TablesView { head, creds, .. } = tables;
     let queue = Queue::new(queue);
-    let due = next_slot(cred_rows(h.ncreds, creds), queue);
+    let due = next_slot(cred_rows(head.ncreds, creds), queue);
     let slot = queue.slots().row_at(due);
     Due {
         bytes: record_bytes(slot),

@@ -24,8 +24,7 @@ use rules::{
     ACE_ROW, ACES, CRED_BODY, CRED_ROWS, CREDS, Caller, Check, Head, Header, Resource, TablesView,
     Verb,
 };
-use text::direct::put;
-use text::put_byte;
+use text::{put, put_byte};
 
 fn put_owner(out: &mut [u8], at: usize, h: Head) -> usize
     ensures { Puts out.old at (own_body h 0) out.new result }

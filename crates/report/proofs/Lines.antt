@@ -16,7 +16,8 @@ use Rattle.text.specs.Text.{ascii, decimal}
 use Rattle.text.specs.Buffer.{written, largest, Puts}
 use Rattle.text.proofs.Decimals.{decimal_length}
 use Rattle.text.proofs.Buffers.{puts_then, puts_length, Writing, writing_start, writing_step, writing_end}
-use Rattle.report.specs.Run.{header, line, line_for, cut, lent, length_of, first_of, rest_of, is_cut, lines_from, lines, run_text}
+use Rattle.report.specs.Run.{header, line, line_for, cut, lent, length_of, first_of, rest_of, is_cut}
+use Rattle.report.specs.Run.{lines_from, lines, run_text}
 use Rattle.report.specs.Fits.{LineFits, LinesFit, Whole}
 
 -- ---- a line
@@ -82,18 +83,20 @@ module _ {s o : List ℕ} {at : ℕ} {out : List ℕ} {p : ℕ} {t : Tables} {re
       (writing_end i.writing e, λ k. omega (arith, i.short k, ap length e))
 
   -- a record that is not all there
-  pub run_cut : {out' : List ℕ} {r : ℕ} {rest' : List ℕ} {x : Cut} → gives rest (Some (Err x)) rest' → Puts out p cut out' r
+  pub run_cut : {out' : List ℕ} {r : ℕ} {rest' : List ℕ} {x : Cut} → gives rest (Some (Err x)) rest'
+      → Puts out p cut out' r
       → Running s o at out' r t rest' (number + 1)
   run_cut {out'} {r} {rest'} g q =
-      let ends : lines_from i.steps t (number + 1) rest' ≡ [] = rw g.2 (lines_end i.steps t (number + 1) [] (omega arith)) in
       let none : length rest' ≡ 0 = ap length g.2 in
-      let e : lines_from i.steps t number rest ≡ cut ++ lines_from i.steps t (number + 1) rest' = rw (step g.0, g.1, ends, append-nil) in
+      let more = lines_from i.steps t (number + 1) rest' in
+      let ends : more ≡ [] = lines_end i.steps t (number + 1) rest' (omega arith) in
+      let e : lines_from i.steps t number rest ≡ cut ++ more = rw (step g.0, g.1, ends, append-nil) in
       record {
         steps = i.steps;
         enough = omega arith;
-        writing = writing_step cut (lines_from i.steps t (number + 1) rest') i.writing e q;
+        writing = writing_step cut more i.writing e q;
         numbers = omega (arith, i.numbers);
-        short = λ k. omega (arith, i.short k, ap length e ∙ length-append cut (lines_from i.steps t (number + 1) rest'), cut_length);
+        short = λ k. omega (arith, i.short k, ap length e ∙ length-append cut more, cut_length);
       }
 
   -- a record, and what the judge says of it
@@ -104,7 +107,8 @@ module _ {s o : List ℕ} {at : ℕ} {out : List ℕ} {p : ℕ} {t : Tables} {re
       → Running s o at out' r j.tables rest' (number + 1)
   run_turn {out'} {r} {rest'} g {j} w e q l =
       let c : 6 + length_of rest ≤ length rest = ltb-false (length rest) (6 + length_of rest) w.1 in
-      let len : length rest' ≡ length rest - (6 + length_of rest) = ap length w.4 ∙ length-drop (6 + length_of rest) rest in
+      let taken = 6 + length_of rest in
+      let len : length rest' ≡ length rest - taken = ap length w.4 ∙ length-drop taken rest in
       let text = line number j.answer j.permission j.tables.state in
       let more = lines_from (i.steps - 1) j.tables (number + 1) rest' in
       let two : lines_from i.steps t number rest ≡ text ++ more = rw (e, w.4, w.2, w.3, step w.0, w.1) in

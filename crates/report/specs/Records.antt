@@ -1,4 +1,4 @@
--- What the iterator over the records of a run gives: a record with its clock, or that the rest of the input is no whole record.
+-- What the iterator over the records of a run gives: a record with its clock, or that the rest is no whole record.
 use Rattle.std.specs.Prelude.{◌≡◌, ◌<◌, Option, Some, None, Result, Ok, Err, [], length, take, drop, true, false}
 use Rattle.rules.specs.Types.{Bytes}
 use Rattle.report.specs.declared.records.Record.{Record}

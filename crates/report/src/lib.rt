@@ -84,6 +84,7 @@ fn judge_one(t: Tables, clock: u32, rec: &[u8]) -> Judged
         rec,
         &mut reply,
     );
+    // Put together by hand: a `From` would have to stand in the crate of `Tables`.
     let Head {
         state,
         owned,

@@ -72,6 +72,7 @@ pub fn fits(length: usize, n: usize) -> bool
 }
 
 // Whether the new image is the current one, where that is asked.
+// The store, the image and the position stay three parameters: a struct of them would be made in `next` for two functions alone.
 fn settled(store: &[u8], new: &[u8], from: usize) -> bool
     requires { length store.now ≡ size_for (length new.now) }
     ensures { result ≡ settled (was store) (was new) from }

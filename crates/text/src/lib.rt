@@ -2,8 +2,6 @@
 // No function has a `requires`: a byte past the buffer's end is not written, and the position goes on, so an empty buffer measures.
 #![tactic(auto)]
 
-pub mod direct;
-
 ghost use Rattle.std.specs.Prelude.{◌≡◌, [], ◌∷◌, min, length};
 ghost use Rattle.rows.specs.Words.{was};
 ghost use Rattle.text.specs.Text.{decimal};
@@ -21,10 +19,22 @@ pub fn put_byte(out: &mut [u8], at: usize, b: u8) -> usize
 }
 
 // A text. Past the buffer's end nothing is written; of a text over the end the part that fits is put, and the position goes on.
-// Its code is in a program once: crate `reply`, which must be fast, has `direct::put`.
+// A text that fits is copied where it is put, which is fast.
 // Rules out: a text cut one byte early; bytes before the position touched.
-#[inline(never)]
 pub fn put(out: &mut [u8], at: usize, text: &[u8]) -> usize
+    ensures { Puts out.old at (was text) out.new result }
+{
+    if at <= out.len() && text.len() <= out.len() - at {
+        let end = at + text.len();
+        out[at..end].copy_from_slice(text);
+        return end;
+    }
+    put_cut(out, at, text)
+}
+
+// The same of a text over the end or past it: rare, so that its code is in a program once.
+#[inline(never)]
+fn put_cut(out: &mut [u8], at: usize, text: &[u8]) -> usize
     ensures { Puts out.old at (was text) out.new result }
 {
     let start = at.min(out.len());

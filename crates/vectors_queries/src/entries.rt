@@ -42,7 +42,8 @@ pub struct Entry<'a> {
     pub body: &'a [u8],
 }
 
-// The entries of a file in their order, up to one that is cut. One whose tag is not known is an error, and those after it follow.
+// Not one type with that of `vectors`: there the size follows from the tag, and an unknown tag ends the file.
+// The entries of a file in their order, up to one that is cut. One whose tag is not known is an error, and more follow.
 #[derive(Drop)]
 pub struct Entries<'a> {
     rest: &'a [u8],

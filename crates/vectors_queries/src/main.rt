@@ -98,7 +98,8 @@ fn stepped(rt: &impl Print, p: &mut Progress, s: &[u8]) {
     p.tally.compare(rt, step_of(skip(s, 8)) == Some(step));
 }
 
-// The step of these bytes: 0 done, 1 a byte to write at a place, 2 unfit; the place and the byte, both 0 where none is written.
+// The step of these bytes: 0 done, 1 a byte to write at a place, 2 unfit; then the place and the byte, 0 where none is
+// written.
 fn step_of(s: &[u8]) -> Option<Step> {
     match (byte_at(s, 0), be16(skip(s, 1)), byte_at(s, 3)) {
         (0, 0, 0) => Some(Step::Done),

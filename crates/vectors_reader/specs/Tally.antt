@@ -1,4 +1,5 @@
--- What is counted of the entries of a file: the one that is looked at, and those that differ. A count ends at the largest number.
+-- What is counted of the entries of a file: the one that is looked at, and those that differ.
+-- A count ends at the largest number.
 use Rattle.std.specs.Prelude.{Bool, cond, ℕ, ◌+◌, min}
 use Rattle.vectors_reader.specs.declared.Tally.{Tally}
 

@@ -35,12 +35,12 @@ module _ (t : Tables) (q : Request) (k : Caller) (c : Check) (is : k ≡ caller_
 pub returns-in_default : goal.returns-in_default
 returns-in_default c =
     let a = c.args in
-    refused (tables_of a.h a.creds.now a.aces.now) (received a.clock a.rec.now a.capacity) _ _ c.caller_of-caller.ensures c.check_caller-c.ensures _ _
+    refused (tables_of a.tables.head a.tables.creds.now a.tables.aces.now) (received a.clock a.rec.now a.capacity) _ _ c.caller_of-caller.ensures c.check_caller-c.ensures _ _
     c.in_default.is c.turned_away.ensures
 
 pub returns : goal.returns
 returns c =
     let a = c.args in
     c.decide_request.ensures
-    ∙ rest_decides (tables_of a.h a.creds.now a.aces.now) (received a.clock a.rec.now a.capacity) _ _ c.caller_of-caller.ensures c.check_caller-c.ensures _
+    ∙ rest_decides (tables_of a.tables.head a.tables.creds.now a.tables.aces.now) (received a.clock a.rec.now a.capacity) _ _ c.caller_of-caller.ensures c.check_caller-c.ensures _
     c.body_of.ensures c.in-Pass.is

@@ -96,32 +96,32 @@ module _ (clock : ℕ) (t : Tables) (k : Caller) (b : List ℕ) (room : ℕ) whe
 pub returns-in_default : goal.returns-in_default
 returns-in_default c =
     let a = c.args in
-    refused_first a.clock (tables_of a.h a.creds.now a.aces.now) a.caller a.b.now a.capacity _ _ _ _ c.row_of-cred.ensures c.effective-permission.ensures
+    refused_first a.clock (tables_of a.tables.head a.tables.creds.now a.tables.aces.now) a.caller a.b.now a.capacity _ _ _ _ c.row_of-cred.ensures c.effective-permission.ensures
     c.action_of-a.ensures c.check_request-c.ensures _ _ c.in_default.is c.turned_away.ensures
 
 pub returns-in_default-c : goal.returns-in_default-c
 returns-in_default-c c =
     let a = c.args in
-    refused_second a.clock (tables_of a.h a.creds.now a.aces.now) a.caller a.b.now a.capacity _ _ _ _ c.row_of-cred.ensures c.effective-permission.ensures
+    refused_second a.clock (tables_of a.tables.head a.tables.creds.now a.tables.aces.now) a.caller a.b.now a.capacity _ _ _ _ c.row_of-cred.ensures c.effective-permission.ensures
     c.action_of-a.ensures c.check_request-c.ensures c.in-Pass.is _ c.check_states-c.ensures _ _ c.in_default-c.is c.turned_away-in_default-c.ensures
 
 pub returns-in_default-c-2 : goal.returns-in_default-c-2
 returns-in_default-c-2 c =
     let a = c.args in
-    refused_third a.clock (tables_of a.h a.creds.now a.aces.now) a.caller a.b.now a.capacity _ _ _ _ c.row_of-cred.ensures c.effective-permission.ensures
+    refused_third a.clock (tables_of a.tables.head a.tables.creds.now a.tables.aces.now) a.caller a.b.now a.capacity _ _ _ _ c.row_of-cred.ensures c.effective-permission.ensures
     c.action_of-a.ensures c.check_request-c.ensures c.in-Pass.is _ c.check_states-c.ensures c.in-Pass-c.is _ c.check_rows-c.ensures _ _ c.in_default-c-2.is
     c.turned_away-in_default-c-2.ensures
 
 pub returns-in_default-c-3 : goal.returns-in_default-c-3
 returns-in_default-c-3 c =
     let a = c.args in
-    refused_fourth a.clock (tables_of a.h a.creds.now a.aces.now) a.caller a.b.now a.capacity _ _ _ _ c.row_of-cred.ensures c.effective-permission.ensures
+    refused_fourth a.clock (tables_of a.tables.head a.tables.creds.now a.tables.aces.now) a.caller a.b.now a.capacity _ _ _ _ c.row_of-cred.ensures c.effective-permission.ensures
     c.action_of-a.ensures c.check_request-c.ensures c.in-Pass.is _ c.check_states-c.ensures c.in-Pass-c.is _ c.check_rows-c.ensures c.in-Pass-c-2.is _ _
     c.reply_length-length.ensures c.check_capacity-c.ensures _ _ c.in_default-c-3.is c.turned_away-in_default-c-3.ensures
 
 pub returns : goal.returns
 returns c =
     let a = c.args in
-    passed_all a.clock (tables_of a.h a.creds.now a.aces.now) a.caller a.b.now a.capacity _ _ _ _ c.row_of-cred.ensures c.effective-permission.ensures
+    passed_all a.clock (tables_of a.tables.head a.tables.creds.now a.tables.aces.now) a.caller a.b.now a.capacity _ _ _ _ c.row_of-cred.ensures c.effective-permission.ensures
     c.action_of-a.ensures c.check_request-c.ensures c.in-Pass.is _ c.check_states-c.ensures c.in-Pass-c.is _ c.check_rows-c.ensures c.in-Pass-c-2.is _ _
     c.reply_length-length.ensures c.check_capacity-c.ensures c.in-Pass-c-3.is

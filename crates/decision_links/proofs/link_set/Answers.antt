@@ -8,5 +8,5 @@ pub returns : goal.returns
 returns c =
     let a = c.args in
     c.bits_sum.ensures
-    ∙ set_is a.clock (tables_of a.h a.creds.now a.aces.now) a.caller _ _ _
+    ∙ set_is a.clock (tables_of a.tables.head a.tables.creds.now a.tables.aces.now) a.caller _ _ _
     c.row_of-cred.ensures c.connection_of.ensures c.effective_links-permissions.ensures

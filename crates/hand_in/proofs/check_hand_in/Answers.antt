@@ -11,13 +11,13 @@ use Rattle.rules.specs.declared.Table.TheVariants.{Creds}
 
 pub returns-in_default-c : goal.returns-in_default-c
 returns-in_default-c c =
-    let tables : Tables = tables_of c.args.h c.args.creds.now c.args.aces.now in
+    let tables : Tables = tables_of c.args.tables.head c.args.tables.creds.now c.args.tables.aces.now in
     skip _ _ _ c.check_terminal-c.ensures c.in-Pass.is
     (stop_all (sender_checks (rows Creds tables) c.args.rec.now) _ _ c.check_record-c.ensures c.in_default-c.is)
 
 pub check_free-requires : goal.check_free-requires
 check_free-requires c =
-    let tables : Tables = tables_of c.args.h c.args.creds.now c.args.aces.now in
+    let tables : Tables = tables_of c.args.tables.head c.args.tables.creds.now c.args.tables.aces.now in
     let q = sound_queue_lem tables c.args.queue.now
     (not-false _ (not_applied _ _ c.check_terminal-c.ensures c.in-Pass.is)) in (
       q.long,
@@ -28,7 +28,7 @@ check_free-requires c =
 
 pub returns : goal.returns
 returns c =
-    let tables : Tables = tables_of c.args.h c.args.creds.now c.args.aces.now in
+    let tables : Tables = tables_of c.args.tables.head c.args.tables.creds.now c.args.tables.aces.now in
     skip _ _ _ c.check_terminal-c.ensures c.in-Pass.is
     (skip_all (sender_checks (rows Creds tables) c.args.rec.now) _
     c.check_record-c.ensures c.in-Pass-c.is (last _ _ c.check_free.ensures))

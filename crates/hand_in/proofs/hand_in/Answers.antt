@@ -10,16 +10,16 @@ use Rattle.hand_in.proofs.hand_in.Goals as goal
 
 pub returns-in_default : goal.returns-in_default
 returns-in_default c =
-    transition c.args.h c.args.creds.now c.args.aces.now c.args.queue.now c.args.rec.now
+    transition c.args.tables.head c.args.tables.creds.now c.args.tables.aces.now c.args.queue.now c.args.rec.now
     _ _ c.check_hand_in-c.ensures c.in_default.is _ _ c.number_alone.ensures refl refl
 
 pub enqueue-requires : goal.enqueue-requires
 enqueue-requires c =
-    let tables : Tables = tables_of c.args.h c.args.creds.now c.args.aces.now in
+    let tables : Tables = tables_of c.args.tables.head c.args.tables.creds.now c.args.tables.aces.now in
     can_keep tables c.args.queue.now c.args.rec.now (sym c.check_hand_in-c.ensures ∙ c.in-Pass.is)
 
 pub returns : goal.returns
 returns c =
-    transition c.args.h c.args.creds.now c.args.aces.now c.args.queue.now c.args.rec.now
+    transition c.args.tables.head c.args.tables.creds.now c.args.tables.aces.now c.args.queue.now c.args.rec.now
     _ _ c.check_hand_in-c.ensures c.in-Pass.is _ _
-    (c.kept.ensures ∙ ap (λ (v : Check). number_judgement c.args.h (number_of v)) (sym c.in-Pass.is)) c.enqueue.ensures refl
+    (c.kept.ensures ∙ ap (λ (v : Check). number_judgement c.args.tables.head (number_of v)) (sym c.in-Pass.is)) c.enqueue.ensures refl

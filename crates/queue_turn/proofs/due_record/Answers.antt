@@ -7,18 +7,18 @@ use Rattle.queue_turn.proofs.due_record.Goals as goal
 
 pub new-queue-requires : goal.new-queue-requires
 new-queue-requires c =
-    let queue = sound_queue_lem (tables_of c.args.h c.args.creds.now c.args.aces.now) c.args.queue.now c.requires.0 in (queue.long, queue.few)
+    let queue = sound_queue_lem (tables_of c.args.tables.head c.args.tables.creds.now c.args.tables.aces.now) c.args.queue.now c.requires.0 in (queue.long, queue.few)
 
 pub record_bytes-requires : goal.record_bytes-requires
 record_bytes-requires c =
-    let tables = tables_of c.args.h c.args.creds.now c.args.aces.now in
+    let tables = tables_of c.args.tables.head c.args.tables.creds.now c.args.tables.aces.now in
     let m = c.args.queue.now in
     ap length (slot_read tables m c.requires.0 c.requires.1 _ c.new-queue.ensures _ c.slots.ensures _ c.cred_rows.ensures _ c.next_slot-due.ensures _ c.row_at-slot.ensures)
     ∙ slot_whole_long tables m c.requires.0 c.requires.1
 
 pub returns : goal.returns
 returns c =
-    let tables = tables_of c.args.h c.args.creds.now c.args.aces.now in
+    let tables = tables_of c.args.tables.head c.args.tables.creds.now c.args.tables.aces.now in
     let m = c.args.queue.now in
     due_record_is tables m c.requires.0 c.requires.1 _ _ _
     (slot_read tables m c.requires.0 c.requires.1 _ c.new-queue.ensures _ c.slots.ensures _ c.cred_rows.ensures _ c.next_slot-due.ensures _ c.row_at-slot.ensures)

@@ -6,13 +6,16 @@ use Rattle.report.proofs.Lines.{Running, run_start, run_turn, run_cut, run_end}
 use Rattle.report.proofs.put_lines.Goals as goal
 
 -- the numbers of all records that may be left fit
-few : {s o out rest : List ℕ} {at p : ℕ} (count : ℕ) {t : Tables} → length s ≤ 2 ^ 63 → Running s o at out p t rest (count + 1) → count + length rest < 2 ^ 64
+few : {s o out rest : List ℕ} {at p : ℕ} (count : ℕ) {t : Tables} → length s ≤ 2 ^ 63
+    → Running s o at out p t rest (count + 1) → count + length rest < 2 ^ 64
 few count h i = omega (arith, i.numbers)
 
 pub loop-index-init : goal.loop-index-init
 loop-index-init c =
-    let first : Running c.args.input.now c.args.out.now c.args.at c.args.out.now c.args.at c.start_tables-t.result c.args.input.now 1
-    = run_start _ _ (omega arith) (omega arith) c.start_tables-t.ensures in
+    let s = c.args.input.now in
+    let o = c.args.out.now in
+    let first : Running s o c.args.at o c.args.at c.start_tables-t.result s 1 =
+    run_start s o (omega arith) (omega arith) c.start_tables-t.ensures in
     rw (
       c.into_iter-index-iterator.ensures.into_iter_gives,
       c.enumerate-index-items.ensures.source,
@@ -24,7 +27,9 @@ loop-index-init c =
 pub loop-index-preserved-in-Ok : goal.loop-index-preserved-in-Ok
 loop-index-preserved-in-Ok c =
     let g = rw c.in-Ok.is at c.in-Some.ensures.steps in
-    let turn = run_turn c.loop-index.invariant.2 c.in-Ok.entry g.0 c.judge_one-j.ensures (rw g.1 at c.put_line-p.ensures.puts) (rw g.1 at c.put_line-p.ensures.line_fits) in
+    let puts = rw g.1 at c.put_line-p.ensures.puts in
+    let fits = rw g.1 at c.put_line-p.ensures.line_fits in
+    let turn = run_turn c.loop-index.invariant.2 c.in-Ok.entry g.0 c.judge_one-j.ensures puts fits in
     let next = rw (← g.2) at turn in
     ((tt, tt, inl (few _ (omega arith) next)), tt, next)
 
@@ -35,4 +40,6 @@ loop-index-preserved c =
     ((tt, tt, inl (few _ (omega arith) last)), tt, last)
 
 pub returns : goal.returns
-returns c = let e = run_end c.loop-index.invariant.2 c.in-None.ensures.steps.0 in record { puts = e.0; lines_fit = e.1 }
+returns c =
+    let e = run_end c.loop-index.invariant.2 c.in-None.ensures.steps.0 in
+    record { puts = e.0; lines_fit = e.1 }

@@ -8,4 +8,6 @@ abbrev pub invariant-loop-index : goal.invariant-loop-index
 invariant-loop-index l =
     (goal.iterator-loop-index).can_next l.index-iterator
     × (goal.iterator-loop-index).is_finite l.index-iterator
-    × Running l.input l.fn.out l.at l.out l.p l.t (enumerate_source l.index-iterator).rest.now (enumerate_count l.index-iterator + 1)
+    × Running l.input l.fn.out l.at l.out l.p l.t
+    (enumerate_source l.index-iterator).rest.now
+    (enumerate_count l.index-iterator + 1)

@@ -1,7 +1,10 @@
--- `put` meets its contract: the part that fits is copied, and the position goes on by the whole text.
-use Rattle.std.proofs.Common.{arith}
+-- `put` meets its contract: a text that fits is copied whole.
+use Rattle.std.proofs.Common.{length, arith, sym, ◌∙◌}
+use lib.Seq.{take_all}
 use Rattle.text.proofs.Buffers.{puts_copied}
 use Rattle.text.proofs.put.Goals as goal
 
-pub returns : goal.returns
-returns c = puts_copied c.min-start.ensures c.min-fits.ensures (omega arith) c.copy_from_slice.ensures.after c.saturating_add.ensures
+pub returns-then-text-out : goal.returns-then-text-out
+returns-then-text-out c =
+    let t = c.args.text.now in
+    puts_copied {n = length t} (omega arith) (omega arith) (omega arith) (c.copy_from_slice.ensures.after ∙ sym (take_all (length t) t (omega arith))) (omega arith)

@@ -1,0 +1,2 @@
+-- Laws for the proofs of `check_request`.
+pub mod OneBit

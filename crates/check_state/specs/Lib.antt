@@ -1,0 +1,2 @@
+-- What the contracts of the crate `check_state` speak of.
+pub mod Columns
