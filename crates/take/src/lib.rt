@@ -4,30 +4,24 @@
 
 ghost use Rattle.std.specs.Prelude.{◌≡◌, length};
 ghost use Rattle.rules.specs.Tables.{tables_of};
-ghost use Rattle.rules.specs.Defaults.{defaults};
 ghost use Rattle.rules.specs.Checks.{verdict};
+ghost use Rattle.rules.specs.Promises.Supplied.{supplied};
 ghost use Rattle.rules_terminal.specs.Terminal.{terminal, take_checks, taken_of};
 ghost use Rattle.rules_terminal.specs.Calls.{Takes};
-ghost use Rattle.rules.specs.Promises.Words.{was, before};
+ghost use Rattle.rules.specs.Promises.Words.{was, seen};
 
 use check_waiting::check_terminal;
-use decision::decide;
-use execute::execute_queued;
+use execute::judge_sound;
 use queue_turn::due_record;
 use rows::part;
-use rules::{ACE_ROWS, CRED_ROWS, Check, Head, Judgement};
+use rules::{ACE_ROWS, CRED_ROWS, Check, DefaultLists, Head, Judgement, TablesView};
 use rules_terminal::{QUEUE, Taken};
 
 // The first of the checks 1 and 27 that applies.
-fn check_take<'a>(
-    h: Head,
-    creds: &'a [u8; CRED_ROWS],
-    aces: &'a [u8; ACE_ROWS],
-    queue: &[u8; QUEUE],
-) -> Check
-    ensures { result ≡ verdict (take_checks (terminal (before h creds aces) (was queue))) }
+fn check_take(tables: TablesView<'_>, queue: &[u8; QUEUE]) -> Check
+    ensures { result ≡ verdict (take_checks (terminal (seen tables.entry) (was queue))) }
 {
-    let c = check_terminal(h, creds, aces, queue);
+    let c = check_terminal(tables, queue);
     let Check::Pass = c else {
         return c;
     };
@@ -43,18 +37,22 @@ pub fn take(
     creds: &mut [u8; CRED_ROWS],
     aces: &mut [u8; ACE_ROWS],
     queue: &mut [u8; QUEUE],
-    default_creds: &[u8],
-    default_aces: &[u8],
+    lists: DefaultLists<'_>,
     clock: u32,
     reply: &mut [u8],
 ) -> Taken
-    ensures { Takes (defaults (was default_creds) (was default_aces))
+    ensures { Takes (supplied lists.entry)
         (terminal (tables_of h creds.old aces.old) queue.old)
         clock (length reply.old)
         (taken_of result creds.new aces.new)
         reply.old queue.new reply.new }
 {
-    let c = check_take(h, creds, aces, queue);
+    let tables = TablesView {
+        head: h,
+        creds: &*creds,
+        aces: &*aces,
+    };
+    let c = check_take(tables, queue);
     let Check::Pass = c else {
         return Taken {
             judgement: Judgement::number_alone(h, c),
@@ -62,34 +60,12 @@ pub fn take(
             bytes: [0; 256],
         };
     };
-    let u = due_record(h, creds, aces, queue);
-    let seat = u.seat;
-    let due = part(&u.bytes, 0, u.size);
-    let d = decide(clock, h, creds, aces, due, reply.len());
-    queue::dequeue(queue, &seat);
-    let c = d.check;
-    let Check::Pass = c else {
-        return Taken {
-            judgement: Judgement::number_alone(h, c),
-            size: u.size,
-            bytes: u.bytes,
-        };
-    };
-    let j = execute_queued(
-        h,
-        creds,
-        aces,
-        queue,
-        default_creds,
-        default_aces,
-        clock,
-        d,
-        due,
-        reply,
-    );
+    let due = due_record(tables, queue);
+    queue::dequeue(queue, &due.seat);
+    let rec = part(&due.bytes, 0, due.size);
     Taken {
-        judgement: j,
-        size: u.size,
-        bytes: u.bytes,
+        judgement: judge_sound(h, creds, aces, queue, lists, clock, rec, reply),
+        size: due.size,
+        bytes: due.bytes,
     }
 }
