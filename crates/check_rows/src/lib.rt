@@ -15,10 +15,10 @@ use asserted_roles::both_taken;
 use row_body::{ace_row, cred_row};
 use row_format::capacity_of;
 use row_lookup::{count_of, index_by_key, may_be_none, picked};
-use rows::part;
-use rules::{ACE_ROWS, Action, CRED_ROWS, Check, Head, Table};
+use rules::{ACE_ROWS, Action, CRED_ROWS, Check, Head, NUMBER_SIZE, Table};
 
 // Where the table holds the number of the row that the body stores.
+#[tactic(auto, using(rows::proofs::Laws::numbered_key))]
 fn numbered_index<'a>(
     h: Head,
     creds: &'a [u8; CRED_ROWS],
@@ -28,19 +28,15 @@ fn numbered_index<'a>(
 ) -> Option<usize>
     ensures { result ≡ index_of (numbered_as (row_of table (was b))) (rows table (before h creds aces)) }
 {
+    let find = |row: &[u8]| index_by_key(h, creds, aces, table, 0, &row[..NUMBER_SIZE]);
     match table {
-        Table::Creds => {
-            let row = cred_row(b);
-            index_by_key(h, creds, aces, table, 0, part(&row, 0, 2))
-        }
-        Table::Aces => {
-            let row = ace_row(b);
-            index_by_key(h, creds, aces, table, 0, part(&row, 0, 2))
-        }
+        Table::Creds => find(&cred_row(b)),
+        Table::Aces => find(&ace_row(b)),
     }
 }
 
 // Check 13: the rows to delete are not there; an empty table may be emptied.
+#[tactic(auto, using(rules::proofs::Others::no_remove, rows::proofs::Laws::some_index), unfolding(rules::specs::Checks::refuse_if))]
 fn check_missing<'a>(
     h: Head,
     creds: &'a [u8; CRED_ROWS],
@@ -53,15 +49,11 @@ fn check_missing<'a>(
     let Action::Remove(table, key) = a else {
         return Check::Pass;
     };
-    if may_be_none(key) {
-        return Check::Pass;
-    }
-    let Some(_) = picked(h, creds, aces, table, key, b) else {
-        return Check::Refuse(13);
-    };
-    Check::Pass
+    let missing = !may_be_none(key) && picked(h, creds, aces, table, key, b).is_none();
+    Check::refuse_if(13, missing)
 }
 
+#[tactic(auto, using(rules::proofs::Others::no_store, rows::proofs::Laws::some_index), unfolding(rules::specs::Checks::refuse_if))]
 fn check_full<'a>(
     h: Head,
     creds: &'a [u8; CRED_ROWS],
@@ -74,16 +66,13 @@ fn check_full<'a>(
     let Action::Store(table) = a else {
         return Check::Pass;
     };
-    if count_of(h, table) < capacity_of(table) {
-        return Check::Pass;
-    }
-    let Some(_) = numbered_index(h, creds, aces, table, b) else {
-        return Check::Refuse(14);
-    };
-    Check::Pass
+    let no_room = capacity_of(table) <= count_of(h, table);
+    let full = no_room && numbered_index(h, creds, aces, table, b).is_none();
+    Check::refuse_if(14, full)
 }
 
 // Check 22: both slots of the sender's own row have other roles in force.
+#[tactic(auto, using(rules::proofs::Others::no_assert), unfolding(rules::specs::Checks::refuse_if))]
 fn check_roles(clock: u32, cred: &[u8], a: Action, b: &[u8]) -> Check
     ensures { result ≡ refuse_if 22 (roles_full (roles_in_force clock (was cred)) (was b) a) }
 {
@@ -95,6 +84,7 @@ fn check_roles(clock: u32, cred: &[u8], a: Action, b: &[u8]) -> Check
 
 // The first of the checks 13, 14 and 22 that applies to the action with this body, where `cred` is the sender's own row or no bytes.
 // Rules out: a full table that refuses a row whose number it holds; a deletion of rows that are not there; an expired role counted for 22.
+#[tactic(auto, unfolding(rules::specs::Checks::verdict, rules::specs::Checks::refuse_if))]
 pub fn check_rows<'a>(
     clock: u32,
     h: Head,

@@ -1,9 +1,9 @@
 -- Laws of hand-in, as the code does it.
-use Rattle.rows.proofs.Prelude.{◌≡◌, sym, ap, ◌∙◌, List, ℕ, ◌-◌, ◌≤◌, ◌<◌, min-eq_left, arith, length, take, drop, get_or, not-false}
+use Rattle.rows.proofs.Prelude.{◌≡◌, sym, ap, ◌∙◌, List, ℕ, ◌≤◌, ◌<◌, arith, length, take, drop, get_or, not-false}
 use Rattle.std.specs.Prelude.{Option}
-use Rattle.rows.specs.Rows.{rows_of, has_key}
+use Rattle.rows.specs.Rows.{has_key}
 use Rattle.rows.specs.Promises.{index_of}
-use Rattle.rows.proofs.Laws.{some_index, is_some, take_rest}
+use Rattle.rows.proofs.Laws.{some_index, is_some}
 use Rattle.rules.specs.declared.Tables.{Tables}
 use Rattle.rules.specs.declared.Check.{Check}
 use Rattle.rules.specs.declared.Check.TheVariants.{Pass}
@@ -15,7 +15,7 @@ use Rattle.rules.specs.Tables.{rows, tables_of}
 use Rattle.rules.specs.Promises.Results.{number_judgement, result_with}
 use Rattle.rules.proofs.Answers.{passed, long_enough}
 use Rattle.rules.proofs.RecordLaws.{key_is}
-use Rattle.rules_terminal.specs.Slots.{seat_of, waiting, slot_size}
+use Rattle.rules_terminal.specs.Slots.{seat_of, waiting}
 use Rattle.rules_terminal.specs.Round.{occupied}
 use Rattle.rules_terminal.specs.Terminal.{terminal, hand_in_checks, hand_in_of, handed_in, transition_result}
 use Rattle.rules_terminal.specs.Calls.{HandsIn}
@@ -27,11 +27,10 @@ use Rattle.rules.specs.declared.Table.TheVariants.{Creds}
 
 -- ---- check 26
 
-pub free_is : (m r : List ℕ) (at : Option ℕ) → get_or m 0 0 ≤ 25 → 4 ≤ length r → get_or r 2 0 < 256 → get_or r 3 0 < 256
-    → at ≡ index_of (has_key 0 (take 2 (drop 2 r))) (rows_of slot_size (get_or m 0 0) (take (length m - 4) (drop 4 m)))
-    → occupied (waiting m) (seat_of r) ≡ is_some at
-unfolding occupied waiting seat_of
-free_is m r at few l a b e = rw (min-eq_left few, key_is r 2 l a b) (some_index 0 _ _ ∙ sym (ap is_some (rw (take_rest 4 m) at e)))
+pub free_is : (m r : List ℕ) (at : Option ℕ) → 4 ≤ length r → get_or r 2 0 < 256 → get_or r 3 0 < 256
+    → at ≡ index_of (has_key 0 (take 2 (drop 2 r))) (waiting m) → is_some at ≡ occupied (waiting m) (seat_of r)
+unfolding occupied seat_of
+free_is m r at l a b e = ap is_some e ∙ sym (some_index 0 (has_key 0 (take 2 (drop 2 r))) (waiting m)) ∙ rw (key_is r 2 l a b)
 
 -- ---- a record is kept
 

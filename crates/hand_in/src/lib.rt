@@ -2,31 +2,28 @@
 // It asks nothing of its caller.
 #![tactic(auto)]
 
-ghost use Rattle.std.specs.Prelude.{◌≡◌, ◌≤◌, length, get_or};
+ghost use Rattle.std.specs.Prelude.{◌≡◌, ◌≤◌, length};
 ghost use Rattle.rules.specs.Checks.{refuse_if, verdict};
-ghost use Rattle.rules_terminal.specs.Slots.{seat_of, waiting, queue_size};
+ghost use Rattle.rules_terminal.specs.Slots.{seat_of, waiting};
 ghost use Rattle.rules_terminal.specs.Round.{occupied};
-ghost use Rattle.rules.specs.Promises.Results.{number_judgement, result_with};
+ghost use Rattle.rules.specs.Promises.Results.{result_with};
 ghost use Rattle.rules_terminal.specs.Terminal.{terminal, hand_in_checks};
 ghost use Rattle.rules_terminal.specs.Calls.{HandsIn};
 ghost use Rattle.rules.specs.Promises.Words.{was, seen};
+ghost use Rattle.queue.specs.Viewed.{viewed};
 
 use caller::check_record;
 use check_waiting::check_terminal;
-use rows::Rows;
-use rules::{Check, Head, Judgement, Links, StoreRange, TablesView};
-use rules_terminal::{QUEUE, SLOT};
+use queue::Queue;
+use rules::{Check, Judgement, TablesView};
+use rules_terminal::QUEUE;
 
 // Check 26: the sender's seat is occupied.
-fn check_free(queue: &[u8], rec: &[u8]) -> Check
-    requires { (length queue.now ≡ queue_size) × (get_or queue.now 0 0 ≤ 25) × (4 ≤ length rec.now) }
-    ensures { result ≡ refuse_if 26 (occupied (waiting (was queue)) (seat_of (was rec))) }
+fn check_free(queue: Queue<'_>, rec: &[u8]) -> Check
+    requires { 4 ≤ length rec.now }
+    ensures { result ≡ refuse_if 26 (occupied (waiting (viewed queue.entry)) (seat_of (was rec))) }
 {
-    let count = queue[0] as usize;
-    let Some(_) = Rows::new(&queue[4..], SLOT, count).find(0, &rec[2..4]) else {
-        return Check::Pass;
-    };
-    Check::Refuse(26)
+    Check::refuse_if(26, queue.slots().find(0, &rec[2..4]).is_some())
 }
 
 // The first of the checks 1 to 7 and 26 that applies.
@@ -41,22 +38,7 @@ fn check_hand_in(tables: TablesView<'_>, queue: &[u8; QUEUE], rec: &[u8]) -> Che
     let Check::Pass = c else {
         return c;
     };
-    check_free(queue, rec)
-}
-
-// What is reported of a record that is kept: 0, with permission 0 and all else empty.
-fn kept(h: Head) -> Judgement
-    ensures { result ≡ number_judgement h 0 }
-{
-    Judgement {
-        answer: 0,
-        permission: 0,
-        payload: 0,
-        reply: 0,
-        store: StoreRange::none(),
-        links: Links::none(),
-        head: h,
-    }
+    check_free(Queue::new(queue), rec)
 }
 
 // Hands a record in: the answer, with permission 0 and all else empty. The tables stay as they are.
@@ -70,5 +52,5 @@ pub fn hand_in(tables: TablesView<'_>, queue: &mut [u8; QUEUE], rec: &[u8]) -> J
         return Judgement::number_alone(tables.head, c);
     };
     queue::enqueue(queue, rec);
-    kept(tables.head)
+    Judgement::number_alone(tables.head, Check::Pass)
 }

@@ -43,18 +43,25 @@ list_puts rows h p q r =
 
 -- ---- the three ends
 
+abbrev reply : Terminal → List ℕ → List ℕ
+reply x o = office_reply x (length o)
+
+-- the terminal x, the buffer o before and o' after, and the result
 abbrev pub Ends : Terminal → List ℕ → List ℕ → ℕ → ℕ → Type 0
-Ends x o o' answer n =
-    (answer ≡ number_of (office_verdict x (length o))) × ((n ≡ length (office_reply x (length o))) × (o' ≡ filled o (office_reply x (length o))))
+Ends x o o' answer n = record {
+  answer : answer ≡ number_of (office_verdict x (length o));
+  length : n ≡ length (reply x o);
+  buffer : o' ≡ filled o (reply x o);
+}
 
 module _ (x : Terminal) (o : List ℕ) where
   pub not_sound : sound_terminal x ≡ false → Ends x o o 17 0
   unfolding office_reply office_verdict verdict filled
-  not_sound e = (rw e, (rw e, rw e))
+  not_sound e = record { answer = rw e; length = rw e; buffer = rw e }
 
   pub too_short : sound_terminal x ≡ true → ltb (length o) (length (office_text x.tables)) ≡ true → Ends x o o 18 0
   unfolding office_reply office_verdict verdict filled
-  too_short e l = (rw (e, l), (rw (e, l), rw (e, l)))
+  too_short e l = record { answer = rw (e, l); length = rw (e, l); buffer = rw (e, l) }
 
   pub all_written : {o' : List ℕ} (r : ℕ) → sound_terminal x ≡ true → ltb (length o) (length (office_text x.tables)) ≡ false
       → Puts o 0 (office_text x.tables) o' r → Ends x o o' 0 r
@@ -62,4 +69,4 @@ module _ (x : Terminal) (o : List ℕ) where
   all_written r e l p =
       let f = ltb-false (length o) (length (office_text x.tables)) l in
       let n : r ≡ length (office_text x.tables) = omega (arith, p.next, text_short x.tables) in
-      (rw (e, l), (rw (e, l) n, rw (e, l) (p.buffer ∙ written_start o (office_text x.tables) f)))
+      record { answer = rw (e, l); length = rw (e, l) n; buffer = rw (e, l) (p.buffer ∙ written_start o (office_text x.tables) f) }

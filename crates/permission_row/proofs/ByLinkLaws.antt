@@ -1,6 +1,6 @@
 -- A row gives every link nothing where it does not fit the sender or its period, and else its permission on the links that it has.
 -- An array of seven numbers has one for each link.
-use Rattle.rows.proofs.Prelude.{◌≡◌, refl, sym, ap, ◌∙◌, Bool, true, false, cond, and-false, and-true, List, [], ◌∷◌, ℕ, arith, length, get_or, bit_or, or_zero_r}
+use Rattle.rows.proofs.Prelude.{◌≡◌, refl, sym, ap, ◌∙◌, Bool, true, false, cond, and-false, and-true, List, [], ◌∷◌, ℕ, arith, length, bit_or, or_zero_r}
 use mathlib.Core.Path.{fun_ext}
 use Rattle.rows.specs.Rows.{Row}
 use Rattle.rules.specs.declared.Resource.{Resource}
@@ -19,21 +19,6 @@ each (a ∷ b ∷ c ∷ d ∷ e ∷ []) h = absurd (omega (arith, h))
 each (a ∷ b ∷ c ∷ d ∷ e ∷ f ∷ []) h = absurd (omega (arith, h))
 each (a ∷ b ∷ c ∷ d ∷ e ∷ f ∷ g ∷ []) h = refl
 each (a ∷ b ∷ c ∷ d ∷ e ∷ f ∷ g ∷ x ∷ l) h = absurd (omega (arith, h))
-
--- each of the seven is the link's
-abbrev pub EachIs : List ℕ → (ℕ → ℕ) → Type 0
-EachIs l g =
-    (get_or l 0 0 ≡ g 8)
-    × (get_or l 1 0 ≡ g 9)
-    × (get_or l 2 0 ≡ g 10)
-    × (get_or l 3 0 ≡ g 11)
-    × (get_or l 4 0 ≡ g 12)
-    × (get_or l 5 0 ≡ g 13)
-    × (get_or l 6 0 ≡ g 14)
-
-pub together : (l : List ℕ) (g : ℕ → ℕ) → length l ≡ 7 → EachIs l g → l ≡ by_link g
-unfolding by_link
-together l g h (a, b, c, d, e, f, k) = each l h ∙ rw (a, b, c, d, e, f, k)
 
 -- nothing more for any link
 pub unchanged : (l : List ℕ) (g : ℕ → ℕ) → length l ≡ 7 → ((n : ℕ) → g n ≡ 0) → l ≡ by_link (λ n. bit_or (of_link l n) (g n))

@@ -15,7 +15,7 @@ ghost use Rattle.report.specs.Fits.{LineFits, LinesFit, Whole};
 
 use judge::judge;
 use records::{Cut, Records};
-use rules::{Head, REPLY_MAX, Tables};
+use rules::{DefaultLists, REPLY_MAX, Tables};
 use rules_terminal::QUEUE;
 use text::{put, put_byte, put_decimal};
 
@@ -54,7 +54,10 @@ fn put_cut(out: &mut [u8], at: usize) -> usize
 fn start_tables() -> Tables
     ensures { result ≡ fresh no_defaults }
 {
-    effect_fresh::defaults::fresh(b"", b"")
+    effect_fresh::defaults::fresh(DefaultLists {
+        creds: b"",
+        aces: b"",
+    })
 }
 
 // What a line tells of a record, and the tables for the next one.
@@ -78,34 +81,18 @@ fn judge_one(t: Tables, clock: u32, rec: &[u8]) -> Judged
         &mut creds,
         &mut aces,
         &mut queue,
-        b"",
-        b"",
+        DefaultLists {
+            creds: b"",
+            aces: b"",
+        },
         clock,
         rec,
         &mut reply,
     );
-    // Put together by hand: a `From` would have to stand in the crate of `Tables`.
-    let Head {
-        state,
-        owned,
-        ncreds,
-        naces,
-        devowner,
-        rowners,
-    } = j.head;
     Judged {
         answer: j.answer,
         permission: j.permission,
-        tables: Tables {
-            state,
-            owned,
-            ncreds,
-            naces,
-            devowner,
-            rowners,
-            creds,
-            aces,
-        },
+        tables: Tables::from_parts(j.head, creds, aces),
     }
 }
 

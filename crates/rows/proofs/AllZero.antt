@@ -36,12 +36,12 @@ unfolding all_zero
 zeros_blocks n zero b = rw zero-mul
 zeros_blocks n (suc k) b = rw (mul_front k n, take-add n (k * n) b, zeros_append, zeros_blocks n k (drop n b))
 
--- the first n bytes, and the others
 -- from a byte on
 pub zeros_from : (b : List ℕ) (i : ℕ) → i < length b → all_zero (drop i b) ≡ (eqb (get_or b i 0) 0 && all_zero (drop (i + 1) b))
 unfolding all_zero
 zeros_from b i h = rw (drop-cons b i 0 h, add-one)
 
+-- the first n bytes, and the others
 zeros_split : (n : ℕ) (b : List ℕ) → all_zero b ≡ (all_zero (take n b) && all_zero (drop n b))
 zeros_split n b = ap all_zero (sym (take-append-drop n b)) ∙ zeros_append (take n b) (drop n b)
 

@@ -7,9 +7,10 @@ mod isolated;
 mod lists;
 mod storing;
 
-ghost use Rattle.std.specs.Prelude.{length};
+ghost use Rattle.std.specs.Prelude.{◌≡◌, length};
 ghost use Rattle.rules.specs.Promises.Words.{was};
 ghost use Rattle.rules.specs.Record.{received};
+ghost use Rattle.rules.specs.Promises.Supplied.{supplied};
 ghost use Rattle.rules.specs.Defaults.{defaults};
 ghost use Rattle.rules_interface.specs.Memory.{memory_before};
 ghost use Rattle.rules_interface.specs.Interface.{FreshAt, ClearsAt, IsSoundAt, HandsInAt, TakesAt, JudgesAt};
@@ -23,8 +24,15 @@ pub use crate::storing::{tillerclover_store_current, tillerclover_store_next};
 use c_memory::{head_at, put_head, words_of};
 use check_waiting::terminal_sound;
 use effect_fresh::defaults::fresh_in;
-use rules::{ACE_ROWS, CRED_ROWS};
+use rules::{ACE_ROWS, CRED_ROWS, DefaultLists, TablesView};
 use rules_terminal::QUEUE;
+
+// The two default lists as one value.
+fn lists_of<'a>(creds: &'a [u8], aces: &'a [u8]) -> DefaultLists<'a>
+    ensures { supplied result ≡ defaults (was creds) (was aces) }
+{
+    DefaultLists { creds, aces }
+}
 
 // Makes a new terminal of a build with these default rows, in memory of any content; nothing waits.
 // Rules out: tables that are not sound; tables with an owner; a byte left of what was there.
@@ -40,7 +48,7 @@ pub fn tillerclover_fresh_at(
 )
     ensures { FreshAt (defaults (was default_creds) (was default_aces)) (memory_in counts.new devowner.new rowners.new creds.new aces.new queue.new) }
 {
-    let h = fresh_in(creds, aces, default_creds, default_aces);
+    let h = fresh_in(creds, aces, lists_of(default_creds, default_aces));
     put_head(h, counts, devowner, rowners);
     queue::clear(queue);
 }
@@ -84,12 +92,9 @@ pub fn tillerclover_is_sound_at<'a>(
 ) -> u64
     ensures { IsSoundAt (memory_before counts devowner rowners creds aces queue) result }
 {
-    let h = head_at(counts, devowner, rowners);
-    if terminal_sound(h, creds, aces, queue) {
-        1
-    } else {
-        0
-    }
+    let head = head_at(counts, devowner, rowners);
+    let tables = TablesView { head, creds, aces };
+    if terminal_sound(tables, queue) { 1 } else { 0 }
 }
 
 // Judges a record at once.
@@ -119,8 +124,7 @@ pub fn tillerclover_judge_at(
         creds,
         aces,
         queue,
-        default_creds,
-        default_aces,
+        lists_of(default_creds, default_aces),
         clock,
         rec,
         reply,
@@ -144,7 +148,12 @@ pub fn tillerclover_hand_in_at<'a>(
     ensures { HandsInAt (memory_in (was counts) (was devowner) (was rowners) (was creds) (was aces) queue.old) (was rec) words.new queue.new }
 {
     let h = head_at(counts, devowner, rowners);
-    let kept = hand_in::hand_in(h, creds, aces, queue, rec);
+    let tables = TablesView {
+        head: h,
+        creds,
+        aces,
+    };
+    let kept = hand_in::hand_in(tables, queue, rec);
     *words = words_of(kept);
 }
 
@@ -175,8 +184,7 @@ pub fn tillerclover_take_at(
         creds,
         aces,
         queue,
-        default_creds,
-        default_aces,
+        lists_of(default_creds, default_aces),
         clock,
         reply,
     );

@@ -6,13 +6,14 @@ ghost use Rattle.rules_interface.specs.Memory.{memory_before};
 ghost use Rattle.rules_interface.specs.Interface.{ListsAt, TestsAt, ConvertsAt};
 
 use c_memory::head_at;
-use rules::{ACE_ROWS, CRED_ROWS};
+use rules::{ACE_ROWS, CRED_ROWS, TablesView};
 use rules_lists::Tested;
 use rules_terminal::QUEUE;
 
 // The words of what was written: 0 and its length, or a refusal's number and 0.
 fn two_words<E: Into<u8>>(written: Result<usize, E>) -> [u64; 2]
-    ensures { MatchResult written (λ length. result ≡ 0 ∷ length ∷ []) (λ error. (number : ℕ) × E.converts error number × (result ≡ number ∷ 0 ∷ [])) }
+    ensures { MatchResult written (λ length. result ≡ 0 ∷ length ∷ [])
+        (λ error. (number : ℕ) × E.converts error number × (result ≡ number ∷ 0 ∷ [])) }
 {
     match written {
         Ok(length) => [0, length as u64],
@@ -34,8 +35,9 @@ pub fn tillerclover_access_list_at<'a>(
 )
     ensures { ListsAt (memory_before counts devowner rowners creds aces queue) words.new text.old text.new }
 {
-    let h = head_at(counts, devowner, rowners);
-    *words = two_words(office_list::access_list(h, creds, aces, queue, text));
+    let head = head_at(counts, devowner, rowners);
+    let tables = TablesView { head, creds, aces };
+    *words = two_words(office_list::access_list(tables, queue, text));
 }
 
 // Tests a list of access rows that the provisioning program writes.

@@ -1,22 +1,13 @@
 -- `check_free`: the record's own two bytes are the key of its sender's seat.
-use Rattle.rows.proofs.Prelude.{◌≡◌}
-use Rattle.rows.proofs.Laws.{is_some}
+use Rattle.rows.proofs.Prelude.{ap, ◌∙◌, take, drop}
+use Rattle.rows.specs.Rows.{has_key}
+use Rattle.rows.specs.Promises.{index_of}
 use Rattle.rules.specs.Checks.{refuse_if}
-use Rattle.rules_terminal.specs.Slots.{seat_of, waiting}
-use Rattle.rules_terminal.specs.Round.{occupied}
+use Rattle.queue.specs.Viewed.{viewed}
 use Rattle.hand_in.proofs.Laws.{free_is}
 use Rattle.hand_in.proofs.check_free.Goals as goal
 
-pub returns-in_default : goal.returns-in_default
-unfolding refuse_if
-returns-in_default c =
-    let found : occupied (waiting c.args.queue.now) (seat_of c.args.rec.now) ≡ is_some c.find.result = let bytes = c.type_inv.rec in
-    free_is c.args.queue.now c.args.rec.now _ c.requires.1 c.requires.2 (bytes 2).fits (bytes 3).fits (rw c.new.ensures at c.find.ensures) in
-    rw (found, c.in_default.is)
-
 pub returns : goal.returns
-unfolding refuse_if
 returns c =
-    let found : occupied (waiting c.args.queue.now) (seat_of c.args.rec.now) ≡ is_some c.find.result = let bytes = c.type_inv.rec in
-    free_is c.args.queue.now c.args.rec.now _ c.requires.1 c.requires.2 (bytes 2).fits (bytes 3).fits (rw c.new.ensures at c.find.ensures) in
-    rw (found, c.in-Some.is)
+    let found = c.find.ensures ∙ ap (index_of (has_key 0 (take 2 (drop 2 c.args.rec.now)))) c.slots.ensures in
+    c.refuse_if.ensures ∙ ap (refuse_if 26) (c.is_some.ensures ∙ free_is (viewed c.args.queue) c.args.rec.now _ c.requires (c.type_inv.rec 2).fits (c.type_inv.rec 3).fits found)

@@ -15,23 +15,23 @@ returns-in_default-c c =
     skip _ _ _ c.check_terminal-c.ensures c.in-Pass.is
     (stop_all (sender_checks (rows Creds tables) c.args.rec.now) _ _ c.check_record-c.ensures c.in_default-c.is)
 
+pub new-requires : goal.new-requires
+new-requires c =
+    let tables : Tables = tables_of c.args.tables.head c.args.tables.creds.now c.args.tables.aces.now in
+    let q = sound_queue_lem tables c.args.queue.now (not-false _ (not_applied _ _ c.check_terminal-c.ensures c.in-Pass.is)) in (q.long, q.few)
+
 pub check_free-requires : goal.check_free-requires
 check_free-requires c =
     let tables : Tables = tables_of c.args.tables.head c.args.tables.creds.now c.args.tables.aces.now in
-    let q = sound_queue_lem tables c.args.queue.now
-    (not-false _ (not_applied _ _ c.check_terminal-c.ensures c.in-Pass.is)) in (
-      q.long,
-      q.few,
-      long_enough c.args.rec.now
-          (passed (sender_checks (rows Creds tables) c.args.rec.now) (sym c.check_record-c.ensures ∙ c.in-Pass-c.is) 2),
-    )
+    long_enough c.args.rec.now
+    (passed (sender_checks (rows Creds tables) c.args.rec.now) (sym c.check_record-c.ensures ∙ c.in-Pass-c.is) 2)
 
 pub returns : goal.returns
 returns c =
     let tables : Tables = tables_of c.args.tables.head c.args.tables.creds.now c.args.tables.aces.now in
     skip _ _ _ c.check_terminal-c.ensures c.in-Pass.is
     (skip_all (sender_checks (rows Creds tables) c.args.rec.now) _
-    c.check_record-c.ensures c.in-Pass-c.is (last _ _ c.check_free.ensures))
+    c.check_record-c.ensures c.in-Pass-c.is (last _ _ (rw c.new.ensures at c.check_free.ensures)))
 
 pub returns-in_default : goal.returns-in_default
 returns-in_default c = stop _ _ _ _ c.check_terminal-c.ensures c.in_default.is

@@ -22,4 +22,4 @@ pub returns : goal.returns
 returns c =
     transition c.args.tables.head c.args.tables.creds.now c.args.tables.aces.now c.args.queue.now c.args.rec.now
     _ _ c.check_hand_in-c.ensures c.in-Pass.is _ _
-    (c.kept.ensures ∙ ap (λ (v : Check). number_judgement c.args.tables.head (number_of v)) (sym c.in-Pass.is)) c.enqueue.ensures refl
+    (c.number_alone-2.ensures ∙ ap (λ (v : Check). number_judgement c.args.tables.head (number_of v)) (sym c.in-Pass.is)) c.enqueue.ensures refl
