@@ -1,5 +1,5 @@
 -- Laws of a take, as the code does it: nothing taken, or the record that is due, given out and judged, and its seat left.
-use Rattle.rows.proofs.Prelude.{◌≡◌, sym, ap, ◌∙◌, true, false, List, ℕ, ◌≤◌, length, take, replicate, eqb}
+use Rattle.rows.proofs.Prelude.{◌≡◌, sym, ap, ap₂, ◌∙◌, true, false, List, ℕ, ◌≤◌, length, take, replicate, eqb}
 use Rattle.rows.specs.Rows.{Row, has_key, every, without, distinct_numbers}
 use Rattle.rows.proofs.Kept.{every_without, distinct_without}
 use Rattle.rules.specs.declared.Tables.{Tables}
@@ -22,6 +22,7 @@ use Rattle.rules_terminal.proofs.Held.{few_slots}
 use Rattle.rules_terminal.proofs.Built.{padded_back}
 use Rattle.rules_terminal.proofs.Sound.{Sound, terminal_parts, turn_is, take_passed}
 use Rattle.queue.specs.Queue.{IsQueue}
+use Rattle.execute.specs.Executed.{IsWholeQueue, LeavesQueue}
 use Rattle.queue.proofs.Queues.{queue_queue, sound_queue_lem}
 use Rattle.queue_turn.specs.declared.Due.{Due}
 use Rattle.queue_turn.specs.Turns.{due_of}
@@ -35,6 +36,11 @@ module _ (x : Terminal) (q : Due) (is : q ≡ due_of x) where
 
   pub seat_is : q.seat ≡ turn x
   seat_is = ap (λ (z : Due). z.seat) is
+
+  -- its seat emptied, by the seat that was handed out
+  pub emptied : (m' : List ℕ) → m' ≡ queue_of (after_seat q.seat) (without (has_key 0 q.seat) (waiting x.queue))
+      → m' ≡ queue_of (after_seat (turn x)) (without (has_key 0 (turn x)) (waiting x.queue))
+  emptied m' e = e ∙ ap (λ (seat : Seat). queue_of (after_seat seat) (without (has_key 0 seat) (waiting x.queue))) seat_is
 
 -- ---- the seat left
 
@@ -60,15 +66,21 @@ module _ (t : Tables) (m : List ℕ) (h : sound_terminal (terminal t m) ≡ true
   pub can_leave : (p : Seat) → p ≡ turn (terminal t m) → IsQueue m × (length p ≡ 2)
   can_leave p e = (sound_queue_lem t m h, ap length e ∙ two)
 
-  pub left_queue : (m' : List ℕ) → m' ≡ queue_of (after_seat (turn (terminal t m))) others → IsQueue m'
-  left_queue m' e =
-      rw e (queue_queue t (queue_of (after_seat (turn (terminal t m))) others) (queue_sound_lem t (after_seat (turn (terminal t m))) others two few all distinct))
+  module _ (m' : List ℕ) (left : m' ≡ queue_of (after_seat (turn (terminal t m))) others) where
+    left_round : round_of m' ≡ after_seat (turn (terminal t m))
+    left_round = ap round_of left ∙ round_back (after_seat (turn (terminal t m))) others two
 
-  pub left_round : round_of (queue_of (after_seat (turn (terminal t m))) others) ≡ after_seat (turn (terminal t m))
-  left_round = round_back (after_seat (turn (terminal t m))) others two
+    left_waiting : waiting m' ≡ others
+    left_waiting = ap waiting left ∙ waiting_back (after_seat (turn (terminal t m))) others two few (slots_long t others all)
 
-  pub left_waiting : waiting (queue_of (after_seat (turn (terminal t m))) others) ≡ others
-  left_waiting = waiting_back (after_seat (turn (terminal t m))) others two few (slots_long t others all)
+    pub left_whole : IsWholeQueue m'
+    left_whole = (
+      rw left (queue_queue t (queue_of (after_seat (turn (terminal t m))) others) (queue_sound_lem t (after_seat (turn (terminal t m))) others two few all distinct)),
+      left ∙ sym (ap₂ queue_of left_round left_waiting),
+    )
+
+    pub left_after : (d : Defaults) (q : Request) (m'' : List ℕ) → LeavesQueue d t q m' m'' → m'' ≡ queue_after d t q (after_seat (turn (terminal t m))) others
+    left_after d q m'' e = e ∙ ap₂ (queue_after d t q) left_round left_waiting
 
 -- ---- the take
 

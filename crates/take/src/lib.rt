@@ -5,10 +5,10 @@
 ghost use Rattle.std.specs.Prelude.{◌≡◌, length};
 ghost use Rattle.rules.specs.Tables.{tables_of};
 ghost use Rattle.rules.specs.Checks.{verdict};
+ghost use Rattle.rules.specs.Promises.Supplied.{supplied};
 ghost use Rattle.rules_terminal.specs.Terminal.{terminal, take_checks, taken_of};
 ghost use Rattle.rules_terminal.specs.Calls.{Takes};
 ghost use Rattle.rules.specs.Promises.Words.{was, seen};
-ghost use Rattle.rules.specs.Promises.Supplied.{supplied};
 
 use check_waiting::check_terminal;
 use execute::judge_sound;
@@ -60,13 +60,12 @@ pub fn take(
             bytes: [0; 256],
         };
     };
-    let u = due_record(tables, queue);
-    let due = part(&u.bytes, 0, u.size);
-    queue::dequeue(queue, &u.seat);
-    let judgement = judge_sound(h, creds, aces, queue, lists, clock, due, reply);
+    let due = due_record(tables, queue);
+    queue::dequeue(queue, &due.seat);
+    let rec = part(&due.bytes, 0, due.size);
     Taken {
-        judgement,
-        size: u.size,
-        bytes: u.bytes,
+        judgement: judge_sound(h, creds, aces, queue, lists, clock, rec, reply),
+        size: due.size,
+        bytes: due.bytes,
     }
 }

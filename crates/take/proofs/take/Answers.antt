@@ -1,88 +1,56 @@
--- `take`: nothing taken, or the record that is due, its seat left, refused or carried out.
-use Rattle.rows.proofs.Prelude.{◌≡◌, refl, sym, ap, ap₂, ◌∙◌, true, false, List, ℕ, length, eqb}
-use Rattle.rows.specs.Rows.{Row, has_key, without}
+-- `take`: nothing taken, or the record that is due, its seat emptied, and judged.
+use Rattle.rows.proofs.Prelude.{◌≡◌, refl, true, false, length, eqb}
 use Rattle.rules.specs.Record.{Request}
-use Rattle.rules.specs.Tables.{tables_of, sound}
-use Rattle.rules.specs.Defaults.{Defaults}
+use Rattle.rules.specs.Tables.{tables_of}
 use Rattle.rules.specs.Promises.Supplied.{supplied}
-use Rattle.rules_terminal.specs.Slots.{Seat, Round, after_seat, round_of, waiting, queue_of}
-use Rattle.rules_terminal.specs.Terminal.{Terminal, terminal, sound_terminal, queue_after, turn}
+use Rattle.rules_terminal.specs.Slots.{waiting}
+use Rattle.rules_terminal.specs.Terminal.{Terminal, terminal, sound_terminal}
 use Rattle.rules_terminal.proofs.Sound.{terminal_parts}
-use Rattle.take.proofs.Laws.{seat_is, can_leave, left_queue, left_round, left_waiting, ready, nothing_taken, handed, one_taken}
+use Rattle.take.proofs.Laws.{seat_is, can_leave, emptied, left_whole, left_after, ready, nothing_taken, handed, one_taken}
 use Rattle.take.proofs.take.Goals as goal
 
 pub returns-in_default : goal.returns-in_default
 returns-in_default c =
-    let lists : Defaults = supplied c.args.lists in
-    let capacity : ℕ = length c.args.reply.now in
-    nothing_taken lists c.args.h c.args.creds.now c.args.aces.now c.args.queue.now
-    c.args.clock capacity _ c.check_take-c.ensures _ c.in_default.is _ c.number_alone.ensures _ refl _
+    let a = c.args in
+    nothing_taken (supplied a.lists) a.h a.creds.now a.aces.now a.queue.now a.clock (length a.reply.now) _ c.check_take-c.ensures _ c.in_default.is _
+    c.number_alone.ensures _ refl _
 
-pub judge_sound-judgement-requires : goal.judge_sound-judgement-requires
-judge_sound-judgement-requires c =
-    let x : Terminal = terminal (tables_of c.args.h c.args.creds.now c.args.aces.now) c.args.queue.now in
-    let lists : Defaults = supplied c.args.lists in
-    let capacity : ℕ = length c.args.reply.now in
-    let can_take : (sound_terminal x ≡ true) × (eqb (length (waiting x.queue)) 0 ≡ false) =
-    ready lists x.tables c.args.queue.now c.args.clock capacity _ c.check_take-c.ensures c.in-Pass.is in
-    let is_sound : sound x.tables ≡ true = (terminal_parts x can_take.0).tables in
-    let left_is : c.dequeue.new.queue ≡ queue_of (after_seat (turn x)) (without (has_key 0 (turn x)) (waiting x.queue)) =
-    c.dequeue.ensures ∙ ap (λ (p : Seat). queue_of (after_seat p) (without (has_key 0 p) (waiting x.queue))) (seat_is x _ c.due_record-u.ensures) in
-    let left_turn : round_of c.dequeue.new.queue ≡ after_seat (turn x) =
-    ap round_of left_is ∙ left_round x.tables x.queue can_take.0 can_take.1 in
-    let left_slots : waiting c.dequeue.new.queue ≡ without (has_key 0 (turn x)) (waiting x.queue) =
-    ap waiting left_is ∙ left_waiting x.tables x.queue can_take.0 can_take.1 in
+pub due_record-due-requires : goal.due_record-due-requires
+due_record-due-requires c =
+    let a = c.args in
+    let x : Terminal = terminal (tables_of a.h a.creds.now a.aces.now) a.queue.now in
+    ready (supplied a.lists) x.tables x.queue a.clock (length a.reply.now) _ c.check_take-c.ensures c.in-Pass.is
+
+pub dequeue-requires : goal.dequeue-requires
+dequeue-requires c =
+    let a = c.args in
+    let x : Terminal = terminal (tables_of a.h a.creds.now a.aces.now) a.queue.now in
+    let can : (sound_terminal x ≡ true) × (eqb (length (waiting x.queue)) 0 ≡ false) =
+    ready (supplied a.lists) x.tables x.queue a.clock (length a.reply.now) _ c.check_take-c.ensures c.in-Pass.is in
+    can_leave x.tables x.queue can.0 can.1 _ (seat_is x _ c.due_record-due.ensures)
+
+pub judge_sound-requires : goal.judge_sound-requires
+judge_sound-requires c =
+    let a = c.args in
+    let x : Terminal = terminal (tables_of a.h a.creds.now a.aces.now) a.queue.now in
+    let can : (sound_terminal x ≡ true) × (eqb (length (waiting x.queue)) 0 ≡ false) =
+    ready (supplied a.lists) x.tables x.queue a.clock (length a.reply.now) _ c.check_take-c.ensures c.in-Pass.is in
     record {
-      sound_tables = is_sound;
-      whole_queue = (
-        left_queue x.tables x.queue can_take.0 can_take.1 _ left_is,
-        left_is ∙ sym (ap₂ (λ (k : Round) (ws : List Row). queue_of k ws) left_turn left_slots),
-      );
+      sound_tables = (terminal_parts x can.0).tables;
+      whole_queue = left_whole x.tables x.queue can.0 can.1 _ (emptied x _ c.due_record-due.ensures _ c.dequeue.ensures);
     }
 
 pub returns : goal.returns
 returns c =
-    let lists : Defaults = supplied c.args.lists in
-    let capacity : ℕ = length c.args.reply.now in
-    let x : Terminal = terminal (tables_of c.args.h c.args.creds.now c.args.aces.now) c.args.queue.now in
-    let request : Request =
-    handed lists x.tables x.queue c.args.clock capacity _ c.check_take-c.ensures
-    c.in-Pass.is _ c.due_record-u.ensures _ c.part-due.ensures in
-    let can_take : (sound_terminal x ≡ true) × (eqb (length (waiting x.queue)) 0 ≡ false) =
-    ready lists x.tables c.args.queue.now c.args.clock capacity _ c.check_take-c.ensures c.in-Pass.is in
-    let left_is : c.dequeue.new.queue ≡ queue_of (after_seat (turn x)) (without (has_key 0 (turn x)) (waiting x.queue)) =
-    c.dequeue.ensures ∙ ap (λ (p : Seat). queue_of (after_seat p) (without (has_key 0 p) (waiting x.queue))) (seat_is x _ c.due_record-u.ensures) in
-    let left_turn : round_of c.dequeue.new.queue ≡ after_seat (turn x) =
-    ap round_of left_is ∙ left_round x.tables x.queue can_take.0 can_take.1 in
-    let left_slots : waiting c.dequeue.new.queue ≡ without (has_key 0 (turn x)) (waiting x.queue) =
-    ap waiting left_is ∙ left_waiting x.tables x.queue can_take.0 can_take.1 in
-    one_taken lists x.tables x.queue c.args.clock capacity _ c.check_take-c.ensures
-    c.in-Pass.is _ c.due_record-u.ensures _ c.part-due.ensures _ _ _ _
-    c.judge_sound-judgement.ensures.executes.says c.judge_sound-judgement.ensures.executes.fills
-    (c.judge_sound-judgement.ensures.leaves_queue
-    ∙ ap₂ (λ (k : Round) (ws : List Row). queue_after lists x.tables request k ws) left_turn left_slots)
-
-pub due_record-u-requires : goal.due_record-u-requires
-due_record-u-requires c =
-    let lists : Defaults = supplied c.args.lists in
-    let capacity : ℕ = length c.args.reply.now in
-    let x : Terminal = terminal (tables_of c.args.h c.args.creds.now c.args.aces.now) c.args.queue.now in
-    ready lists x.tables c.args.queue.now c.args.clock capacity _ c.check_take-c.ensures c.in-Pass.is
-
-pub slice_bounds-dequeue-end-2 : goal.slice_bounds-dequeue-end-2
-slice_bounds-dequeue-end-2 c =
-    let x : Terminal = terminal (tables_of c.args.h c.args.creds.now c.args.aces.now) c.args.queue.now in
-    let lists : Defaults = supplied c.args.lists in
-    let capacity : ℕ = length c.args.reply.now in
-    let can_take : (sound_terminal x ≡ true) × (eqb (length (waiting x.queue)) 0 ≡ false) =
-    ready lists x.tables c.args.queue.now c.args.clock capacity _ c.check_take-c.ensures c.in-Pass.is in
-    sym (can_leave x.tables x.queue can_take.0 can_take.1 _ (seat_is x _ c.due_record-u.ensures)).1
-
-pub dequeue-requires : goal.dequeue-requires
-dequeue-requires c =
-    let x : Terminal = terminal (tables_of c.args.h c.args.creds.now c.args.aces.now) c.args.queue.now in
-    let lists : Defaults = supplied c.args.lists in
-    let capacity : ℕ = length c.args.reply.now in
-    let can_take : (sound_terminal x ≡ true) × (eqb (length (waiting x.queue)) 0 ≡ false) =
-    ready lists x.tables c.args.queue.now c.args.clock capacity _ c.check_take-c.ensures c.in-Pass.is in
-    can_leave x.tables x.queue can_take.0 can_take.1 _ (seat_is x _ c.due_record-u.ensures)
+    let a = c.args in
+    let x : Terminal = terminal (tables_of a.h a.creds.now a.aces.now) a.queue.now in
+    let told = c.check_take-c.ensures in
+    let pass = c.in-Pass.is in
+    let due = c.due_record-due.ensures in
+    let q : Request = handed (supplied a.lists) x.tables x.queue a.clock (length a.reply.now) _ told pass _ due _ c.part-rec.ensures in
+    let can : (sound_terminal x ≡ true) × (eqb (length (waiting x.queue)) 0 ≡ false) =
+    ready (supplied a.lists) x.tables x.queue a.clock (length a.reply.now) _ told pass in
+    let done = c.judge_sound.ensures in
+    one_taken (supplied a.lists) x.tables x.queue a.clock (length a.reply.now) _ told pass _ due _ c.part-rec.ensures _ _ _ _
+    done.executes.says done.executes.fills
+    (left_after x.tables x.queue can.0 can.1 _ (emptied x _ due _ c.dequeue.ensures) (supplied a.lists) q _ done.leaves_queue)
