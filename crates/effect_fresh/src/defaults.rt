@@ -86,7 +86,11 @@ fn put_defaults(table: Table, out: &mut [u8], list: &[u8]) -> u8
 // The tables of a new terminal, made in the rows that are passed in: the empty tables, whatever stood there, and the default rows.
 // Rules out: a third row taken; a list with a bad row taken by half; a byte of the old rows left.
 #[tactic(auto, unfolding(rules::specs::Defaults::fresh, rules::specs::Tables::empty, rules::specs::Bodies::nil))]
-pub fn fresh_in(creds: &mut [u8; CRED_ROWS], aces: &mut [u8; ACE_ROWS], lists: DefaultLists<'_>) -> Head
+pub fn fresh_in(
+    creds: &mut [u8; CRED_ROWS],
+    aces: &mut [u8; ACE_ROWS],
+    lists: DefaultLists<'_>,
+) -> Head
     ensures { tables_of result creds.new aces.new ≡ fresh (supplied lists.entry) }
 {
     let empty = Tables::empty();

@@ -7,10 +7,9 @@ mod isolated;
 mod lists;
 mod storing;
 
-ghost use Rattle.std.specs.Prelude.{◌≡◌, length};
+ghost use Rattle.std.specs.Prelude.{length};
 ghost use Rattle.rules.specs.Promises.Words.{was};
 ghost use Rattle.rules.specs.Record.{received};
-ghost use Rattle.rules.specs.Promises.Supplied.{supplied};
 ghost use Rattle.rules.specs.Defaults.{defaults};
 ghost use Rattle.rules_interface.specs.Memory.{memory_before};
 ghost use Rattle.rules_interface.specs.Interface.{FreshAt, ClearsAt, IsSoundAt, HandsInAt, TakesAt, JudgesAt};
@@ -27,13 +26,6 @@ use effect_fresh::defaults::fresh_in;
 use rules::{ACE_ROWS, CRED_ROWS, DefaultLists, TablesView};
 use rules_terminal::QUEUE;
 
-// The two default lists as one value.
-fn lists_of<'a>(creds: &'a [u8], aces: &'a [u8]) -> DefaultLists<'a>
-    ensures { supplied result ≡ defaults (was creds) (was aces) }
-{
-    DefaultLists { creds, aces }
-}
-
 // Makes a new terminal of a build with these default rows, in memory of any content; nothing waits.
 // Rules out: tables that are not sound; tables with an owner; a byte left of what was there.
 pub fn tillerclover_fresh_at(
@@ -48,7 +40,14 @@ pub fn tillerclover_fresh_at(
 )
     ensures { FreshAt (defaults (was default_creds) (was default_aces)) (memory_in counts.new devowner.new rowners.new creds.new aces.new queue.new) }
 {
-    let h = fresh_in(creds, aces, lists_of(default_creds, default_aces));
+    let h = fresh_in(
+        creds,
+        aces,
+        DefaultLists {
+            creds: default_creds,
+            aces: default_aces,
+        },
+    );
     put_head(h, counts, devowner, rowners);
     queue::clear(queue);
 }
@@ -124,7 +123,10 @@ pub fn tillerclover_judge_at(
         creds,
         aces,
         queue,
-        lists_of(default_creds, default_aces),
+        DefaultLists {
+            creds: default_creds,
+            aces: default_aces,
+        },
         clock,
         rec,
         reply,
@@ -184,7 +186,10 @@ pub fn tillerclover_take_at(
         creds,
         aces,
         queue,
-        lists_of(default_creds, default_aces),
+        DefaultLists {
+            creds: default_creds,
+            aces: default_aces,
+        },
         clock,
         reply,
     );

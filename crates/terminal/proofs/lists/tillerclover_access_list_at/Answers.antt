@@ -17,4 +17,4 @@ words_are (Err error) words e = e.2 ∙ ap (λ (number : ℕ). number ∷ 0 ∷ 
 pub returns : goal.returns
 returns c =
     let list = c.access_list.ensures in
-    rw (words_are _ _ c.two_words.ensures) (lists_at _ _ c.head_at-h.ensures _ _ _ _ list.answer list.length list.buffer)
+    rw (words_are _ _ c.two_words.ensures) (lists_at _ _ c.head_at-head.ensures _ _ _ _ list.answer list.length list.buffer)
