@@ -1,5 +1,6 @@
 // Checks 13, 14 and 22: the rows that the action needs, and the room for a new one, or for a role.
 // Each check answers whether it refuses; the first refusal is returned immediately.
+// A check answers `Check`, which `let .. else` takes apart: a form that stays (docs/DECISIONS.md, Forms).
 #![tactic(auto)]
 
 ghost use Rattle.std.specs.Prelude.{◌≡◌};

@@ -1,5 +1,6 @@
 // Device states, checks 11 and 12: the writes that each state allows, and the moves between them.
 // 0 RESET, 1 RFOTM, 2 RFPRO, 3 RFNOP, 4 SRESET.
+// A check answers `Check`, which `let .. else` takes apart: a form that stays (docs/DECISIONS.md, Forms).
 #![tactic(auto)]
 
 ghost use Rattle.std.specs.Prelude.{◌≡◌, not};

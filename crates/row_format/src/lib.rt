@@ -155,6 +155,7 @@ fn ace_row_storable(row: &[u8]) -> bool
 }
 
 // Whether each of `count` access rows is a row that a body could store. The test is in the code once, in this walk.
+// A function over both tables that takes the test would leave a line as long as this one for each.
 pub fn all_aces_storable(rows: &[u8], count: usize) -> bool
     requires { count * ace_row_size ≤ length rows.now }
     ensures { result ≡ every ace_storable (rows_of ace_row_size count (was rows)) }
