@@ -13,9 +13,10 @@
 # For wasm32 there is also a module next to each archive, terminal.wasm: it exports all functions and imports nothing.
 #
 # The archive for x86-64 at -O3 must be the toolchain's own, byte for byte. For the others three things of the module change,
-# none of them in a function: the triple, the data layout, and the name of the x86-64 processor. That is sound as far as the
-# exported functions are called alike everywhere, so a module where they take or give anything but pointers, 32-bit and 64-bit
-# numbers is refused. Nothing but the toolchain is needed.
+# none of them in a function: the triple, the data layout, and the name of the x86-64 processor. Where a pointer has 32 bits, two
+# words in functions are written at length, so that they mean what they mean for x86-64: NARROW below has them, and a module with a
+# type that would need a third is refused. That is sound as far as the exported functions are called alike everywhere, so a module
+# where they take or give anything but pointers, 32-bit and 64-bit numbers is refused. Nothing but the toolchain is needed.
 set -euo pipefail
 cd "$(dirname "$0")/.."
 # shellcheck source=packaging/below.sh
@@ -80,13 +81,32 @@ called_alike() {
 
 # ---- a target
 
+# For a pointer of 32 bits, `sed` makes these of the module's text:
+# - A byte with a pointer: the module writes and reads the pointer 8 bytes after the byte, and the type says so by 7 bytes between them.
+# - An address as a number of 64 bits: `ptrtoaddr` gives as many bits as an address has, `ptrtoint` more too, with zeros in front.
+NARROW=(
+    -e 's/ = extractvalue \{ i8, ptr \} (%[a-z0-9.]+), 1$/ = extractvalue { i8, ptr } \1, 2/'
+    -e 's/\{ i8, ptr \}/<{ i8, [7 x i8], ptr }>/g'
+    -e 's/ = ptrtoaddr ptr (%[a-z0-9.]+) to i64$/ = ptrtoint ptr \1 to i64/'
+)
+
+# Each type of several fields has them at the same places for a pointer of 32 bits and of 64, or is the one that NARROW rewrites.
+placed_alike() {
+    local others
+    others=$(grep -vE '^attributes ' "$1" | grep -oE '<?\{ [^}]* \}>?' | sort -u |
+        grep -vE '^\{ (ptr, i64|i[0-9]+)(, i[0-9]+)* \}$|^\{ i8, ptr \}$') || true
+    [ -z "$others" ] || stop "the module has types whose fields lie elsewhere on other processors:"$'\n'"$others"
+}
+
 # for_target TRIPLE FLAG..: the module's text, with triple and data layout as the compiler has them for the target
 for_target() {
-    local empty layout triple
+    local empty layout triple narrow=()
     empty=$(echo 'int x;' | "$clang" --no-default-config --target="$1" "${@:2}" -S -emit-llvm -x c - -o -)
     layout=$(grep '^target datalayout = ' <<<"$empty")
     triple=$(grep '^target triple = ' <<<"$empty")
-    sed -E -e "s/^target triple = .*/$triple/" -e "s/^target datalayout = .*/$layout/" -e 's/ "target-cpu"="x86-64"//' "$lib/module.ll"
+    [[ $layout != *-p:32:32-* ]] || narrow=("${NARROW[@]}")
+    sed -E -e "s/^target triple = .*/$triple/" -e "s/^target datalayout = .*/$layout/" -e 's/ "target-cpu"="x86-64"//' \
+        "${narrow[@]}" "$lib/module.ll"
 }
 
 # link_module ARCHIVE MODULE: a WebAssembly module that exports every function of the archive, its memory, and where free memory
@@ -130,6 +150,7 @@ done
 module
 "$clang" --target="$OWN" --no-default-config -Xclang -disable-llvm-passes -S -emit-llvm -x ir "$lib/module.bc" -o "$lib/module.ll"
 called_alike "$lib/module.ll"
+placed_alike "$lib/module.ll"
 # the compiler links WebAssembly where it is called by this name; no link, since `rt ci` takes none below the root
 rm -f "$lib/wasm-ld"
 printf '#!/usr/bin/env bash\nexec -a wasm-ld %q "$@"\n' "$clang" >"$lib/wasm-ld"
