@@ -1,8 +1,9 @@
 -- The bytes of the roles in force, and of those after one is asserted, from each place on.
 -- The row afterwards is its body and these, and zeros after them.
-use Rattle.rows.proofs.Prelude.{◌≡◌, ap, ◌∙◌, Bool, true, false, cond, List, ◌∷◌, ◌++◌, map, append_assoc, ℕ, ◌+◌, ◌-◌, ◌<◌, ◌≤◌, arith, length, drop, get_or, replicate, sym, length-map, drop_of_length-le, []}
+use Rattle.rows.proofs.Prelude.{◌≡◌, ap, ◌∙◌, Bool, true, false, cond, List, ◌∷◌, ◌++◌, map, append_assoc, ℕ, ◌+◌, ◌-◌, ◌<◌, ◌≤◌, arith, length, take, take_all, drop, get_or, replicate, sym, length-map, drop_of_length-le, []}
 use Rattle.std.specs.Borrow.{Bor}
 use Rattle.std.proofs.lemmas.List.{at_drop_more}
+use Rattle.std.proofs.lemmas.List.Folds.{list_all_more, list_all_at}
 use Rattle.rows.proofs.Prelude.{length-append, refl, and-true, not, ◌&&◌, not-true, and_left, and_right, and_false_right, bool_cases}
 use Rattle.text.specs.Buffer.{Puts}
 use Rattle.text.proofs.Buffers.{written_start, puts_then}
@@ -55,6 +56,23 @@ unfolding rows_of
 both_other w clock new slots is =
     each_read (has_other clock new) slots ∙ ap (list_all (has_other clock new)) is
     ∙ ap (λ (last : Bool). has_other clock new (role_slot w 0) && last) (and-true (has_other clock new (role_slot w 1))) ∙ sym (both_taken_lem clock w new)
+
+-- the slots before place i have other roles in force: one more; one that has none; all
+abbrev pub others : ℕ → Row → Slots → Bool
+others clock new slots = list_all (λ (slot : Bor (List ℕ)). has_other clock new slot.now) slots
+
+module _ (clock : ℕ) (new w : Row) (slots : Slots) (is : map (λ (slot : Bor (List ℕ)). slot.now) slots ≡ roles_of w) (i : ℕ) where
+  pub others_more : (slot : Bor (List ℕ)) → i < 2 → has_other clock new (get_or slots i slot).now ≡ true → others clock new (take i slots) ≡ true
+      → others clock new (take (i + 1) slots) ≡ true
+  others_more slot h e before = list_all_more (λ (slot : Bor (List ℕ)). has_other clock new slot.now) slots i slot (omega (arith, two w slots is)) ∙ rw (before, e)
+
+  pub other_missing : (slot : Bor (List ℕ)) → i < 2 → has_other clock new (get_or slots i slot).now ≡ false → false ≡ both_taken new (roles_in_force clock w)
+  other_missing slot h e =
+      sym (list_all_at (λ (slot : Bor (List ℕ)). has_other clock new slot.now) slots i slot (omega (arith, two w slots is)) e) ∙ both_other w clock new slots is
+
+  pub others_all : 2 ≤ i → others clock new (take i slots) ≡ true → true ≡ both_taken new (roles_in_force clock w)
+  others_all h before =
+      sym before ∙ ap (others clock new) (take_all i slots (omega (arith, two w slots is))) ∙ both_other w clock new slots is
 
 module _ (clock : ℕ) (slots : Slots) (i : ℕ) (h : i < 2) (w : Row) (is : map (λ (slot : Bor (List ℕ)). slot.now) slots ≡ roles_of w) (slot : Bor (List ℕ)) where
   there : i < length slots

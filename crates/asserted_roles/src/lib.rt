@@ -40,7 +40,12 @@ fn slots(row: &[u8]) -> [&[u8]; 2]
 pub fn both_taken(clock: u32, new: &[u8], row: &[u8]) -> bool
     ensures { result ≡ both_taken (was new) (roles_in_force clock (was row)) }
 {
-    slots(row).iter().all(|slot| holds_other(clock, new, slot))
+    for slot in slots(row) {
+        if !holds_other(clock, new, slot) {
+            return false;
+        }
+    }
+    true
 }
 
 // Writes the row's roles in force, in order of arrival.

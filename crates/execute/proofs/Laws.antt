@@ -34,7 +34,7 @@ use Rattle.decision.proofs.Laws.{check_decided}
 use Rattle.decision_links.specs.Linked.{permitted_links}
 use Rattle.decision_links.proofs.OwnForm.{links_are}
 use Rattle.rules.specs.declared.Table.TheVariants.{Creds}
-use Rattle.execute.specs.Executed.{Decided, payload_by, permitted_by}
+use Rattle.execute.specs.Executed.{payload_by, permitted_by}
 
 -- ---- a group of checks that passes
 
@@ -46,13 +46,7 @@ front_passes ((n, false) ∷ xs) ys e = front_passes xs ys e
 
 -- ---- a decision that passes
 
-module _ (t : Tables) (q : Request) (g : Decision) (permits : Decided t q g) where
-  is : g ≡ decided t q
-  is = permits.1
-
-  pass : g.check ≡ Pass
-  pass = permits.2
-
+module _ (t : Tables) (q : Request) (g : Decision) (is : g ≡ decided t q) (pass : g.check ≡ Pass) where
   all_pass : verdict (decision_checks t q) ≡ Pass
   all_pass = sym (ap (λ (x : Decision). x.check) is ∙ check_decided t q) ∙ pass
 
@@ -123,35 +117,37 @@ module _ (t : Tables) (q : Request) (g : Decision) (permits : Decided t q g) whe
   unfolding too_short
   reply_fits = ltb-false _ _ (passed capacity_checks_lem (rest_passes first_checks capacity_checks_lem request_passes) 15)
 
-  pub form_passes : verdict (form_checks t q.bytes) ≡ Pass
-  form_passes = sym (skip_at 1 _ _ (ap not permits.0) (sym (front_passes (sender_checks (rows Creds t) q.bytes) behind all_pass)))
+  -- with sound tables: nothing is refused before
+  module _ (h : sound t ≡ true) where
+    pub form_passes : verdict (form_checks t q.bytes) ≡ Pass
+    form_passes = sym (skip_at 1 _ _ (ap not h) (sym (front_passes (sender_checks (rows Creds t) q.bytes) behind all_pass)))
 
-  whole : Pass ≡ verdict (checks t (permission q.clock t q.bytes) q)
-  whole = skip_at 1 (not (sound t)) (decision_checks t q) (ap not permits.0) (sym all_pass)
+    whole : Pass ≡ verdict (checks t (permission q.clock t q.bytes) q)
+    whole = skip_at 1 (not (sound t)) (decision_checks t q) (ap not h) (sym all_pass)
 
-  pub links_as : permitted_links q.clock t g.caller ≡ links_of q.clock t q.bytes
-  links_as = ap (permitted_links q.clock t) caller_is ∙ links_are t q.bytes form_passes q.clock
+    pub links_as : permitted_links q.clock t g.caller ≡ links_of q.clock t q.bytes
+    links_as = ap (permitted_links q.clock t) caller_is ∙ links_are t q.bytes form_passes q.clock
 
-  -- what is reported, with the tables afterwards, and the buffer
-  says : (d : Defaults) (n : ℕ) (p : StoreRange) (k : Links) (next : Tables) → n ≡ length (payload_of q.bytes) → p ≡ store_range_of t (body q.bytes) g.action → k ≡ links_of q.clock t q.bytes
-      → next ≡ effect_by d t q g.action
-      → record { answer = 0; permission = g.permission; payload = n; reply = g.reply; store = p; links = k; tables = next } ≡ result_of (outcome d t q)
-  unfolding outcome outcome_at
-  says d n p k next o e f i = rw (← whole, o, e, f, i, decided_is)
+    -- what is reported, with the tables afterwards, and the buffer
+    pub says : (d : Defaults) (n : ℕ) (p : StoreRange) (k : Links) (next : Tables) → n ≡ length (payload_of q.bytes) → p ≡ store_range_of t (body q.bytes) g.action → k ≡ links_of q.clock t q.bytes
+        → next ≡ effect_by d t q g.action
+        → record { answer = 0; permission = g.permission; payload = n; reply = g.reply; store = p; links = k; tables = next } ≡ result_of (outcome d t q)
+    unfolding outcome outcome_at
+    says d n p k next o e f i = rw (← whole, o, e, f, i, decided_is)
 
-  -- by the judgement that the sender gets
-  pub gives : (d : Defaults) (p : StoreRange) (k : Links) (head : Head) (cs es : List ℕ) (j : Judgement) → j ≡ permitted_by g q.bytes p k head
-      → p ≡ store_range_of t (body q.bytes) g.action → k ≡ links_of q.clock t q.bytes → tables_of head cs es ≡ effect_by d t q g.action
-      → result_with j cs es ≡ result_of (outcome d t q)
-  gives d p k head cs es j e f i n =
-      ap (λ (x : Judgement). result_with x cs es) e ∙ says d _ p k (tables_of head cs es) (ap length payload_as) f i n
+    -- by the judgement that the sender gets
+    pub gives : (d : Defaults) (p : StoreRange) (k : Links) (head : Head) (cs es : List ℕ) (j : Judgement) → j ≡ permitted_by g q.bytes p k head
+        → p ≡ store_range_of t (body q.bytes) g.action → k ≡ links_of q.clock t q.bytes → tables_of head cs es ≡ effect_by d t q g.action
+        → result_with j cs es ≡ result_of (outcome d t q)
+    gives d p k head cs es j e f i n =
+        ap (λ (x : Judgement). result_with x cs es) e ∙ says d _ p k (tables_of head cs es) (ap length payload_as) f i n
 
-  pub passes : (d : Defaults) → outcome_of d t (permission q.clock t q.bytes) q Pass ≡ outcome d t q
-  unfolding outcome outcome_at
-  passes d = ap (outcome_of d t (permission q.clock t q.bytes) q) whole
+    pub passes : (d : Defaults) → outcome_of d t (permission q.clock t q.bytes) q Pass ≡ outcome d t q
+    unfolding outcome outcome_at
+    passes d = ap (outcome_of d t (permission q.clock t q.bytes) q) whole
 
-  pub fills : (d : Defaults) (b b' : List ℕ) (n : ℕ) {reply : List ℕ} → length b ≡ q.capacity → reply ≡ reply_of q.clock t q.bytes → Puts b 0 reply b' n
-      → b' ≡ filled b (response_to d t q).contents
-  unfolding filled
-  fills d b b' n l e p =
-      p.buffer ∙ written_start b _ (rw (l, e) reply_fits) ∙ ap (filled b) e ∙ ap (λ (o : Outcome). filled b o.response.contents) (passes d)
+    pub fills : (d : Defaults) (b b' : List ℕ) (n : ℕ) {reply : List ℕ} → length b ≡ q.capacity → reply ≡ reply_of q.clock t q.bytes → Puts b 0 reply b' n
+        → b' ≡ filled b (response_to d t q).contents
+    unfolding filled
+    fills d b b' n l e p =
+        p.buffer ∙ written_start b _ (rw (l, e) reply_fits) ∙ ap (filled b) e ∙ ap (λ (o : Outcome). filled b o.response.contents) (passes d)

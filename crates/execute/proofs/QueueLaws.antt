@@ -27,13 +27,13 @@ left_as e = ap (λ (s : Result). s.tables) e.says
 module _ (t : Tables) (q : Request) (g : Decision) (permits : Decided t q g) where
   -- a record of an application resource leaves the tables
   pub served : (d : Defaults) → g.action ≡ Serve → tables_after d t q ≡ t
-  served d e = sym (ap (λ (o : Outcome). o.tables) (passes t q g permits d)) ∙ ap (effect_by d t q) (sym (action_is t q g permits) ∙ e)
+  served d e = sym (ap (λ (o : Outcome). o.tables) (passes t q g permits.1 permits.2 permits.0 d)) ∙ ap (effect_by d t q) (sym (action_is t q g permits.1 permits.2) ∙ e)
 
   clears_is : (d : Defaults) → clears d t q ≡ is_reset g.action
   unfolding clears
   clears_is d =
-      sym (ap (λ (o : Outcome). eqb o.response.answer 0 && is_reset (action q.bytes)) (passes t q g permits d))
-      ∙ ap is_reset (sym (action_is t q g permits))
+      sym (ap (λ (o : Outcome). eqb o.response.answer 0 && is_reset (action q.bytes)) (passes t q g permits.1 permits.2 permits.0 d))
+      ∙ ap is_reset (sym (action_is t q g permits.1 permits.2))
 
   -- ---- the memory that it leaves
 

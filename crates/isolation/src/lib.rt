@@ -76,7 +76,7 @@ const SECURITY: [u16; 5] = [
 fn names_owner(h: Head, cred: &[u8]) -> bool
     ensures { result ≡ some_security (is_owner h (was cred)) }
 {
-    SECURITY.iter().any(|resource| is_owner(h, cred, *resource))
+    (0..SECURITY.len()).any(|i| is_owner(h, cred, SECURITY[i]))
 }
 
 // What is answered of only the sender at entry i.

@@ -1,20 +1,34 @@
 -- The loop over a list's rows: its invariant, a bad row, a turn, the end.
 -- The first i rows have no fault; what is reported of the list is reported of the rest after them, and so is where a number first repeats.
-use Rattle.rows.proofs.Prelude.{◌≡◌, refl, sym, ◌∙◌, Bool, not, ◌||◌, cond, List, [], ◌∷◌, ℕ, suc, ◌+◌, ◌*◌, ◌≤◌, ◌<◌, add-one, arith, length, take, drop}
+use Rattle.rows.proofs.Prelude.{◌≡◌, refl, sym, ◌∙◌, Bool, true, false, not, ◌||◌, cond, List, [], ◌∷◌, ℕ, suc, ◌+◌, ◌*◌, ◌≤◌, ◌<◌, add-one, arith, length, take, drop}
 use Rattle.rows.proofs.Prelude.{drop_of_length-le, eqb, eq-eqb, ne_eqb, bool_cases, or_right}
 use Rattle.rows.specs.Rows.{Row, rows_of, some, numbered_as, before_repeat}
 use Rattle.rows.proofs.Laws.{length_rows_of, rows_of_end, from_row}
+use Rattle.std.specs.declared.result.Result.TheVariants.{Err}
 use Rattle.rules.specs.declared.Check.TheVariants.{Pass, Refuse}
 use Rattle.rules.specs.declared.Table.TheVariants.{Aces}
 use Rattle.rules.specs.Tables.{storable}
 use Rattle.rules.specs.Checks.{verdict}
+use Rattle.rules.proofs.CheckLaws.{pass_not_refuse}
 use Rattle.rules.proofs.Answers.{passed}
+use Rattle.rules_lists.specs.declared.ListError.TheVariants.{BadRow}
 use Rattle.rules_lists.specs.Lists.{unfit, excessive, tested, accepted, named_or, rows_tested}
 use Rattle.rules.specs.Sizes.{ace_row_size}
+use Rattle.list_validation.specs.Answers.{result_for}
 
 -- the checks of a row as code makes them
 abbrev pub code_checks : Row → Bool → List (ℕ × Bool)
 code_checks w again = (20, (not (storable Aces w) || again)) ∷ (21, excessive w) ∷ []
+
+fault_is : (a g : Bool) (n i : ℕ) → verdict ((20, a) ∷ (21, g) ∷ []) ≡ Refuse n → Err (BadRow n i) ≡ result_for (tested n i)
+unfolding verdict result_for
+fault_is true g n i e = let q : 20 ≡ n = cc in rw (← q) refl
+fault_is false true n i e = let q : 21 ≡ n = cc in rw (← q) refl
+fault_is false false n i e = absurd (pass_not_refuse refl e)
+
+-- a row's fault is 20 or 21, and so neither 0 nor 19
+pub row_fault : (w : Row) (again : Bool) (n i : ℕ) → verdict (code_checks w again) ≡ Refuse n → Err (BadRow n i) ≡ result_for (tested n i)
+row_fault w again n i e = fault_is (not (storable Aces w) || again) (excessive w) n i e
 
 module _ (b : List ℕ) (count repeat : ℕ) where
   abbrev rows : List Row

@@ -10,6 +10,7 @@ ghost use Rattle.rules.specs.Tables.{storable};
 ghost use Rattle.rules.specs.Checks.{verdict};
 ghost use Rattle.rules_lists.specs.Lists.{excessive, tested_of, rows_tested, list_tested};
 ghost use Rattle.rules.specs.Sizes.{ace_row_size};
+ghost use Rattle.list_validation.specs.Answers.{result_for};
 
 use fields::ace;
 use permission_row::row_alters;
@@ -45,7 +46,8 @@ fn check_row(row: &[u8], again: bool) -> Check
 // The rows of a list whose size is good.
 fn test_rows(rows: &[u8], count: usize) -> Result<(), ListError>
     requires { count * ace_row_size ≤ length rows.now }
-    ensures { tested_of result ≡ rows_tested [] (rows_of ace_row_size count (was rows)) }
+    ensures reported { tested_of result ≡ rows_tested [] (rows_of ace_row_size count (was rows)) }
+    ensures answer { result ≡ result_for (rows_tested [] (rows_of ace_row_size count (was rows))) }
 {
     let repeat = before_repeat(rows, ACE_ROW, count);
     for i in 0..count {
@@ -59,9 +61,11 @@ fn test_rows(rows: &[u8], count: usize) -> Result<(), ListError>
 
 // The first fault of the list: its size, else that of the first bad row, counted from 1.
 // Rules out: a list of 33 rows; a later bad row named; a number that occurs twice; a row for a
-// connection that gives UPDATE of acl2; 21 for a row that could not be stored.
+// connection that gives UPDATE of acl2; 21 for a row that could not be stored; an error for a list
+// without a fault; a size that is told as a row's fault.
 pub fn test_list(rows: &[u8]) -> Result<(), ListError>
-    ensures { tested_of result ≡ list_tested (was rows) }
+    ensures reported { tested_of result ≡ list_tested (was rows) }
+    ensures answer { result ≡ result_for (list_tested (was rows)) }
 {
     let count = rows.len() / ACE_ROW;
     if (rows.len() % ACE_ROW != 0) | (count > ACES as usize) {

@@ -53,8 +53,8 @@ fn put_uuid(out: &mut [u8], at: usize, u: &[u8]) -> usize
     ensures { Puts out.old at (uuid_text (was u)) out.new result }
 {
     let mut p = at;
-    for (i, byte) in u.iter().enumerate() {
-        p = put_hex(out, p, i, *byte);
+    for i in 0..u.len() {
+        p = put_hex(out, p, i, u[i]);
     }
     p
 }

@@ -5,8 +5,6 @@ use Rattle.std.specs.Prelude.{Option, Some, None}
 use Rattle.std.proofs.lemmas.List.{map-append, drop-map, take-map}
 use Rattle.std.proofs.lemmas.Iterator.{YieldsList}
 use denote.Ref.{Bor}
-use Rattle.std.specs.Iterator.Adapters.{once_item, once_steps}
-use Rattle.std.specs.declared.iter.Once.{Once}
 use Rattle.rows.specs.Rows.{Row, same, has_key, some, rows_before}
 use Rattle.rows.specs.Promises.{index_from, index_of}
 use Rattle.std.specs.Cmp.Lexicographic.{pointwise}
@@ -98,15 +96,48 @@ pub turned_answer : (slots ws : List Row) → slots ≡ ws → (last k : Round) 
     → slot_in slots (map (take 2) ((drop n rows ++ (nobody ∷ [])) ++ take n rows)) ≡ slot_in ws (in_turn k (nobody ∷ map (take 2) rows))
 turned_answer slots ws e last k f rows n is = ap₂ slot_in e (rows_turned last rows n is ∙ ap (λ (r : Round). in_turn r (nobody ∷ map (take 2) rows)) f)
 
--- ---- the walk over them
+-- ---- the same in three steps
 
-pub once_gives : {s : Once (Bor Row)} (x : Bor Row) (row : Row) → once_item s ≡ Some x → x.now ≡ row → YieldsList once_steps (λ seat. seat.now) s (row ∷ [])
-once_gives {s} x row e f = record {
-  runs = (
-    λ j p. let h : None ≡ Some x = p.0 ∙ e in cc,
-    λ y j p. (let h : Some y ≡ Some x = p.0 ∙ e in cc, λ z k q. let h : Some z ≡ None = q.0 ∙ p.1 in cc),
-  );
-}
+or_none : (x : Option ℕ) → or_else x None ≡ x
+or_none (Some i) = refl
+or_none None = refl
+
+module _ (slots rows : List Row) (n : ℕ) where
+  abbrev pub later : Option ℕ
+  later = slot_in slots (map (take 2) (drop n rows))
+
+  abbrev pub shared : Option ℕ
+  shared = index_of (has_key 0 nobody) slots
+
+  abbrev pub earlier : Option ℕ
+  earlier = slot_in slots (map (take 2) (take n rows))
+
+  abbrev pub whole : Option ℕ
+  whole = slot_in slots (map (take 2) ((drop n rows ++ (nobody ∷ [])) ++ take n rows))
+
+  one : slot_in slots (map (take 2) (nobody ∷ [])) ≡ shared
+  unfolding slot_in be16
+  one = or_none (index_of (has_key 0 nobody) slots)
+
+  steps_are : whole ≡ or_else (or_else later shared) earlier
+  steps_are =
+      ap (slot_in slots) (map-append (take 2) (drop n rows ++ (nobody ∷ [])) (take n rows))
+      ∙ slot_append slots (map (take 2) (drop n rows ++ (nobody ∷ []))) (map (take 2) (take n rows))
+      ∙ ap (λ (x : Option ℕ). or_else x earlier)
+      (ap (slot_in slots) (map-append (take 2) (drop n rows) (nobody ∷ [])) ∙ slot_append slots (map (take 2) (drop n rows)) (map (take 2) (nobody ∷ []))
+      ∙ ap (or_else later) one)
+
+  pub at_later : (i : ℕ) → Some i ≡ later → Some i ≡ whole
+  at_later i h = sym (steps_are ∙ ap (λ (x : Option ℕ). or_else (or_else x shared) earlier) (sym h))
+
+  module _ (none : None ≡ later) where
+    pub at_shared : (i : ℕ) → Some i ≡ shared → Some i ≡ whole
+    at_shared i h = sym (steps_are ∙ ap₂ (λ (x y : Option ℕ). or_else (or_else x y) earlier) (sym none) (sym h))
+
+    pub at_earlier : (x : Option ℕ) → None ≡ shared → x ≡ earlier → x ≡ whole
+    at_earlier x h e = e ∙ sym (steps_are ∙ ap₂ (λ (x y : Option ℕ). or_else (or_else x y) earlier) (sym none) (sym h))
+
+-- ---- the walk over them
 
 -- where a walk has seats left, and the answer is theirs
 pub record Left {S : Type 0} (steps : S → Option (Bor Row) → S → Type 0) (walk : S) (slots seats : List Row) : Type 0 where

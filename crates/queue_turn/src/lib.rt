@@ -16,7 +16,6 @@ use fields::cred_rows;
 use queue::{Queue, record_in};
 use rows::{Rows, part};
 use rules::TablesView;
-use std::iter::once;
 
 // How many rows there are.
 fn row_count(rows: Rows<'_>) -> usize
@@ -43,19 +42,24 @@ fn rows_before(rows: Rows<'_>, last_seat: Option<[u8; 2]>) -> usize
 }
 
 // The slot of the coming take: that of the occupied seat that comes first in turn.
+// In three steps: of one walk, by `chain`, each seat takes four times the instructions.
 fn next_slot(rows: Rows<'_>, queue: Queue<'_>) -> Option<usize>
     ensures { result ≡ slot_in (waiting (viewed queue.entry))
         (in_turn (round_of (viewed queue.entry)) (nobody ∷ map (take 2) (listed rows.entry))) }
 {
     let slots = queue.slots();
     let passed = rows_before(rows, queue.last_seat());
+    for later in rows.iter().skip(passed) {
+        if let Some(i) = slots.find(0, part(later, 0, 2)) {
+            return Some(i);
+        }
+    }
     let nobody = [0; 2];
-    let later = rows.iter().skip(passed);
-    let seats = later
-        .chain(once(&nobody[..]))
-        .chain(rows.iter().take(passed));
-    for seat in seats {
-        if let Some(i) = slots.find(0, part(seat, 0, 2)) {
+    if let Some(i) = slots.find(0, &nobody) {
+        return Some(i);
+    }
+    for earlier in rows.iter().take(passed) {
+        if let Some(i) = slots.find(0, part(earlier, 0, 2)) {
             return Some(i);
         }
     }

@@ -73,8 +73,9 @@ impl<'a> Rows<'a> {
         RowIter { rows: self }
     }
 
-    // The index of the first row that has the key's bytes from `at` on.
+    // The index of the first row that has the key's bytes from `at` on. Inlined, so that the row's length is known where it is called.
     // Rules out: a later match; a match past the rows that count.
+    #[inline(always)]
     pub fn find(self, at: usize, key: &[u8]) -> Option<usize>
         ensures { result ≡ index_of (has_key at (was key)) (listed self.entry) }
     {

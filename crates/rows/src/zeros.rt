@@ -3,11 +3,16 @@ ghost use Rattle.std.specs.Prelude.{◌≡◌, ◌^◌, ◌<◌, drop};
 ghost use Rattle.rows.specs.Words.{was};
 ghost use Rattle.rows.specs.Rows.{all_zero};
 
-// Whether each byte is 0: whether their union is.
+// Whether each byte is 0: whether their union is. By index: `iter` brings the type of a reference that may be missing,
+// whose layout differs where a pointer has 32 bits.
 fn union_zero(bytes: &[u8]) -> bool
     ensures { result ≡ all_zero (was bytes) }
 {
-    bytes.iter().fold(0, |any, byte| any | *byte) == 0
+    let mut any = 0;
+    for i in 0..bytes.len() {
+        any |= bytes[i];
+    }
+    any == 0
 }
 
 // Whether each byte is 0, by blocks of N bytes, a number that the compiler knows. The last N bytes, which may be some of
@@ -16,11 +21,11 @@ fn blocks_zero<const N: usize>(bytes: &[u8]) -> bool
     requires { (0 < N) × (N < 2 ^ 63) }
     ensures { result ≡ all_zero (was bytes) }
 {
-    let Some(last) = bytes.last_chunk::<N>() else {
+    if bytes.len() < N {
         return union_zero(bytes);
-    };
-    let (blocks, _) = bytes.as_chunks::<N>();
-    blocks.iter().all(
+    }
+    let last = &bytes[bytes.len() - N..];
+    bytes.chunks_exact(N).all(
         |block| -> bool
             ensures { result ≡ all_zero block.now }
         { union_zero(block) },

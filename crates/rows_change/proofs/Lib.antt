@@ -1,2 +1,3 @@
--- The law of a loop that keeps rows.
+-- The law of a loop that keeps rows, and that of bytes copied in pieces.
 pub mod Staying
+pub mod Moving

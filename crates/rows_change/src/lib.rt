@@ -2,7 +2,8 @@
 // Nothing here knows a table's stride or size; every byte afterwards is given.
 #![tactic(auto)]
 
-ghost use Rattle.std.specs.Prelude.{◌≡◌, Bool, ◌+◌, ◌*◌, ◌≤◌, length, take, drop, replicate};
+ghost use Rattle.std.specs.Prelude.{◌≡◌, Bool, ◌+◌, ◌-◌, ◌*◌, ◌^◌, ◌≤◌, ◌<◌, length, replicate};
+ghost use Rattle.std.specs.List.{copy_within};
 ghost use Rattle.rows.specs.Words.{was};
 ghost use Rattle.rows.specs.Rows.{Row, rows_of, packed, stored, without, with_row, has_key};
 ghost use Rattle.rows.specs.Promises.{without_row, IsTable};
@@ -28,6 +29,37 @@ pub fn put_row(rows: &mut [u8], stride: usize, i: usize, row: &[u8])
     rows[at..at + stride].copy_from_slice(row);
 }
 
+// Copies pieces of N bytes, a number that the compiler knows, down to `to`: those from `from` on, as many as end by `end`.
+// Returns how many bytes they have. A piece is read whole before it is written, since both may have bytes in common.
+fn move_pieces<const N: usize>(bytes: &mut [u8], from: usize, end: usize, to: usize) -> usize
+    requires { (0 < N) × (N < 2 ^ 63) × (to ≤ from) × (from ≤ end) × (end ≤ length bytes.old) }
+    ensures value { (result ≤ end - from) × (end - from < result + N) }
+    ensures bytes_value { bytes.new ≡ copy_within bytes.old from (from + result) to }
+{
+    let mut moved = 0;
+    for _ in 0..(end - from) / N {
+        let start = from + moved;
+        let mut piece = [0; N];
+        piece.copy_from_slice(&bytes[start..start + N]);
+        let start = to + moved;
+        bytes[start..start + N].copy_from_slice(&piece);
+        moved += N;
+    }
+    moved
+}
+
+// Copies the bytes from `from` to `end` down to `to`.
+// Not by `copy_within`, which compares addresses as numbers of 64 bits: a processor whose pointer has 32 would get another function.
+#[inline(never)]
+fn move_down(bytes: &mut [u8], from: usize, end: usize, to: usize)
+    requires { (to ≤ from) × (from ≤ end) × (end ≤ length bytes.old) }
+    ensures { bytes.new ≡ copy_within bytes.old from end to }
+{
+    let moved = move_pieces::<64>(bytes, from, end, to);
+    let moved = moved + move_pieces::<8>(bytes, from + moved, end, to + moved);
+    move_pieces::<1>(bytes, from + moved, end, to + moved);
+}
+
 // Takes row i out: each later row moves down by one.
 // Rules out: the last row moved into the gap; a byte left after the rows.
 pub fn remove_row(rows: &mut [u8], stride: usize, i: usize)
@@ -35,7 +67,7 @@ pub fn remove_row(rows: &mut [u8], stride: usize, i: usize)
     ensures { rows.new ≡ without_row stride i rows.old }
 {
     let at = i * stride;
-    rows.copy_within(at + stride.., at);
+    move_down(rows, at + stride, rows.len(), at);
     let kept = rows.len() - stride;
     rows[kept..].fill(0);
 }
@@ -61,18 +93,8 @@ pub fn store(rows: &mut [u8], stride: usize, count: usize, row: &[u8]) -> usize
     }
 }
 
-// Copies a row over row `to`, or leaves the row that is there already.
-fn move_row(rows: &mut [u8], stride: usize, from: usize, to: usize)
-    requires { (to ≤ from) × (from * stride + stride ≤ length rows.old) }
-    ensures { rows.new ≡ with_row stride to (take stride (drop (from * stride) rows.old)) rows.old }
-{
-    if to < from {
-        let start = from * stride;
-        rows.copy_within(start..start + stride, to * stride);
-    }
-}
-
 // Keeps the rows that a test lets stay, in their order, and sets the bytes after them to 0. Returns the new count.
+// Rows that stay side by side move together.
 // Rules out: only the first other row taken out; the last row moved into the gap; a byte left after the rows.
 pub fn retain<F: Fn(&[u8]) -> bool>(rows: &mut [u8], stride: usize, count: usize, stays: F) -> usize
     requires table { IsTable stride count rows.old }
@@ -82,16 +104,20 @@ pub fn retain<F: Fn(&[u8]) -> bool>(rows: &mut [u8], stride: usize, count: usize
         × (rows.new ≡ packed (length rows.old) (without goes (rows_of stride count rows.old))) }
 {
     let mut kept = 0;
+    let mut from = 0;
     for i in 0..count {
         let start = i * stride;
         let end = start + stride;
-        if stays(&rows[start..end]) {
-            move_row(rows, stride, i, kept);
-            kept += 1;
+        if !stays(&rows[start..end]) {
+            move_down(rows, from * stride, start, kept * stride);
+            kept += i - from;
+            from = i + 1;
         }
     }
-    let start = kept * stride;
     let end = count * stride;
+    move_down(rows, from * stride, end, kept * stride);
+    kept += count - from;
+    let start = kept * stride;
     clear(&mut rows[start..end]);
     kept
 }

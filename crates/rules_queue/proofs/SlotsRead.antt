@@ -204,15 +204,15 @@ module _ (t : ByteTables) (k : Given t) (w : Waiting) (v : valid_waiting (tables
   abbrev b : List ℕ
   b = record_bytes w
 
-  is_some : read_record (received 0 b 0) ≡ record_at 0 0 w
-  is_some = record_again w valid_sender_lem valid_body 0 0
+  is_at : read_record (received 0 b 0) ≡ record_at 0 0 w
+  is_at = record_again w valid_sender_lem valid_body 0 0
 
   passes_form : verdictBytes (form b) ≡ Pass
-  passes_form = ap verdictBytes (form_read (received 0 b 0) ∙ ap header_checks is_some) ∙ passes_again w valid_sender_lem valid_body 0 0 valid_short
+  passes_form = ap verdictBytes (form_read (received 0 b 0) ∙ ap header_checks is_at) ∙ passes_again w valid_sender_lem valid_body 0 0 valid_short
 
   seat_written : seat_of b ≡ seat_bytes w.sender
   unfolding seat_of
-  seat_written = ap (λ (x : Record). be16 x.credential) is_some
+  seat_written = ap (λ (x : Record). be16 x.credential) is_at
 
   passes_written : verdictBytes (sender_checks (rows Creds t) b) ≡ Pass
   unfolding verdictBytes
@@ -243,4 +243,4 @@ module _ (t : ByteTables) (k : Given t) (w : Waiting) (v : valid_waiting (tables
   slot_again =
       ap (λ (x : Row). waiting_from (read_record (received 0 (record_of x) 0))) is_slot
       ∙ ap (λ (x : List ℕ). waiting_from (read_record (received 0 x 0))) (slot-record b (short_record (rows Creds t) b passes_written))
-      ∙ ap waiting_from is_some ∙ waiting_again w valid_sender_lem valid_body 0 0
+      ∙ ap waiting_from is_at ∙ waiting_again w valid_sender_lem valid_body 0 0

@@ -1,18 +1,14 @@
 -- Sums and equality of bytes.
-use Rattle.rows.proofs.Prelude.{◌≡◌, refl, ap, ◌∙◌, ◌&&◌, Bool, List, [], ◌∷◌, ℕ, ◌+◌, ◌%◌, ◌<◌, ◌≤◌, arith, eqb, length, drop, drop_of_length-le}
-use Rattle.std.specs.List.{fold}
+use Rattle.rows.proofs.Prelude.{◌≡◌, refl, ap, ◌&&◌, Bool, List, [], ◌∷◌, ℕ, ◌+◌, ◌%◌, ◌<◌, ◌≤◌, add-one, arith, eqb, length, drop, get_or, drop-cons, drop_of_length-le}
 use lib.Pointwise.{pointwise}
 use Rattle.rows.specs.Rows.{same}
 use Rattle.rules_store.specs.Store.{sum}
 
-wrapped : (bytes : List ℕ) (total : ℕ) → total < 256 → fold (λ a x. (a + x) % 256) total bytes ≡ (total + sum bytes) % 256
+-- a byte more: its sum and that of the bytes after it are those of the bytes from it on
+pub sum_more : (bytes : List ℕ) (i total : ℕ) → i < length bytes
+    → ((total + get_or bytes i 0) % 256 + sum (drop (i + 1) bytes)) % 256 ≡ (total + sum (drop i bytes)) % 256
 unfolding sum
-wrapped [] total h = omega arith
-wrapped (x ∷ bytes) total h = let e = wrapped bytes ((total + x) % 256) (omega arith) in omega arith
-
--- a sum that wraps at each byte is the sum, wrapped once
-pub sum_wrapped : (bytes : List ℕ) → fold (λ a x. (a + x) % 256) 0 bytes ≡ sum bytes % 256
-sum_wrapped bytes = wrapped bytes 0 (omega arith) ∙ omega arith
+sum_more bytes i total h = rw (add-one i, drop-cons bytes i 0 h) (omega arith)
 
 -- past the end of a store there are no marks
 pub no_marks : (n : ℕ) (store : List ℕ) → length store ≤ n → sum (drop n store) ≡ 0

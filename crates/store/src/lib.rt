@@ -58,9 +58,11 @@ fn counter(store: &[u8], n: usize) -> u8
 fn sum(bytes: &[u8]) -> u8
     ensures { result ≡ sum (was bytes) % 256 }
 {
-    bytes
-        .iter()
-        .fold(0, |total, byte| total.wrapping_add(*byte))
+    let mut total: u8 = 0;
+    for i in 0..bytes.len() {
+        total = total.wrapping_add(bytes[i]);
+    }
+    total
 }
 
 // Whether a store of this length is one for images of n bytes.

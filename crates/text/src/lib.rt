@@ -24,7 +24,10 @@ pub fn put_byte(out: &mut [u8], at: usize, b: u8) -> usize
 pub fn put(out: &mut [u8], at: usize, text: &[u8]) -> usize
     ensures { Puts out.old at (was text) out.new result }
 {
-    if at <= out.len() && text.len() <= out.len() - at {
+    if out.len() <= at {
+        return text.len().saturating_add(at);
+    }
+    if text.len() <= out.len() - at {
         let end = at + text.len();
         out[at..end].copy_from_slice(text);
         return end;

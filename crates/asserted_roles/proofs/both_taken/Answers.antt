@@ -1,14 +1,17 @@
 -- `both_taken`: slot by slot.
-use Rattle.rows.proofs.Prelude.{◌∙◌, List, ℕ, rules}
-use Rattle.std.specs.Borrow.{Bor}
-use Rattle.std.proofs.lemmas.Iterator.Search.{all_from_yields_List}
-use Rattle.std.proofs.lemmas.Iterator.{YieldsList-from_slice}
-use Rattle.asserted_roles.proofs.SlotBytes.{has_other, both_other}
+use Rattle.rows.proofs.Prelude.{◌∙◌, sym}
+use Rattle.asserted_roles.proofs.SlotBytes.{others_more, other_missing, others_all}
 use Rattle.asserted_roles.proofs.both_taken.Goals as goal
 
+pub loop-slot-preserved : goal.loop-slot-preserved
+loop-slot-preserved c =
+    let l = c.loop-slot in
+    others_more _ _ c.args.row.now _ c.slots-slot-items.ensures l.slot-index _ c.loop-slot-test.true
+    (sym c.holds_other.ensures ∙ c.if-not-holds_other.false) l.invariant
+
+pub returns-then-not-holds_other : goal.returns-then-not-holds_other
+returns-then-not-holds_other c =
+    other_missing _ _ _ _ c.slots-slot-items.ensures c.loop-slot.slot-index _ c.loop-slot-test.true (sym c.holds_other.ensures ∙ c.if-not-holds_other.true)
+
 pub returns : goal.returns
-returns c =
-    let a = c.args in
-    all_from_yields_List (λ (slot : Bor (List ℕ)). has_other a.clock a.new.now slot.now) c.all.new.self _ _ c.all.ensures.ran
-    (YieldsList-from_slice c.slots.result (cc)) (λ x b q k. search rules)
-    ∙ both_other a.row.now a.clock a.new.now c.slots.result c.slots.ensures
+returns c = others_all _ _ _ _ c.slots-slot-items.ensures c.loop-slot.slot-index c.loop-slot-test.false c.loop-slot.invariant

@@ -18,7 +18,7 @@ apply-head-requires c =
     let q : Request = received c.args.clock c.args.rec.now (length c.args.reply.now) in
     let d = c.args.d in
     let p = c.requires in
-    (action_is t q d p, row_is t q d p, form_passes t q d p, rows_pass t q d p)
+    (action_is t q d p.1 p.2, row_is t q d p.1 p.2, form_passes t q d p.1 p.2 p.0, rows_pass t q d p.1 p.2)
 
 pub returns : goal.returns
 returns c =
@@ -28,11 +28,11 @@ returns c =
     let d = c.args.d in
     let p = c.requires in
     record {
-      says = gives t q d p lists _ _ _ _ _ _ c.permitted.ensures
+      says = gives t q d p.1 p.2 p.0 lists _ _ _ _ _ _ c.permitted.ensures
           (c.store_range_of-store.ensures ∙ ap (λ (b : List ℕ). store_range_of t b d.action) c.body_of.ensures)
-          (c.links_of-links.ensures ∙ links_as t q d p)
-          (c.apply-head.ensures ∙ ap (λ (w : Row). effect lists c.args.clock t w (body q.bytes) d.action) (row_is t q d p));
-      fills = fills t q d p lists _ _ _ refl (reply_as t q d p) c.put_reply.ensures;
+          (c.links_of-links.ensures ∙ links_as t q d p.1 p.2 p.0)
+          (c.apply-head.ensures ∙ ap (λ (w : Row). effect lists c.args.clock t w (body q.bytes) d.action) (row_is t q d p.1 p.2));
+      fills = fills t q d p.1 p.2 p.0 lists _ _ _ refl (reply_as t q d p.1 p.2) c.put_reply.ensures;
     }
 
 pub shape_of-reply : goal.shape_of-reply

@@ -25,14 +25,14 @@ returns-then-not-resource c =
     let d = c.args.d in
     let p = c.requires.decided in
     let plain = not-true d.caller.header.resource.configuration c.if-not-resource.true in
-    let serve = serves t q d p plain in
+    let serve = serves t q d p.1 p.2 plain in
     record {
       executes = record {
-        says = gives t q d p lists _ _ _ _ _ _ c.permitted.ensures
+        says = gives t q d p.1 p.2 p.0 lists _ _ _ _ _ _ c.permitted.ensures
             (c.none.ensures ∙ sym (ap (store_range_of t (body q.bytes)) serve))
-            (c.links_of-links.ensures ∙ links_as t q d p)
+            (c.links_of-links.ensures ∙ links_as t q d p.1 p.2 p.0)
             (sym (ap (effect_by lists t q) serve));
-        fills = fills t q d p lists _ _ _ refl (sym (no_reply t q d p plain)) (puts_none _ (omega arith));
+        fills = fills t q d p.1 p.2 p.0 lists _ _ _ refl (sym (no_reply t q d p.1 p.2 plain)) (puts_none _ (omega arith));
       };
       leaves_queue = c.requires.whole_queue.1
           ∙ same_queue t q d p lists _ (sym (ap is_reset serve)) t (sym (served t q d p lists serve)) _ _ refl refl;

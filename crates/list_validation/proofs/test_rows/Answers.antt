@@ -2,7 +2,8 @@
 use Rattle.rows.proofs.Prelude.{sym, ap, ◌∙◌, arith, eqb}
 use Rattle.rows.specs.Rows.{Row}
 use Rattle.rules.specs.Checks.{verdict}
-use Rattle.list_validation.proofs.RowLoop.{code_checks, row_start, row_end, row_bad, row_turn}
+use Rattle.list_validation.specs.Answers.{result_for}
+use Rattle.list_validation.proofs.RowLoop.{code_checks, row_start, row_end, row_bad, row_turn, row_fault}
 use Rattle.list_validation.proofs.test_rows.Goals as goal
 
 pub before_repeat-repeat-requires : goal.before_repeat-repeat-requires
@@ -13,11 +14,16 @@ loop-i-init c = row_start _ _ _ c.before_repeat-repeat.ensures
 
 pub returns-in-Refuse : goal.returns-in-Refuse
 returns-in-Refuse c =
-    row_bad _ _ _ _ c.loop-i.invariant c.loop-i-test.true _ (sym ((c.check_row.ensures ∙ ap (λ (w : Row). verdict (code_checks w (eqb c.loop-i.i c.before_repeat-repeat.result))) c.part-row.ensures)) ∙ c.in-Refuse.is)
+    let refused = sym (c.check_row.ensures ∙ ap (λ (w : Row). verdict (code_checks w (eqb c.loop-i.i c.before_repeat-repeat.result))) c.part-row.ensures) ∙ c.in-Refuse.is in
+    let reported = row_bad _ _ _ _ c.loop-i.invariant c.loop-i-test.true _ refused in
+    record { reported = reported; answer = row_fault _ _ _ _ refused ∙ ap result_for reported }
 
 pub loop-i-preserved : goal.loop-i-preserved
 loop-i-preserved c =
     row_turn _ _ _ _ c.loop-i.invariant c.loop-i-test.true (sym ((c.check_row.ensures ∙ ap (λ (w : Row). verdict (code_checks w (eqb c.loop-i.i c.before_repeat-repeat.result))) c.part-row.ensures)) ∙ c.in_default.is)
 
 pub returns : goal.returns
-returns c = row_end _ _ _ _ c.loop-i.invariant c.loop-i-test.false
+unfolding result_for
+returns c =
+    let reported = row_end _ _ _ _ c.loop-i.invariant c.loop-i-test.false in
+    record { reported = reported; answer = ap result_for reported }

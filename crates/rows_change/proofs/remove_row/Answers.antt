@@ -37,4 +37,4 @@ pub returns : goal.returns
 unfolding without_row
 returns c =
     rw (c.fill.ensures.after (λ y e. e))
-    (closed_up c.args.rows.now c.copy_within.new.self (c.args.i * c.args.stride) c.args.stride c.requires c.copy_within.ensures.after c.copy_within.ensures.len)
+    (closed_up c.args.rows.now c.move_down.new.bytes (c.args.i * c.args.stride) c.args.stride c.requires c.move_down.ensures c.move_down.auto.bytes)

@@ -1,12 +1,12 @@
 -- `zeros::union_zero`: a union is 0 where each byte is.
-use Rattle.rows.proofs.Prelude.{bit_or}
-use Rattle.std.proofs.Common.{rules, tests}
-use Rattle.std.proofs.lemmas.Iterator.{YieldsList-from_slice}
-use Rattle.std.proofs.lemmas.Iterator.Consumers.{fold_from_yields_List}
-use Rattle.rows.proofs.AllZero.{union_zero}
+use Rattle.rows.proofs.Prelude.{and-true}
+use Rattle.rows.proofs.AllZero.{zero_more, zeros_from, zeros_past}
 use Rattle.rows.proofs.zeros.union_zero.Goals as goal
 
-pub returns : goal.returns
-returns c =
+pub loop-i-preserved : goal.loop-i-preserved
+loop-i-preserved c =
     let b = c.args.bytes.now in
-    rw (fold_from_yields_List _ bit_or 0 _ c.fold.ensures.ran (YieldsList-from_slice b cc) (λ a x r q k. search (rules, tests))) (union_zero 0 b)
+    rw (← zero_more c.loop-i.any _ _, ← zeros_from b c.loop-i.i c.loop-i-test.true) c.loop-i.invariant
+
+pub returns : goal.returns
+returns c = rw (zeros_past _ _ c.loop-i-test.false, and-true) at c.loop-i.invariant
