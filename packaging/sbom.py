@@ -7,9 +7,8 @@
 With FOLDER the file is held to CycloneDX's own schema too, by the module jsonschema. The folder has the files of Debian's package
 python3-cyclonedx-lib, cyclonedx/schema/_res.
 
-The archive: each symbol is of a crate of crates.txt or of the prover's library, or called in the C library. A program: the packages of
-the shared libraries that the loader finds; the command, called tillerclover, also the crates that cargo links. Licences are those that
-crates and packages state.
+The archive: each symbol is of a crate of crates.txt, or called in the C library. A program: the packages of the shared libraries that
+the loader finds; the command, called tillerclover, also the crates that cargo links. Licences are those that crates and packages state.
 """
 import datetime
 import hashlib
@@ -23,8 +22,6 @@ import uuid
 ROOT = os.path.join(os.path.dirname(os.path.abspath(__file__)), "..")
 # of the C library: the functions that the archive may call
 C_LIBRARY = {"memcpy", "memmove", "memset", "memcmp"}
-# the prover's library, whose generic functions are compiled into the archive where they are used
-PROVER_LIBRARY = {"core"}
 # of packages whose file of copyrights no machine can read, the main licence
 MAIN = {"libc6": "LGPL-2.1-or-later", "libgcc-s1": "GPL-3.0-or-later WITH GCC-exception-3.1"}
 
@@ -59,17 +56,15 @@ def own(ref, file, version, **values):
 
 
 def library(path, version):
-    """The archive. A symbol that is neither the project's, the prover's library's nor the C library's ends the program."""
+    """The archive. A symbol that is neither the project's nor the C library's ends the program."""
     symbols = re.findall(r"^[0-9a-f ]+ ([TtU]) (.+)$", said("nm", path), re.M)
     crates = set(re.findall(r"^(\w+)(?: staticlib)?:", read("crates.txt"), re.M))
     known = {"T": lambda name: name.startswith("tillerclover_"), "U": C_LIBRARY.__contains__}
-    known["t"] = lambda name: name.split("::")[0] in crates | PROVER_LIBRARY
+    known["t"] = lambda name: name.split("::")[0] in crates
     unknown = [name for kind, name in symbols if not known[kind](name)]
     if unknown or not symbols:
         sys.exit(f"sbom: {path}: unknown symbols: {unknown}")
-    kit = re.search(r"^kit (\S+)", read("packaging/KIT"), re.M).group(1)
-    told = f"The access decision, proved. With functions of {kit}'s library, core, as far as it uses them."
-    return own("libtillerclover", path, version, name="libtillerclover.a", description=told)
+    return own("libtillerclover", path, version, name="libtillerclover.a", description="The access decision, proved.")
 
 
 def package(name, version):

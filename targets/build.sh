@@ -13,11 +13,10 @@
 # For wasm32 there is also a module next to each archive, terminal.wasm: it exports all functions and imports nothing.
 #
 # The archive for x86-64 at -O3 must be the toolchain's own, byte for byte. For the others three things of the module change,
-# none of them in a function: the triple, the data layout, and the name of the x86-64 processor. Where a pointer has 32 bits, one
-# word in one function of the prover's library is written at length, so that it means what it means for x86-64: NARROW below. That is
-# sound as far as the exported functions are called alike everywhere, so a module where they take or give anything but pointers,
-# 32-bit and 64-bit numbers is refused; and as far as a function means the same there, so a module with a type whose fields would lie
-# elsewhere, or with an address as a number in any other function, is refused too. Nothing but the toolchain is needed.
+# none of them in a function: the triple, the data layout, and the name of the x86-64 processor. That is sound as far as the
+# exported functions are called alike everywhere, so a module where they take or give anything but pointers, 32-bit and 64-bit
+# numbers is refused; and as far as each function means the same there, so a module with a type whose fields would lie elsewhere
+# where a pointer has 32 bits, or with an address as a number, is refused too. Nothing but the toolchain is needed.
 set -euo pipefail
 cd "$(dirname "$0")/.."
 # shellcheck source=packaging/below.sh
@@ -82,31 +81,23 @@ called_alike() {
 
 # ---- a target
 
-# For a pointer of 32 bits, `sed` makes this of the module's text: an address as a number of 64 bits. `ptrtoaddr` gives as many bits as
-# an address has, `ptrtoint` more too, with zeros in front, which keep the order of two addresses.
-NARROW='s/ = ptrtoaddr ptr (%[a-z0-9.]+) to i64$/ = ptrtoint ptr \1 to i64/'
-# the one function that asks for addresses: the copy of a slice over another
-COPIES='"core::ptr::copy_drop::copy_bits::<i8>"('
-
-# Each type of several fields has them at the same places for a pointer of 32 bits and of 64, and no other function asks for an address.
+# Each type of several fields has them at the same places for a pointer of 32 bits and of 64, and nothing asks for an address.
 placed_alike() {
     local others
-    others=$(grep -vE '^attributes ' "$1" | grep -oE '<?\{ [^}]* \}>?' | sort -u |
+    others=$(grep -vE '^attributes ' "$1" | grep -oE '<?\{ [^}]* \}>?|\[[0-9]+ x ptr\]' | sort -u |
         grep -vE '^\{ (ptr, i64|i[0-9]+)(, i[0-9]+)* \}$') || true
     [ -z "$others" ] || stop "the module has types whose fields lie elsewhere on other processors:"$'\n'"$others"
-    others=$(awk '/^define /{ within = $0 } / (ptrtoaddr|ptrtoint|inttoptr) /{ print within }' "$1" | grep -vF "@$COPIES" | sort -u) || true
-    [ -z "$others" ] || stop "the module has functions with addresses as numbers, which have other lengths on other processors:"$'\n'"$others"
+    others=$(awk '/^define /{ within = $0 } /^}/{ within = "" } / (ptrtoaddr|ptrtoint|inttoptr) /{ print within ? within : $0 }' "$1" | sort -u)
+    [ -z "$others" ] || stop "the module has addresses as numbers, which have other lengths on other processors:"$'\n'"$others"
 }
 
 # for_target TRIPLE FLAG..: the module's text, with triple and data layout as the compiler has them for the target
 for_target() {
-    local empty layout triple narrow=()
+    local empty layout triple
     empty=$(echo 'int x;' | "$clang" --no-default-config --target="$1" "${@:2}" -S -emit-llvm -x c - -o -)
     layout=$(grep '^target datalayout = ' <<<"$empty")
     triple=$(grep '^target triple = ' <<<"$empty")
-    [[ $layout != *-p:32:32-* ]] || narrow=(-e "$NARROW")
-    sed -E -e "s/^target triple = .*/$triple/" -e "s/^target datalayout = .*/$layout/" -e 's/ "target-cpu"="x86-64"//' \
-        "${narrow[@]}" "$lib/module.ll"
+    sed -E -e "s/^target triple = .*/$triple/" -e "s/^target datalayout = .*/$layout/" -e 's/ "target-cpu"="x86-64"//' "$lib/module.ll"
 }
 
 # link_module ARCHIVE MODULE: a WebAssembly module that exports every function of the archive, its memory, and where free memory

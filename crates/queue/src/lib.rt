@@ -14,7 +14,7 @@ ghost use Rattle.queue.specs.Queue.{IsQueue};
 ghost use Rattle.queue.specs.Viewed.{round_from};
 
 use fields::{be16, cred_rows, skip};
-use rows::part;
+use rows::{copy_bytes, part};
 use rules::CRED_ROWS;
 use rules_terminal::{QUEUE, SLOT};
 pub use view::Queue;
@@ -36,8 +36,8 @@ fn slot_of(rec: &[u8]) -> [u8; SLOT]
     let n = rec.len();
     let [high, low] = (n as u16).to_be_bytes();
     let mut slot = [0; SLOT];
-    slot[..4].copy_from_slice(&[rec[2], rec[3], high, low]);
-    slot[4..4 + n].copy_from_slice(rec);
+    copy_bytes(&mut slot[..4], &[rec[2], rec[3], high, low]);
+    copy_bytes(&mut slot[4..4 + n], rec);
     slot
 }
 
@@ -63,7 +63,7 @@ fn put_head(queue: &mut [u8], count: usize, last_seat: Option<[u8; 2]>)
         None => [0; 3],
     };
     queue[0] = count as u8;
-    queue[1..4].copy_from_slice(&round);
+    copy_bytes(&mut queue[1..4], &round);
 }
 
 // Removes the record of a seat. The round continues after that seat.

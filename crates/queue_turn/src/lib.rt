@@ -14,7 +14,7 @@ ghost use Rattle.queue_turn.specs.Turns.{slot_in, rows_ahead, due_of};
 
 use fields::cred_rows;
 use queue::{Queue, record_in};
-use rows::{Rows, part};
+use rows::{Rows, copy_bytes, part};
 use rules::TablesView;
 
 // How many rows there are.
@@ -42,7 +42,7 @@ fn rows_before(rows: Rows<'_>, last_seat: Option<[u8; 2]>) -> usize
 }
 
 // The slot of the coming take: that of the occupied seat that comes first in turn.
-// In three steps: of one walk, by `chain`, each seat takes four times the instructions.
+// In three steps, since one walk by `chain` takes more instructions for each seat.
 fn next_slot(rows: Rows<'_>, queue: Queue<'_>) -> Option<usize>
     ensures { result ≡ slot_in (waiting (viewed queue.entry))
         (in_turn (round_of (viewed queue.entry)) (nobody ∷ map (take 2) (listed rows.entry))) }
@@ -72,7 +72,7 @@ fn record_bytes(slot: &[u8]) -> [u8; 256]
     ensures { result ≡ drop 4 (was slot) }
 {
     let mut bytes = [0; 256];
-    bytes.copy_from_slice(&slot[4..]);
+    copy_bytes(&mut bytes, &slot[4..]);
     bytes
 }
 

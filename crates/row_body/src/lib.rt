@@ -7,6 +7,7 @@ ghost use Rattle.rows.specs.Words.{was};
 ghost use Rattle.rules.specs.declared.Table.TheVariants.{Creds, Aces};
 ghost use Rattle.rules.specs.Tables.{row_of};
 
+use rows::copy_bytes;
 use rules::{ACE_ROW, ACE_SHORT, CRED_BODY, CRED_ROW, CRED_SHORT};
 
 // The credential row that a body stores, with no role asserted; zeros for a body of another length.
@@ -17,9 +18,9 @@ pub fn cred_row(b: &[u8]) -> [u8; CRED_ROW]
 {
     let mut row = [0u8; CRED_ROW];
     match b.len() {
-        CRED_BODY => row[..CRED_BODY].copy_from_slice(b),
+        CRED_BODY => copy_bytes(&mut row[..CRED_BODY], b),
         CRED_SHORT => {
-            row[..20].copy_from_slice(&b[..20]);
+            copy_bytes(&mut row[..20], &b[..20]);
             row[22] = b[20];
         }
         _ => {}
@@ -38,10 +39,10 @@ pub fn ace_row(b: &[u8]) -> [u8; ACE_ROW]
 {
     let mut row = [0u8; ACE_ROW];
     match b.len() {
-        ACE_ROW => row.copy_from_slice(b),
+        ACE_ROW => copy_bytes(&mut row, b),
         ACE_SHORT => {
-            row[..ACE_SHORT].copy_from_slice(b);
-            row[ACE_ROW - 4..].copy_from_slice(&LATEST);
+            copy_bytes(&mut row[..ACE_SHORT], b);
+            copy_bytes(&mut row[ACE_ROW - 4..], &LATEST);
         }
         _ => {}
     }

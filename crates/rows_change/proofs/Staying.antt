@@ -2,7 +2,7 @@
 -- up to row i stay and are not moved yet.
 use Rattle.rows.proofs.Prelude.{◌≡◌, refl, sym, ap, ◌∙◌, Bool, true, false, List, [], ◌∷◌, ◌++◌, append-nil, append_assoc, ℕ, suc, ◌+◌, ◌-◌, ◌*◌, ◌≤◌, ◌<◌}
 use Rattle.rows.proofs.Prelude.{mul-le-mul_right, suc-mul, zero-mul, add-one, arith, length, take, drop, replicate, length-append, length-drop, length-replicate}
-use Rattle.rows.proofs.Prelude.{drop_at, drop-drop, length-take-le, take_all, take_at, bool_cases, add-sub_cancel_left}
+use Rattle.rows.proofs.Prelude.{drop_at, drop-drop, length-take-le, take_all, take_at, bool_cases}
 use native.Mathlib.Nat.{add-mul}
 use lib.ListN.{replicate-append-replicate}
 use lib.Seq.{take-add, take-suc}

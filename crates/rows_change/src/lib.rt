@@ -9,7 +9,7 @@ ghost use Rattle.rows.specs.Rows.{Row, rows_of, packed, stored, without, with_ro
 ghost use Rattle.rows.specs.Promises.{without_row, IsTable};
 ghost use Rattle.rows_change.specs.Tests.{TestsOthers};
 
-use rows::{Rows, has_key};
+use rows::{Rows, copy_bytes, has_key};
 
 // Sets each byte to 0: of a table, removes all rows.
 // Rules out: the last byte left; only the first row cleared.
@@ -26,7 +26,7 @@ pub fn put_row(rows: &mut [u8], stride: usize, i: usize, row: &[u8])
     ensures { rows.new ≡ with_row stride i (was row) rows.old }
 {
     let at = i * stride;
-    rows[at..at + stride].copy_from_slice(row);
+    copy_bytes(&mut rows[at..at + stride], row);
 }
 
 // Copies pieces of N bytes, a number that the compiler knows, down to `to`: those from `from` on, as many as end by `end`.
@@ -40,16 +40,16 @@ fn move_pieces<const N: usize>(bytes: &mut [u8], from: usize, end: usize, to: us
     for _ in 0..(end - from) / N {
         let start = from + moved;
         let mut piece = [0; N];
-        piece.copy_from_slice(&bytes[start..start + N]);
+        copy_bytes(&mut piece, &bytes[start..start + N]);
         let start = to + moved;
-        bytes[start..start + N].copy_from_slice(&piece);
+        copy_bytes(&mut bytes[start..start + N], &piece);
         moved += N;
     }
     moved
 }
 
 // Copies the bytes from `from` to `end` down to `to`.
-// Not by `copy_within`, which compares addresses as numbers of 64 bits: a processor whose pointer has 32 would get another function.
+// Not by `copy_within`, for the reason that `rows::copy_bytes` gives.
 #[inline(never)]
 fn move_down(bytes: &mut [u8], from: usize, end: usize, to: usize)
     requires { (to ≤ from) × (from ≤ end) × (end ≤ length bytes.old) }

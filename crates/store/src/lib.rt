@@ -7,7 +7,7 @@ ghost use Rattle.std.specs.Option.{SomeIff};
 ghost use Rattle.rows.specs.Words.{was};
 ghost use Rattle.rules_store.specs.Store.{size_for, sum, counter, current_at, mismatch_from, to_copy, write, settled, next};
 
-use rows::part;
+use rows::{part, same_bytes};
 use rules_store::Step;
 
 const MARKS: usize = 8;
@@ -80,7 +80,7 @@ fn settled(store: &[u8], new: &[u8], from: usize) -> bool
     ensures { result ≡ settled (was store) (was new) from }
 {
     let n = new.len();
-    (from == 0 || n + n < from) && part(store, current_at(store, n), n) == new
+    (from == 0 || n + n < from) && same_bytes(part(store, current_at(store, n), n), new)
 }
 
 // The next write, where the new image is not the current one.

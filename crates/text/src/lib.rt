@@ -7,6 +7,8 @@ ghost use Rattle.rows.specs.Words.{was};
 ghost use Rattle.text.specs.Text.{decimal};
 ghost use Rattle.text.specs.Buffer.{Puts, Counts};
 
+use rows::copy_bytes;
+
 // One byte. The largest position stays where it is.
 // Rules out: a byte written past the end; a position that stops at the end.
 pub fn put_byte(out: &mut [u8], at: usize, b: u8) -> usize
@@ -29,7 +31,7 @@ pub fn put(out: &mut [u8], at: usize, text: &[u8]) -> usize
     }
     if text.len() <= out.len() - at {
         let end = at + text.len();
-        out[at..end].copy_from_slice(text);
+        copy_bytes(&mut out[at..end], text);
         return end;
     }
     put_cut(out, at, text)
@@ -42,7 +44,7 @@ fn put_cut(out: &mut [u8], at: usize, text: &[u8]) -> usize
 {
     let start = at.min(out.len());
     let fits = text.len().min(out.len() - start);
-    out[start..start + fits].copy_from_slice(&text[..fits]);
+    copy_bytes(&mut out[start..start + fits], &text[..fits]);
     at.saturating_add(text.len())
 }
 

@@ -1,6 +1,8 @@
 // The entries of vectors.bin: a tag, and bytes whose number follows from the tag and from lengths among them.
-ghost use Rattle.std.specs.Prelude.{◌<◌, length, IfOk};
+ghost use Rattle.std.specs.Prelude.{◌≡◌, ◌<◌, length, IfOk};
 ghost use Rattle.std.specs.Iterator.{at_most};
+ghost use Rattle.rules.specs.Promises.Words.{was};
+ghost use Rattle.vectors.specs.Left.{left};
 
 use fields::{be16, byte_at, skip};
 use vectors_reader::EntryError;
@@ -115,7 +117,11 @@ pub struct Entries<'a> {
 }
 
 impl<'a> Entries<'a> {
-    pub fn new(bytes: &'a [u8]) -> Entries<'a> {
+    // All entries of a file.
+    // Rules out: the first byte left out; no byte read.
+    pub fn new(bytes: &'a [u8]) -> Entries<'a>
+        ensures { left result ≡ was bytes }
+    {
         Entries { rest: bytes }
     }
 }

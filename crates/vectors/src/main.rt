@@ -76,17 +76,28 @@ fn compared(rt: &impl Print, p: &mut Progress, is_same: bool) {
 fn answered<'a>(rt: &impl Print, p: &mut Progress<'a>, entry: Entry<'a>) {
     let s = entry.body;
     match entry.tag {
-        Tag::Tables => p.terminal.tables = Arrays::from(tables_of(s)),
+        Tag::Tables => placed(p, s),
         Tag::Record => judged(rt, p, s),
         Tag::Reached => reached(rt, p, s),
         Tag::Defaults => listed(p, s),
         Tag::List => tested(rt, p, s),
         Tag::OlderList => converted(rt, p, s),
-        Tag::Queue => p.terminal.queue = queue_of(s),
+        Tag::Queue => queued(p, s),
         Tag::QueueReached => kept(rt, p, s),
         Tag::HandIn => handed_in(rt, p, s),
         Tag::Take => taken_turn(rt, p, s),
     }
+}
+
+// Goes on with these tables. A function of its own, as `queued` is: in the match the memory for what it makes would be set to zeros at each
+// entry, whatever the tag.
+fn placed(p: &mut Progress, s: &[u8]) {
+    p.terminal.tables = Arrays::from(tables_of(s));
+}
+
+// Goes on with this queue.
+fn queued(p: &mut Progress, s: &[u8]) {
+    p.terminal.queue = queue_of(s);
 }
 
 // Goes on with two default lists, each after its length, which is a byte: credential rows, then access rows.

@@ -1,4 +1,13 @@
 // The terminal that the entries are put to, in the arrays in which C has it.
+ghost use Rattle.std.specs.Prelude.{◌≡◌, [], ◌∷◌, length};
+ghost use Rattle.rules.specs.Promises.Words.{was};
+ghost use Rattle.rules.specs.Record.{received};
+ghost use Rattle.rules.specs.Tables.{empty};
+ghost use Rattle.rules.specs.Defaults.{no_defaults};
+ghost use Rattle.rules_terminal.specs.Slots.{empty_queue};
+ghost use Rattle.rules_interface.specs.Interface.{HandsInAt, JudgesAt, TakesAt};
+ghost use Rattle.vectors.specs.Held.{arrays_of, memory_held, lists_held};
+
 use rules::{ACE_ROWS, CRED_ROWS, Tables};
 use rules_terminal::QUEUE;
 use terminal::{tillerclover_hand_in_at, tillerclover_judge_at, tillerclover_take_at};
@@ -14,6 +23,9 @@ pub struct Arrays {
 }
 
 impl From<Tables> for Arrays {
+    ghost from_gives = { λ t arrays. arrays ≡ arrays_of t };
+
+    // Rules out: the counts exchanged; an owner that is lost.
     fn from(t: Tables) -> Arrays {
         let Tables {
             state,
@@ -54,7 +66,12 @@ pub struct Turn {
 
 impl<'a> Terminal<'a> {
     // Empty tables of a build without default rows, and nothing that waits.
-    pub fn empty() -> Terminal<'a> {
+    // Rules out: tables with an owner; a queue with a record; a default row.
+    pub fn empty() -> Terminal<'a>
+        ensures tables { result.tables ≡ arrays_of empty }
+        ensures queue { result.queue ≡ empty_queue }
+        ensures lists { lists_held result ≡ no_defaults }
+    {
         Terminal {
             tables: Arrays::from(Tables::empty()),
             queue: [0; QUEUE],
@@ -63,9 +80,14 @@ impl<'a> Terminal<'a> {
         }
     }
 
-    // Judges a record: what is reported of it, in words.
-    pub fn judge(&mut self, clock: u32, record: &[u8], reply: &mut [u8]) -> [u64; 9] {
-        let mut words = [0; 9];
+    // Judges a record: what is reported of it, in words. The default lists stay.
+    // Rules out: a record judged on other tables, or at another clock; a default list that is lost; words of another record.
+    pub fn judge(&mut self, clock: u32, rec: &[u8], reply: &mut [u8]) -> [u64; 9]
+        ensures judges { JudgesAt (lists_held self.old) (memory_held self.old)
+            (received clock (was rec) (length reply.old)) result (memory_held self.new) reply.old reply.new }
+        ensures lists { lists_held self.new ≡ lists_held self.old }
+    {
+        let mut judged = [0; 9];
         tillerclover_judge_at(
             &mut self.tables.counts,
             &mut self.tables.devowner,
@@ -76,15 +98,19 @@ impl<'a> Terminal<'a> {
             self.default_creds,
             self.default_aces,
             clock,
-            record,
+            rec,
             reply,
-            &mut words,
+            &mut judged,
         );
-        words
+        judged
     }
 
-    // Hands a record in: what is reported of it, in words.
-    pub fn hand_in(&mut self, record: &[u8]) -> [u64; 9] {
+    // Hands a record in: what is reported of it, in words. The tables and the default lists stay.
+    // Rules out: a record that is obeyed at once; a queue left as it was; a default list that is lost.
+    pub fn hand_in(&mut self, rec: &[u8]) -> [u64; 9]
+        ensures hands_in { HandsInAt (memory_held self.old) (was rec) result self.new.queue }
+        ensures stays { self.new ≡ record self.old { queue = self.new.queue } }
+    {
         let mut words = [0; 9];
         tillerclover_hand_in_at(
             &self.tables.counts,
@@ -93,14 +119,19 @@ impl<'a> Terminal<'a> {
             &self.tables.creds,
             &self.tables.aces,
             &mut self.queue,
-            record,
+            rec,
             &mut words,
         );
         words
     }
 
-    // Takes the record whose turn it is.
-    pub fn take(&mut self, clock: u32, reply: &mut [u8]) -> Turn {
+    // Takes the record whose turn it is. The default lists stay.
+    // Rules out: a record given out with another length; a take at another clock; a default list that is lost.
+    pub fn take(&mut self, clock: u32, reply: &mut [u8]) -> Turn
+        ensures takes { TakesAt (lists_held self.old) (memory_held self.old) clock (length reply.old)
+            result.words (result.size ∷ []) result.bytes (memory_held self.new) reply.old reply.new }
+        ensures lists { lists_held self.new ≡ lists_held self.old }
+    {
         let mut words = [0; 9];
         let mut size = [0; 1];
         let mut bytes = [0; 256];

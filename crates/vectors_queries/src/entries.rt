@@ -1,6 +1,8 @@
 // The entries of queries.bin: a tag, a length, and that many bytes.
-ghost use Rattle.std.specs.Prelude.{◌<◌, length};
+ghost use Rattle.std.specs.Prelude.{◌≡◌, ◌<◌, length};
 ghost use Rattle.std.specs.Iterator.{at_most};
+ghost use Rattle.rules.specs.Promises.Words.{was};
+ghost use Rattle.vectors_queries.specs.Left.{left};
 
 use fields::{be16, byte_at, skip};
 use vectors_reader::EntryError;
@@ -50,7 +52,11 @@ pub struct Entries<'a> {
 }
 
 impl<'a> Entries<'a> {
-    pub fn new(bytes: &'a [u8]) -> Entries<'a> {
+    // All entries of a file.
+    // Rules out: the first byte left out; no byte read.
+    pub fn new(bytes: &'a [u8]) -> Entries<'a>
+        ensures { left result ≡ was bytes }
+    {
         Entries { rest: bytes }
     }
 }

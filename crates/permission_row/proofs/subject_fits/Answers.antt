@@ -5,7 +5,7 @@ use Rattle.permission_row.proofs.subject_fits.Goals as goal
 pub returns-in-Uuid : goal.returns-in-Uuid
 unfolding subject_fits subject_is
 returns-in-Uuid c =
-    rw (← c.in-Uuid.ensures, c.same_uuid.ensures, c.subject-in-Uuid.ensures, c.subject.ensures, c.is_empty.ensures)
+    rw (← c.in-Uuid.ensures, c.same_bytes.ensures, c.subject-in-Uuid.ensures, c.subject.ensures, c.is_empty.ensures)
 
 pub returns-in-Role : goal.returns-in-Role
 unfolding subject_fits subject_is

@@ -5,4 +5,4 @@ use Rattle.queue.proofs.slot_of.Goals as goal
 pub returns : goal.returns
 returns c =
     slot_is c.args.rec.now c.to_be_bytes.result _ _ (c.type_inv.rec 2).fits (c.type_inv.rec 3).fits
-    c.requires.1 c.to_be_bytes.ensures c.copy_from_slice.ensures.after c.copy_from_slice-2.ensures.after
+    c.requires.1 c.to_be_bytes.ensures c.copy_bytes.ensures c.copy_bytes-2.ensures

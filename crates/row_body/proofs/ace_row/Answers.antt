@@ -18,4 +18,4 @@ every b l =
 
 pub returns-in-28 : goal.returns-in-28
 unfolding ace_row_of every_second zeros
-returns-in-28 c = simp (c.copy_from_slice-in-28.ensures.after, c.copy_from_slice-in-28-2.ensures.after, c.in-28.is) (every c.args.b.now c.in-28.is)
+returns-in-28 c = simp (c.copy_bytes-in-28.ensures, c.copy_bytes-in-28-2.ensures, c.in-28.is) (every c.args.b.now c.in-28.is)

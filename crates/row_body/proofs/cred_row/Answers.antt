@@ -14,7 +14,7 @@ returns-in-21 c =
     let long : length front ≡ 22 = rw (length-append, length-take-le 20 b (omega arith)) in
     let short : length b ≤ 21 = omega arith in
     let last : drop 20 b ≡ get_or b 20 0 ∷ [] = drop-cons b 20 0 (omega arith) ∙ ap (λ (r : List ℕ). get_or b 20 0 ∷ r) (drop_of_length-le b short) in
-    rw (c.copy_from_slice-in-21.ensures.after, c.in-21.is, last)
+    rw (c.copy_bytes-in-21.ensures, c.in-21.is, last)
     (ap (λ (r : List ℕ). set r 22 (get_or b 20 0)) (sym (append_assoc (take 20 b) (0 ∷ 0 ∷ []) (0 ∷ none)))
     ∙ set_at front 0 none (get_or b 20 0) 22 long
     ∙ append_assoc (take 20 b) (0 ∷ 0 ∷ []) (get_or b 20 0 ∷ none)

@@ -1,21 +1,8 @@
--- `same_bytes`: of one length, and each byte that of its place.
-use Rattle.rows.proofs.Prelude.{◌≡◌, refl, ap, ◌∙◌, rules, Bool, false, and-false, List, [], ◌∷◌, ℕ, suc, ◌+◌, ◌<◌, length, get_or, eqb, ne_eqb, arith}
-use Rattle.std.proofs.lemmas.Iterator.{YieldsList-from_range}
-use Rattle.std.proofs.lemmas.Iterator.Search.{all_from_yields_List}
-use Rattle.std.specs.List.{list_all, range_with_len}
+-- `same_bytes`: slices of different lengths are not the same, and a turn compares one byte.
+use Rattle.rows.proofs.Prelude.{◌≡◌, refl, sym, ◌∙◌, false, ◌&&◌, and-false, List, [], ◌∷◌, ℕ, ◌+◌, ◌<◌, add-one, length, drop, get_or, drop_of_length-le}
+use Rattle.rows.proofs.Prelude.{drop-cons, eqb, eq-eqb, ne_eqb, arith}
 use Rattle.rows.specs.Rows.{same}
 use Rattle.rows.proofs.same_bytes.Goals as goal
-
-by_index : (alike : ℕ → Bool) (a b : List ℕ) (from : ℕ) → length a ≡ length b
-    → ((i : ℕ) → i < length a → alike (from + i) ≡ eqb (get_or a i 0) (get_or b i 0)) → list_all alike (range_with_len from (length a)) ≡ same a b
-unfolding same
-by_index alike [] [] from l h = refl
-by_index alike [] (y ∷ b) from l h = absurd (omega arith)
-by_index alike (x ∷ a) [] from l h = absurd (omega arith)
-by_index alike (x ∷ a) (y ∷ b) from l h =
-    let here : alike from ≡ eqb x y = ap alike (omega arith) ∙ h 0 (omega arith) in
-    let rest = by_index alike a b (from + 1) (omega arith) (λ i q. ap alike (omega arith) ∙ h (suc i) (omega arith)) in
-    cc
 
 apart : (a b : List ℕ) → (length a ≡ length b → ⊥) → false ≡ same a b
 unfolding same
@@ -24,13 +11,27 @@ apart [] (y ∷ b) h = refl
 apart (x ∷ a) [] h = refl
 apart (x ∷ a) (y ∷ b) h = rw (← apart a b (λ e. h (omega arith)), and-false)
 
+-- the first byte of what is left, and the bytes after it
+left : (a b : List ℕ) (i : ℕ) → i < length a → length a ≡ length b
+    → same (drop i a) (drop i b) ≡ (eqb (get_or a i 0) (get_or b i 0) && same (drop (i + 1) a) (drop (i + 1) b))
+unfolding same
+left a b i h l = rw (drop-cons a i 0 h, drop-cons b i 0 (rw l at h), add-one)
+
 pub returns-then-a-b : goal.returns-then-a-b
-returns-then-a-b c =
+returns-then-a-b c = apart _ _ c.if-a-b.true
+
+pub returns-then-a-i : goal.returns-then-a-i
+returns-then-a-i c =
+    sym (c.loop-i.invariant ∙ left _ _ _ c.loop-i-test.true c.if-a-b.false ∙ rw (ne_eqb _ _ c.if-a-i.true))
+
+pub loop-i-preserved : goal.loop-i-preserved
+loop-i-preserved c =
+    c.loop-i.invariant ∙ left _ _ _ c.loop-i-test.true c.if-a-b.false ∙ rw (eq-eqb _ _ c.if-a-i.false)
+
+pub returns : goal.returns
+unfolding same
+returns c =
     let a = c.args.a.now in
     let b = c.args.b.now in
-    let alike = λ (i : ℕ). eqb (get_or a i 0) (get_or b i 0) in
-    all_from_yields_List alike c.all.new.self _ _ c.all.ensures.ran (YieldsList-from_range 0 (length a) (length a) (cc) (omega arith)) (λ x r q k. search rules)
-    ∙ by_index alike a b 0 (omega arith) (λ i q. let e : 0 + i ≡ i = omega arith in ap alike e)
-
-pub returns-else-a-b : goal.returns-else-a-b
-returns-else-a-b c = ne_eqb _ _ c.if-a-b.false ∙ apart _ _ c.if-a-b.false
+    let i = c.loop-i.i in
+    sym (c.loop-i.invariant ∙ rw (drop_of_length-le a {i = i} (omega (arith, c.loop-i-test.false)), drop_of_length-le b {i = i} (omega (arith, c.loop-i-test.false, c.if-a-b.false))))

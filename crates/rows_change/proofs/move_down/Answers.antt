@@ -1,5 +1,5 @@
 -- `move_down`: three runs of pieces, of which the last leaves nothing.
-use Rattle.rows.proofs.Prelude.{◌≡◌, ap, ◌∙◌, ℕ, ◌+◌, arith}
+use Rattle.rows.proofs.Prelude.{ap, ◌∙◌, ℕ, ◌+◌, arith}
 use Rattle.std.specs.List.{copy_within}
 use Rattle.rows_change.proofs.Moving.{moved_again}
 use Rattle.rows_change.proofs.move_down.Goals as goal

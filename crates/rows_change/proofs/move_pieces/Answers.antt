@@ -1,5 +1,5 @@
 -- `move_pieces`: a turn copies one piece more.
-use Rattle.rows.proofs.Prelude.{◌≡◌, ap, ◌∙◌, ℕ, suc, ◌+◌, ◌-◌, ◌*◌, ◌/◌, ◌≤◌, arith, add-one, suc-mul, mul-le-mul_right, add-sub_cancel_left, length}
+use Rattle.rows.proofs.Prelude.{ℕ, suc, ◌+◌, ◌-◌, ◌*◌, ◌/◌, ◌≤◌, arith, add-one, suc-mul, mul-le-mul_right, add-sub_cancel_left, length}
 use Rattle.std.proofs.Math.Nat.{div-mul-le_self}
 use Rattle.rows_change.proofs.Moving.{none_moved, moved_more}
 use Rattle.rows_change.proofs.move_pieces.Goals as goal
@@ -17,5 +17,5 @@ loop-preserved g c =
     record {
       bytes = rw (add-one, suc-mul, inv.bytes);
       part = moved_more c.args.bytes.now c.loop.bytes c.args.from c.args.to c.loop.moved (omega (arith, c.requires)) inv.part n fits _
-          (rw (c.copy_from_slice-in-loop.ensures.after, c.copy_from_slice.ensures.after, add-sub_cancel_left, add-sub_cancel_left));
+          (rw (c.copy_bytes-in-loop.ensures, c.copy_bytes.ensures, add-sub_cancel_left, add-sub_cancel_left));
     }

@@ -5,4 +5,4 @@ use Rattle.rows_change.proofs.put_row.Goals as goal
 
 pub returns : goal.returns
 unfolding with_row
-returns c = rw (c.copy_from_slice.ensures.after, add-sub_cancel_left)
+returns c = rw (c.copy_bytes.ensures, add-sub_cancel_left)

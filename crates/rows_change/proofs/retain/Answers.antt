@@ -1,5 +1,5 @@
 -- `retain`: a turn leaves its row beside the others or moves those that stay before it, and zeros come after.
-use Rattle.rows.proofs.Prelude.{◌≡◌, Bool, ap, ℕ, refl, add-sub_cancel_left, sym, ◌∙◌, not, not-true, not-false, take, drop, ◌+◌, ◌-◌, ◌*◌, ◌≤◌, arith, mul-le-mul_right, replicate, length, length-take-le, length-drop}
+use Rattle.rows.proofs.Prelude.{◌≡◌, Bool, ap, ℕ, refl, add-sub_cancel_left, sym, ◌∙◌, not, not-true, not-false, take, drop, ◌+◌, ◌-◌, ◌*◌, ◌≤◌, arith, mul-le-mul_right, replicate, length-take-le, length-drop}
 use Rattle.rows.specs.Rows.{Row}
 use Rattle.rows_change.specs.Tests.{TestsOthers}
 use Rattle.rows_change.proofs.Staying.{begin, none_beside, beside, gone, settled, passed, end}

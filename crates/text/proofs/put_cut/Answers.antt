@@ -4,4 +4,4 @@ use Rattle.text.proofs.Buffers.{puts_copied}
 use Rattle.text.proofs.put_cut.Goals as goal
 
 pub returns : goal.returns
-returns c = puts_copied c.min-start.ensures c.min-fits.ensures (omega arith) c.copy_from_slice.ensures.after c.saturating_add.ensures
+returns c = puts_copied c.min-start.ensures c.min-fits.ensures (omega arith) c.copy_bytes.ensures c.saturating_add.ensures
