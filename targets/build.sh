@@ -3,6 +3,7 @@
 #
 #     targets/build.sh              all targets
 #     targets/build.sh TRIPLE..     some of them; an unknown one lists them all
+#     targets/build.sh --look FILE  builds nothing: exits with 1 where the module with this text would be refused
 #
 # `rt lib` in crates/terminal_c proves the library and hands a module to its compiler, once for x86-64. packaging/library.sh --keep keeps
 # that module (target/lib/module.bc), and this script compiles it for each target, at -O3 and at -O2:
@@ -132,6 +133,12 @@ build() {
     echo "build.sh: $1 at -O3 and -O2, $((SECONDS - start)) s"
 }
 
+if [ "${1-}" = --look ]; then
+    [ $# -eq 2 ] && [ -f "$2" ] || stop "--look takes a file, the text of a module"
+    called_alike "$2"
+    placed_alike "$2"
+    exit
+fi
 if [ $# -eq 0 ]; then
     set -- "${TARGETS[@]%% *}"
 fi

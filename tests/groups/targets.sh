@@ -3,7 +3,21 @@
 # touched by: crates/* crates.txt include/* targets/* packaging/* tests/install/* Makefile
 
 test_targets() {
-    library && log targets/test.sh && cat "$work/log" && foreign_install
+    refused_modules && library && log targets/test.sh && cat "$work/log" && foreign_install
+}
+
+# A module that another processor would read or call otherwise is not built: with an address as a number, in a constant or in a function,
+# with a type whose fields lie elsewhere where a pointer has 32 bits, or with an exported function that takes a byte.
+refused_modules() {
+    local module="$work/module.ll" line
+    printf 'define void @tillerclover_a(ptr noundef %%a0) #0 {\n  ret void\n}\n' >"$module"
+    log targets/build.sh --look "$module" || return 1
+    for line in '@c = constant i64 ptrtoint (ptr @d to i64)' '  %1 = ptrtoaddr ptr %a0 to i64' '  %1 = alloca { i8, ptr }' '  %1 = alloca [2 x ptr]' \
+        'define void @tillerclover_b(i8 noundef %a0) #0 {'; do
+        { cat "$module" && echo "$line"; } >"$module.other"
+        ! targets/build.sh --look "$module.other" >"$work/log" 2>&1 && grep -q "the module has" "$work/log" ||
+            { echo "targets: a module with this line is built: $line" && return 1; }
+    done
 }
 
 # What was installed serves its own targets: a program outside the repository for ARM with 64 bits, by pkg-config and by CMake, run
